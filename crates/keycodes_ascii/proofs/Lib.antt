@@ -1,0 +1,6 @@
+-- Laws of keycodes, flags and characters.
+pub mod Codes
+pub mod Set1
+pub mod Modifiers
+pub mod Chars
+pub mod Worked

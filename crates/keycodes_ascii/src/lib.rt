@@ -1,0 +1,594 @@
+// Keycodes, key events, modifier flags and characters: Theseus's `keycodes_ascii`.
+ghost use mathlib.Core.Path.{_≡_};
+ghost use mathlib.Core.Bool.{true, false, _||_, xor};
+ghost use Rattle.bits.specs.Bits.{bit, bitwise, meet, without};
+ghost use Rattle.keycodes_ascii.specs.Keycode.{numberOf, keycodeOf};
+ghost use Rattle.keycodes_ascii.specs.Flags.{shiftLeft, shiftRight, controlLeft, controlRight, alt, superKeyLeft, superKeyRight, capsLock, numLock, scrollLock};
+ghost use Rattle.keycodes_ascii.specs.Characters.{writes, isLetter, character, characterOf, scancodeCharacter, entry};
+
+// The modifier keys that are held down, and the locks that are on: a bit for each, as document 01 numbers them.
+pub struct KeyboardModifiers {
+    pub bits: u16,
+}
+
+impl KeyboardModifiers {
+    pub const SHIFT_LEFT: KeyboardModifiers = KeyboardModifiers { bits: 1 << 0 };
+
+    pub const SHIFT_RIGHT: KeyboardModifiers = KeyboardModifiers { bits: 1 << 1 };
+
+    pub const CONTROL_LEFT: KeyboardModifiers = KeyboardModifiers { bits: 1 << 2 };
+
+    pub const CONTROL_RIGHT: KeyboardModifiers = KeyboardModifiers { bits: 1 << 3 };
+
+    pub const ALT: KeyboardModifiers = KeyboardModifiers { bits: 1 << 4 };
+
+    pub const SUPER_KEY_LEFT: KeyboardModifiers = KeyboardModifiers { bits: 1 << 5 };
+
+    pub const SUPER_KEY_RIGHT: KeyboardModifiers = KeyboardModifiers { bits: 1 << 6 };
+
+    pub const CAPS_LOCK: KeyboardModifiers = KeyboardModifiers { bits: 1 << 7 };
+
+    pub const NUM_LOCK: KeyboardModifiers = KeyboardModifiers { bits: 1 << 8 };
+
+    pub const SCROLL_LOCK: KeyboardModifiers = KeyboardModifiers { bits: 1 << 9 };
+
+    // No key held and no lock on.
+    pub fn new() -> KeyboardModifiers
+        ensures { λ r. ⌜ r .bits ≡ 0 ⌝ }
+    {
+        KeyboardModifiers { bits: 0 }
+    }
+
+    // Every flag of either.
+    pub fn insert(self, other: KeyboardModifiers) -> KeyboardModifiers
+        ensures { λ r. ⌜ r .bits ≡ bitwise _||_ 16 (self .bits) (other .bits) ⌝ }
+    {
+        KeyboardModifiers {
+            bits: self.bits | other.bits,
+        }
+    }
+
+    // The flags that are not in `other`.
+    pub fn remove(self, other: KeyboardModifiers) -> KeyboardModifiers
+        ensures { λ r. ⌜ r .bits ≡ bitwise without 16 (self .bits) (other .bits) ⌝ }
+    {
+        KeyboardModifiers {
+            bits: self.bits & !other.bits,
+        }
+    }
+
+    // The flags of exactly one of the two.
+    pub fn toggle(self, other: KeyboardModifiers) -> KeyboardModifiers
+        ensures { λ r. ⌜ r .bits ≡ bitwise xor 16 (self .bits) (other .bits) ⌝ }
+    {
+        KeyboardModifiers {
+            bits: self.bits ^ other.bits,
+        }
+    }
+
+    // Whether the two share a flag.
+    pub fn intersects(self, other: KeyboardModifiers) -> bool
+        ensures { λ r. ⌜ r ≡ meet 16 (self .bits) (other .bits) ⌝ }
+    {
+        self.bits & other.bits != 0
+    }
+
+    // Whether a Shift key is held down, left or right.
+    pub fn is_shift(self) -> bool
+        ensures { λ r. ⌜ r ≡ (bit shiftLeft (self .bits) || bit shiftRight (self .bits)) ⌝ }
+    {
+        self.intersects(KeyboardModifiers::SHIFT_LEFT.insert(KeyboardModifiers::SHIFT_RIGHT))
+    }
+
+    // Whether a Control key is held down, left or right.
+    pub fn is_control(self) -> bool
+        ensures { λ r. ⌜ r ≡ (bit controlLeft (self .bits) || bit controlRight (self .bits)) ⌝ }
+    {
+        self.intersects(KeyboardModifiers::CONTROL_LEFT.insert(KeyboardModifiers::CONTROL_RIGHT))
+    }
+
+    // Whether the Alt key is held down.
+    pub fn is_alt(self) -> bool
+        ensures { λ r. ⌜ r ≡ bit alt (self .bits) ⌝ }
+    {
+        self.intersects(KeyboardModifiers::ALT)
+    }
+
+    // Whether a Super key is held down, left or right.
+    pub fn is_super_key(self) -> bool
+        ensures { λ r. ⌜ r ≡ (bit superKeyLeft (self .bits) || bit superKeyRight (self .bits)) ⌝ }
+    {
+        self.intersects(KeyboardModifiers::SUPER_KEY_LEFT.insert(
+            KeyboardModifiers::SUPER_KEY_RIGHT,
+        ))
+    }
+
+    // Whether Caps Lock is on.
+    pub fn is_caps_lock(self) -> bool
+        ensures { λ r. ⌜ r ≡ bit capsLock (self .bits) ⌝ }
+    {
+        self.intersects(KeyboardModifiers::CAPS_LOCK)
+    }
+
+    // Whether Num Lock is on.
+    pub fn is_num_lock(self) -> bool
+        ensures { λ r. ⌜ r ≡ bit numLock (self .bits) ⌝ }
+    {
+        self.intersects(KeyboardModifiers::NUM_LOCK)
+    }
+
+    // Whether Scroll Lock is on.
+    pub fn is_scroll_lock(self) -> bool
+        ensures { λ r. ⌜ r ≡ bit scrollLock (self .bits) ⌝ }
+    {
+        self.intersects(KeyboardModifiers::SCROLL_LOCK)
+    }
+}
+
+// Whether a key was pressed or released.
+pub enum KeyAction {
+    Pressed,
+    Released,
+}
+
+// What a keyboard action gives to applications.
+pub struct KeyEvent {
+    pub keycode: Keycode,
+    pub action: KeyAction,
+    pub modifiers: KeyboardModifiers,
+}
+
+impl KeyEvent {
+    pub fn new(keycode: Keycode, action: KeyAction, modifiers: KeyboardModifiers) -> KeyEvent
+        ensures { λ r. ⌜ (r .keycode ≡ keycode) × (r .action ≡ action) × (r .modifiers ≡ modifiers) ⌝ }
+    {
+        KeyEvent {
+            keycode,
+            action,
+            modifiers,
+        }
+    }
+}
+
+// What a keyboard adds to a key's press code in scan code set 1 to say that the key was released.
+pub const KEY_RELEASED_OFFSET: u8 = 128;
+
+// A character of ASCII, or none.
+pub enum Character {
+    Ascii(u8),
+    Absent,
+}
+
+// The character of a raw scancode under the given modifiers.
+pub fn scancode_to_ascii(modifiers: KeyboardModifiers, scan_code: u8) -> Character
+    ensures { λ r. ⌜ r ≡ scancodeCharacter modifiers «scan_code» ⌝ }
+{
+    match Keycode::from_byte(scan_code) {
+        FoundKeycode::Found(keycode) => keycode.to_ascii(modifiers),
+        FoundKeycode::Unknown => Character::Absent,
+    }
+}
+
+// The key of an event, by its press code. The last six are release codes, which occur in no event.
+pub enum Keycode {
+    OverflowError,
+    Escape,
+    Num1,
+    Num2,
+    Num3,
+    Num4,
+    Num5,
+    Num6,
+    Num7,
+    Num8,
+    Num9,
+    Num0,
+    Minus,
+    Equals,
+    Backspace,
+    Tab,
+    Q,
+    W,
+    E,
+    R,
+    T,
+    Y,
+    U,
+    I,
+    O,
+    P,
+    LeftBracket,
+    RightBracket,
+    Enter,
+    Control,
+    A,
+    S,
+    D,
+    F,
+    G,
+    H,
+    J,
+    K,
+    L,
+    Semicolon,
+    Quote,
+    Backtick,
+    LeftShift,
+    Backslash,
+    Z,
+    X,
+    C,
+    V,
+    B,
+    N,
+    M,
+    Comma,
+    Period,
+    Slash,
+    RightShift,
+    PadMultiply, // Also PrintScreen
+    Alt,
+    Space,
+    CapsLock,
+    F1,
+    F2,
+    F3,
+    F4,
+    F5,
+    F6,
+    F7,
+    F8,
+    F9,
+    F10,
+    NumLock,
+    ScrollLock,
+    Home, // Also Pad7
+    Up, // Also Pad8
+    PageUp, // Also Pad9
+    PadMinus,
+    Left, // Also Pad4
+    Pad5,
+    Right, // Also Pad6
+    PadPlus,
+    End, // Also Pad1
+    Down, // Also Pad2
+    PageDown, // Also Pad3
+    Insert, // Also Pad0
+    Delete, // Also PadDecimal
+    Unknown1,
+    Unknown2,
+    NonUsBackslash,
+    F11,
+    F12,
+    Pause,
+    Unknown3,
+    SuperKeyLeft,
+    SuperKeyRight,
+    Menu,
+    ControlReleased,
+    AltReleased,
+    LeftShiftReleased,
+    RightShiftReleased,
+    SuperKeyLeftReleased,
+    SuperKeyRightReleased,
+}
+
+// A byte's keycode, if it has one.
+pub enum FoundKeycode {
+    Found(Keycode),
+    Unknown,
+}
+
+// The keycodes 00 to 5D, in the order of their numbers.
+const KEYCODES: [Keycode; 94] = [
+    Keycode::OverflowError,
+    Keycode::Escape,
+    Keycode::Num1,
+    Keycode::Num2,
+    Keycode::Num3,
+    Keycode::Num4,
+    Keycode::Num5,
+    Keycode::Num6,
+    Keycode::Num7,
+    Keycode::Num8,
+    Keycode::Num9,
+    Keycode::Num0,
+    Keycode::Minus,
+    Keycode::Equals,
+    Keycode::Backspace,
+    Keycode::Tab,
+    Keycode::Q,
+    Keycode::W,
+    Keycode::E,
+    Keycode::R,
+    Keycode::T,
+    Keycode::Y,
+    Keycode::U,
+    Keycode::I,
+    Keycode::O,
+    Keycode::P,
+    Keycode::LeftBracket,
+    Keycode::RightBracket,
+    Keycode::Enter,
+    Keycode::Control,
+    Keycode::A,
+    Keycode::S,
+    Keycode::D,
+    Keycode::F,
+    Keycode::G,
+    Keycode::H,
+    Keycode::J,
+    Keycode::K,
+    Keycode::L,
+    Keycode::Semicolon,
+    Keycode::Quote,
+    Keycode::Backtick,
+    Keycode::LeftShift,
+    Keycode::Backslash,
+    Keycode::Z,
+    Keycode::X,
+    Keycode::C,
+    Keycode::V,
+    Keycode::B,
+    Keycode::N,
+    Keycode::M,
+    Keycode::Comma,
+    Keycode::Period,
+    Keycode::Slash,
+    Keycode::RightShift,
+    Keycode::PadMultiply,
+    Keycode::Alt,
+    Keycode::Space,
+    Keycode::CapsLock,
+    Keycode::F1,
+    Keycode::F2,
+    Keycode::F3,
+    Keycode::F4,
+    Keycode::F5,
+    Keycode::F6,
+    Keycode::F7,
+    Keycode::F8,
+    Keycode::F9,
+    Keycode::F10,
+    Keycode::NumLock,
+    Keycode::ScrollLock,
+    Keycode::Home,
+    Keycode::Up,
+    Keycode::PageUp,
+    Keycode::PadMinus,
+    Keycode::Left,
+    Keycode::Pad5,
+    Keycode::Right,
+    Keycode::PadPlus,
+    Keycode::End,
+    Keycode::Down,
+    Keycode::PageDown,
+    Keycode::Insert,
+    Keycode::Delete,
+    Keycode::Unknown1,
+    Keycode::Unknown2,
+    Keycode::NonUsBackslash,
+    Keycode::F11,
+    Keycode::F12,
+    Keycode::Pause,
+    Keycode::Unknown3,
+    Keycode::SuperKeyLeft,
+    Keycode::SuperKeyRight,
+    Keycode::Menu,
+];
+
+// The character that a table holds for a keycode's number, with 0 for none.
+fn listed(table: &[u8; 94], code: u8) -> Character
+    ensures { λ r. ⌜ r ≡ entry (now (table .entry)) code ⌝ }
+{
+    if code >= 94 {
+        return Character::Absent;
+    }
+    let byte = table[code as usize];
+    if byte == 0 {
+        return Character::Absent;
+    }
+    Character::Ascii(byte)
+}
+
+impl Keycode {
+    // The keycode that has the number `byte`.
+    pub fn from_byte(byte: u8) -> FoundKeycode
+        ensures { λ r. ⌜ r ≡ keycodeOf byte ⌝ }
+    {
+        if byte <= 0x5D {
+            return FoundKeycode::Found(KEYCODES[byte as usize]);
+        }
+        match byte {
+            0x9D => FoundKeycode::Found(Keycode::ControlReleased),
+            0xB8 => FoundKeycode::Found(Keycode::AltReleased),
+            0xAA => FoundKeycode::Found(Keycode::LeftShiftReleased),
+            0xB6 => FoundKeycode::Found(Keycode::RightShiftReleased),
+            0xDB => FoundKeycode::Found(Keycode::SuperKeyLeftReleased),
+            0xDC => FoundKeycode::Found(Keycode::SuperKeyRightReleased),
+            _ => FoundKeycode::Unknown,
+        }
+    }
+
+    // The number of this keycode.
+    pub fn to_byte(self) -> u8
+        ensures { λ r. ⌜ r ≡ numberOf self ⌝ }
+    {
+        match self {
+            Keycode::OverflowError => 0x00,
+            Keycode::Escape => 0x01,
+            Keycode::Num1 => 0x02,
+            Keycode::Num2 => 0x03,
+            Keycode::Num3 => 0x04,
+            Keycode::Num4 => 0x05,
+            Keycode::Num5 => 0x06,
+            Keycode::Num6 => 0x07,
+            Keycode::Num7 => 0x08,
+            Keycode::Num8 => 0x09,
+            Keycode::Num9 => 0x0A,
+            Keycode::Num0 => 0x0B,
+            Keycode::Minus => 0x0C,
+            Keycode::Equals => 0x0D,
+            Keycode::Backspace => 0x0E,
+            Keycode::Tab => 0x0F,
+            Keycode::Q => 0x10,
+            Keycode::W => 0x11,
+            Keycode::E => 0x12,
+            Keycode::R => 0x13,
+            Keycode::T => 0x14,
+            Keycode::Y => 0x15,
+            Keycode::U => 0x16,
+            Keycode::I => 0x17,
+            Keycode::O => 0x18,
+            Keycode::P => 0x19,
+            Keycode::LeftBracket => 0x1A,
+            Keycode::RightBracket => 0x1B,
+            Keycode::Enter => 0x1C,
+            Keycode::Control => 0x1D,
+            Keycode::A => 0x1E,
+            Keycode::S => 0x1F,
+            Keycode::D => 0x20,
+            Keycode::F => 0x21,
+            Keycode::G => 0x22,
+            Keycode::H => 0x23,
+            Keycode::J => 0x24,
+            Keycode::K => 0x25,
+            Keycode::L => 0x26,
+            Keycode::Semicolon => 0x27,
+            Keycode::Quote => 0x28,
+            Keycode::Backtick => 0x29,
+            Keycode::LeftShift => 0x2A,
+            Keycode::Backslash => 0x2B,
+            Keycode::Z => 0x2C,
+            Keycode::X => 0x2D,
+            Keycode::C => 0x2E,
+            Keycode::V => 0x2F,
+            Keycode::B => 0x30,
+            Keycode::N => 0x31,
+            Keycode::M => 0x32,
+            Keycode::Comma => 0x33,
+            Keycode::Period => 0x34,
+            Keycode::Slash => 0x35,
+            Keycode::RightShift => 0x36,
+            Keycode::PadMultiply => 0x37,
+            Keycode::Alt => 0x38,
+            Keycode::Space => 0x39,
+            Keycode::CapsLock => 0x3A,
+            Keycode::F1 => 0x3B,
+            Keycode::F2 => 0x3C,
+            Keycode::F3 => 0x3D,
+            Keycode::F4 => 0x3E,
+            Keycode::F5 => 0x3F,
+            Keycode::F6 => 0x40,
+            Keycode::F7 => 0x41,
+            Keycode::F8 => 0x42,
+            Keycode::F9 => 0x43,
+            Keycode::F10 => 0x44,
+            Keycode::NumLock => 0x45,
+            Keycode::ScrollLock => 0x46,
+            Keycode::Home => 0x47,
+            Keycode::Up => 0x48,
+            Keycode::PageUp => 0x49,
+            Keycode::PadMinus => 0x4A,
+            Keycode::Left => 0x4B,
+            Keycode::Pad5 => 0x4C,
+            Keycode::Right => 0x4D,
+            Keycode::PadPlus => 0x4E,
+            Keycode::End => 0x4F,
+            Keycode::Down => 0x50,
+            Keycode::PageDown => 0x51,
+            Keycode::Insert => 0x52,
+            Keycode::Delete => 0x53,
+            Keycode::Unknown1 => 0x54,
+            Keycode::Unknown2 => 0x55,
+            Keycode::NonUsBackslash => 0x56,
+            Keycode::F11 => 0x57,
+            Keycode::F12 => 0x58,
+            Keycode::Pause => 0x59,
+            Keycode::Unknown3 => 0x5A,
+            Keycode::SuperKeyLeft => 0x5B,
+            Keycode::SuperKeyRight => 0x5C,
+            Keycode::Menu => 0x5D,
+            Keycode::ControlReleased => 0x9D,
+            Keycode::AltReleased => 0xB8,
+            Keycode::LeftShiftReleased => 0xAA,
+            Keycode::RightShiftReleased => 0xB6,
+            Keycode::SuperKeyLeftReleased => 0xDB,
+            Keycode::SuperKeyRightReleased => 0xDC,
+        }
+    }
+
+    // The character of this key under the given modifiers.
+    pub fn to_ascii(self, modifiers: KeyboardModifiers) -> Character
+        ensures { λ r. ⌜ r ≡ characterOf self modifiers ⌝ }
+    {
+        if modifiers.is_shift() {
+            // Shift and Caps Lock together give a small letter
+            if modifiers.is_caps_lock() {
+                if self.is_letter() {
+                    return self.as_ascii();
+                }
+            }
+            return self.as_ascii_shifted();
+        }
+        if modifiers.is_caps_lock() {
+            if self.is_letter() {
+                return self.as_ascii_shifted();
+            }
+        }
+        self.as_ascii()
+    }
+
+    // Whether this is a letter from A to Z.
+    pub fn is_letter(self) -> bool
+        ensures { λ r. ⌜ r ≡ isLetter (writes self) ⌝ }
+    {
+        match self {
+            Keycode::Q
+            | Keycode::W
+            | Keycode::E
+            | Keycode::R
+            | Keycode::T
+            | Keycode::Y
+            | Keycode::U
+            | Keycode::I
+            | Keycode::O
+            | Keycode::P
+            | Keycode::A
+            | Keycode::S
+            | Keycode::D
+            | Keycode::F
+            | Keycode::G
+            | Keycode::H
+            | Keycode::J
+            | Keycode::K
+            | Keycode::L
+            | Keycode::Z
+            | Keycode::X
+            | Keycode::C
+            | Keycode::V
+            | Keycode::B
+            | Keycode::N
+            | Keycode::M => true,
+            _ => false,
+        }
+    }
+
+    // The character of this key without Shift.
+    fn as_ascii(self) -> Character
+        ensures { λ r. ⌜ r ≡ character (writes self) false false ⌝ }
+    {
+        let table =
+            b"\0\x1B1234567890-=\x08\tqwertyuiop[]\n\0asdfghjkl;'`\0\\zxcvbnm,./\0*\0 \0\0\0\0\0\0\0\0\0\0\0\0\0\0\0\0-\0\0\0+\0\0\0\0\0\0\0\0\0\0\0\0\0\0\0";
+        listed(table, self.to_byte())
+    }
+
+    // The character of this key with Shift, which is the same where Shift changes nothing.
+    fn as_ascii_shifted(self) -> Character
+        ensures { λ r. ⌜ r ≡ character (writes self) true false ⌝ }
+    {
+        let table =
+            b"\0\x1B!@#$%^&*()_+\x08\tQWERTYUIOP{}\n\0ASDFGHJKL:\"~\0|ZXCVBNM<>?\0*\0 \0\0\0\0\0\0\0\0\0\0\0\0\0\0\0\0-\0\0\0+\0\0\0\0\0\0\0\0\0\0\0\0\0\0\0";
+        listed(table, self.to_byte())
+    }
+}
