@@ -1,0 +1,20 @@
+-- Laws of what an operation on the ports means, each for every operation.
+pub mod Steps
+pub mod Parts
+pub mod Trace
+pub mod Kept
+pub mod Sequence
+pub mod Position
+pub mod Calls
+pub mod Repeat
+pub mod Reading
+pub mod Silence
+pub mod Longer
+pub mod Cut
+pub mod Bounds
+pub mod Only
+pub mod Attains
+pub mod Sends
+pub mod Then
+pub mod Search
+pub mod RepeatThen

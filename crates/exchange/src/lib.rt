@@ -1,0 +1,1 @@
+// What an operation on the ports means: definitions and laws, no code.

@@ -1,0 +1,7 @@
+-- Laws of polling.
+pub mod Polls
+pub mod Bounds
+pub mod Attained
+pub mod Refuses
+pub mod Silence
+pub mod Worked

@@ -1,0 +1,3 @@
+-- Polling, and the controller's tests.
+pub mod Polling
+pub mod Silence

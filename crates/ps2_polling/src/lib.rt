@@ -1,0 +1,330 @@
+// Sending to and receiving from a device by polling, and the controller's tests.
+ghost use mathlib.Core.Path.{_≡_};
+ghost use lib.Dec.{eqb};
+ghost use Rattle.exchange.specs.Exchange.{play, played, Reads};
+ghost use Rattle.ps2_bytes.specs.Responses.{portTestResultByte};
+ghost use Rattle.ps2_bytes.specs.declared.command.HostToControllerCommand.the-variants.{TestPort1, TestPort2};
+ghost use Rattle.ps2_bytes.specs.declared.response.PortTestResult.the-variants.{Passed};
+ghost use Rattle.ps2_ports.specs.Refusals.{saidDone};
+ghost use Rattle.ps2_polling.specs.Polling.{pollingSend, pollData, pollingReceive, pollingSendReceive, controllerTestResult, testController, portTestResult, testPort, saidPolled, saidResponse};
+use ps2_bytes::DeviceToHostResponse;
+use ps2_bytes::HostToControllerCommand;
+use ps2_bytes::HostToDevice;
+use ps2_bytes::PortTestByte;
+use ps2_bytes::PortTestResult;
+use ps2_bytes::ResponseByte;
+use ps2_bytes::WritableData;
+use ps2_ports::ByteAnswer;
+use ps2_ports::Completed;
+use ps2_ports::CompletedRead;
+use ps2_ports::Completion;
+use ps2_ports::Failure;
+use ps2_ports::Refusal;
+use ps2_ports::StatusAnswer;
+use ps2_ports::read_data;
+use ps2_ports::status_register;
+use ps2_ports::write_command;
+use ps2_ports::write_data;
+
+// The most status reads of a sending.
+const SEND_TRIES: u8 = 255;
+
+// The most polls of a receiving or a port test, and data reads of the controller's test.
+const POLL_LIMIT: u16 = 65535;
+
+// The controller's answer to its test where it passed.
+const CONTROLLER_TEST_PASSED: u8 = 0x55;
+
+// What one poll brought.
+pub enum Polled {
+    Data(u8),
+    Nothing,
+    Refused(Refusal),
+}
+
+pub struct Poll {
+    pub answer: Polled,
+    pub used: usize,
+}
+
+// What a device answered.
+pub enum ResponseAnswer {
+    Response(DeviceToHostResponse),
+    Refused(Refusal),
+}
+
+pub struct Received {
+    pub answer: ResponseAnswer,
+    pub used: usize,
+}
+
+pub struct SentReceived {
+    pub answer: ResponseAnswer,
+    pub used: usize,
+    pub pairs: usize,
+}
+
+// Has the controller test itself.
+pub fn test(script: &[u8], log: &mut [u8]) -> Completed
+    ensures { λ r. ⌜ played (saidDone (r .answer)) (r .used) (r .pairs) (now (log .exit)) ≡ play testController (now (script .entry)) (now (log .entry)) ⌝ }
+{
+    let w = write_command(log, HostToControllerCommand::TestController);
+    let pairs = w.pairs;
+    let written = w.answer;
+    match written {
+        Completion::Done => {
+            let r = read_controller_test_result(script);
+            let answer = r.answer;
+            Completed {
+                answer,
+                used: r.used,
+                pairs,
+            }
+        }
+        Completion::Refused(e) => Completed {
+            answer: Completion::Refused(e),
+            used: 0,
+            pairs,
+        },
+    }
+}
+
+// Has the controller test the keyboard's port.
+pub fn test_port1(script: &[u8], log: &mut [u8]) -> Completed
+    ensures { λ r. ⌜ played (saidDone (r .answer)) (r .used) (r .pairs) (now (log .exit)) ≡ play (testPort TestPort1) (now (script .entry)) (now (log .entry)) ⌝ }
+{
+    test_port(script, log, HostToControllerCommand::TestPort1)
+}
+
+// Has the controller test the mouse's port.
+pub fn test_port2(script: &[u8], log: &mut [u8]) -> Completed
+    ensures { λ r. ⌜ played (saidDone (r .answer)) (r .used) (r .pairs) (now (log .exit)) ≡ play (testPort TestPort2) (now (script .entry)) (now (log .entry)) ⌝ }
+{
+    test_port(script, log, HostToControllerCommand::TestPort2)
+}
+
+// The two port tests differ in their command alone.
+fn test_port(script: &[u8], log: &mut [u8], command: HostToControllerCommand) -> Completed
+    ensures { λ r. ⌜ played (saidDone (r .answer)) (r .used) (r .pairs) (now (log .exit)) ≡ play (testPort command) (now (script .entry)) (now (log .entry)) ⌝ }
+{
+    let w = write_command(log, command);
+    let pairs = w.pairs;
+    let written = w.answer;
+    match written {
+        Completion::Done => {
+            let r = match_port_test_result(script);
+            let answer = r.answer;
+            Completed {
+                answer,
+                used: r.used,
+                pairs,
+            }
+        }
+        Completion::Refused(e) => Completed {
+            answer: Completion::Refused(e),
+            used: 0,
+            pairs,
+        },
+    }
+}
+
+// Polls until a port test's answer says that the port passed; any other byte uses up its poll.
+pub fn match_port_test_result(script: &[u8]) -> CompletedRead
+    ensures { λ r. ⌜ Reads portTestResult (now (script .entry)) (saidDone (r .answer)) (r .used) ⌝ }
+{
+    let mut used: usize = 0;
+    let mut polls = POLL_LIMIT;
+    let answer = loop {
+        if polls == 0 {
+            break Completion::Refused(Refusal::Failed(Failure::PortTestFailed));
+        }
+        let p = poll_data(&script[used..]);
+        used += p.used;
+        let polled = p.answer;
+        match polled {
+            Polled::Data(b) => {
+                if port_passed(b) {
+                    break Completion::Done;
+                }
+            }
+            Polled::Nothing => {}
+            Polled::Refused(e) => {
+                break Completion::Refused(e);
+            }
+        }
+        polls -= 1;
+    };
+    CompletedRead { answer, used }
+}
+
+// Whether a byte is the answer of a port that passed its test.
+fn port_passed(byte: u8) -> bool
+    ensures { λ r. ⌜ r ≡ eqb byte (portTestResultByte Passed) ⌝ }
+{
+    match PortTestResult::from_byte(byte) {
+        PortTestByte::Listed(result) => match result {
+            PortTestResult::Passed => true,
+            PortTestResult::ClockLineStuckLow => false,
+            PortTestResult::ClockLineStuckHigh => false,
+            PortTestResult::DataLineStuckLow => false,
+            PortTestResult::DataLineStuckHigh => false,
+        },
+        PortTestByte::Unlisted => false,
+    }
+}
+
+// Reads data, without asking the status, until the controller says that it passed its test.
+pub fn read_controller_test_result(script: &[u8]) -> CompletedRead
+    ensures { λ r. ⌜ Reads controllerTestResult (now (script .entry)) (saidDone (r .answer)) (r .used) ⌝ }
+{
+    let mut used: usize = 0;
+    let mut reads = POLL_LIMIT;
+    let answer = loop {
+        if reads == 0 {
+            break Completion::Refused(Refusal::Failed(Failure::ControllerTestFailed));
+        }
+        let d = read_data(&script[used..]);
+        used += d.used;
+        let read = d.answer;
+        match read {
+            ByteAnswer::Byte(b) => {
+                if b == CONTROLLER_TEST_PASSED {
+                    break Completion::Done;
+                }
+            }
+            ByteAnswer::Refused(e) => {
+                break Completion::Refused(e);
+            }
+        }
+        reads -= 1;
+    };
+    CompletedRead { answer, used }
+}
+
+// One attempt: sends a byte, then receives the response.
+pub fn polling_send_receive(script: &[u8], log: &mut [u8], value: HostToDevice) -> SentReceived
+    ensures { λ r. ⌜ played (saidResponse (r .answer)) (r .used) (r .pairs) (now (log .exit)) ≡ play (pollingSendReceive value) (now (script .entry)) (now (log .entry)) ⌝ }
+{
+    let s = polling_send(script, log, value);
+    let used = s.used;
+    let pairs = s.pairs;
+    let sent = s.answer;
+    match sent {
+        Completion::Done => {
+            let r = polling_receive(&script[used..]);
+            let answer = r.answer;
+            SentReceived {
+                answer,
+                used: used + r.used,
+                pairs,
+            }
+        }
+        Completion::Refused(e) => SentReceived {
+            answer: ResponseAnswer::Refused(e),
+            used,
+            pairs,
+        },
+    }
+}
+
+// Writes a byte for a device as soon as the status says that the last one was taken.
+pub fn polling_send(script: &[u8], log: &mut [u8], value: HostToDevice) -> Completed
+    ensures { λ r. ⌜ played (saidDone (r .answer)) (r .used) (r .pairs) (now (log .exit)) ≡ play (pollingSend value) (now (script .entry)) (now (log .entry)) ⌝ }
+{
+    let mut used: usize = 0;
+    let mut pairs: usize = 0;
+    let mut tries = SEND_TRIES;
+    let answer = loop {
+        if tries == 0 {
+            break Completion::Refused(Refusal::Failed(Failure::InputBufferFull));
+        }
+        let s = status_register(&script[used..]);
+        used += s.used;
+        let read = s.answer;
+        match read {
+            StatusAnswer::Status(status) => {
+                if !status.input_buffer_full() {
+                    let w = write_data(log, WritableData::HostToDevice(value));
+                    pairs = w.pairs;
+                    let written = w.answer;
+                    break written;
+                }
+            }
+            StatusAnswer::Refused(e) => {
+                break Completion::Refused(e);
+            }
+        }
+        tries -= 1;
+    };
+    Completed {
+        answer,
+        used,
+        pairs,
+    }
+}
+
+// Polls until a device's response comes; an unlisted byte is thrown away and uses up its poll.
+pub fn polling_receive(script: &[u8]) -> Received
+    ensures { λ r. ⌜ Reads pollingReceive (now (script .entry)) (saidResponse (r .answer)) (r .used) ⌝ }
+{
+    let mut used: usize = 0;
+    let mut polls = POLL_LIMIT;
+    let answer = loop {
+        if polls == 0 {
+            break ResponseAnswer::Refused(Refusal::Failed(Failure::NoResponse));
+        }
+        let p = poll_data(&script[used..]);
+        used += p.used;
+        let polled = p.answer;
+        match polled {
+            Polled::Data(b) => {
+                if let ResponseByte::Listed(response) = DeviceToHostResponse::from_byte(b) {
+                    break ResponseAnswer::Response(response);
+                }
+            }
+            Polled::Nothing => {}
+            Polled::Refused(e) => {
+                break ResponseAnswer::Refused(e);
+            }
+        }
+        polls -= 1;
+    };
+    Received { answer, used }
+}
+
+// One poll: reads the status, and data where the status says that there is some.
+pub fn poll_data(script: &[u8]) -> Poll
+    ensures { λ r. ⌜ Reads pollData (now (script .entry)) (saidPolled (r .answer)) (r .used) ⌝ }
+{
+    let s = status_register(script);
+    let used = s.used;
+    let read = s.answer;
+    match read {
+        StatusAnswer::Status(status) => {
+            if status.output_buffer_full() {
+                let d = read_data(&script[used..]);
+                let both = used + d.used;
+                let byte = d.answer;
+                match byte {
+                    ByteAnswer::Byte(b) => Poll {
+                        answer: Polled::Data(b),
+                        used: both,
+                    },
+                    ByteAnswer::Refused(e) => Poll {
+                        answer: Polled::Refused(e),
+                        used: both,
+                    },
+                }
+            } else {
+                Poll {
+                    answer: Polled::Nothing,
+                    used,
+                }
+            }
+        }
+        StatusAnswer::Refused(e) => Poll {
+            answer: Polled::Refused(e),
+            used,
+        },
+    }
+}

@@ -1,0 +1,37 @@
+-- A refusal is passed up unchanged: that of the first of two operations ends both.
+-- Assumes nothing.
+use Prim.Native.Nat.{ℕ}
+use mathlib.Core.List.{List}
+use mathlib.Core.Path.{_≡_, refl}
+use Rattle.exchange.specs.Exchange.{Exchange, done, bind, End, played, play, Reads, Writes}
+use Rattle.exchange.specs.Answer.{Answer, gives, refuses, onGiven}
+use Rattle.exchange.specs.Repeat.{Turn, found, foundEnd}
+use Rattle.exchange.proofs.Calls.{bind-done, bind-no-script, bind-no-log, reads-no-script, reads-done}
+use Rattle.ps2_ports.specs.Refusals.{refused}
+use Rattle.ps2_ports.specs.declared.Refusal.{Refusal}
+use Rattle.ps2_ports.specs.declared.Refusal.the-variants.{ScriptUsedUp, LogFull, Failed}
+
+module _ {A B : Type 0} (t : Exchange (Answer A)) (g : A → Exchange (Answer B)) where
+  pub bind-refused : (s l : List ℕ) {e : End (Answer A)} {u w : ℕ} {l′ : List ℕ} → played e u w l′ ≡ play t s l
+      → (x : Refusal) → e ≡ refused x → played (refused x) u w l′ ≡ play (bind t (onGiven g)) s l
+  bind-refused s l r ScriptUsedUp q = bind-no-script t (onGiven g) s l r q
+  bind-refused s l r LogFull q = bind-no-log t (onGiven g) s l r q
+  bind-refused s l r (Failed f) q = bind-done t (onGiven g) s l r q refl
+
+  pub reads-refused : (s : List ℕ) {e : End (Answer A)} {u : ℕ} → Reads t s e u → (x : Refusal) → e ≡ refused x → Reads (bind t (onGiven g)) s (refused x) u
+  reads-refused s r x q = record { with-any = λ l. bind-refused s l (r .with-any l) x q }
+
+  pub writes-refused : (l : List ℕ) {e : End (Answer A)} {w : ℕ} {l′ : List ℕ} → Writes t l e w l′ → (x : Refusal) → e ≡ refused x
+      → Writes (bind t (onGiven g)) l (refused x) w l′
+  writes-refused l r x q = record { with-any = λ s. bind-refused s l (r .with-any s) x q }
+
+-- the same inside one turn of a repetition: the refusal is the answer that the turn finds
+abbrev pub onAnswer : {A B : Type 0} → (A → Exchange (Turn (Answer B))) → Answer A → Exchange (Turn (Answer B))
+onAnswer g (gives a) = g a
+onAnswer g (refuses n) = done (found (refuses n))
+
+pub reads-refused-turn : {A B : Type 0} (t : Exchange (Answer A)) (g : A → Exchange (Turn (Answer B))) (s : List ℕ) {e : End (Answer A)} {u : ℕ} → Reads t s e u
+    → (x : Refusal) → e ≡ refused x → Reads (bind t (onAnswer g)) s (foundEnd (refused x)) u
+reads-refused-turn t g s r ScriptUsedUp q = reads-no-script t (onAnswer g) s r q
+reads-refused-turn t g s r LogFull q = record { with-any = λ l. bind-no-log t (onAnswer g) s l (r .with-any l) q }
+reads-refused-turn t g s r (Failed f) q = reads-done t (onAnswer g) s r q refl

@@ -1,0 +1,3 @@
+-- Refusals by number, and the registers as operations on the ports.
+pub mod Refusals
+pub mod Ports
