@@ -1,0 +1,20 @@
+-- Laws of the queue, of the flags and of the handler's meaning, and the history rule.
+pub mod Tests
+pub mod Ways
+pub mod Ring
+pub mod Row
+pub mod PutBits
+pub mod Flags
+pub mod Silent
+pub mod Queued
+pub mod Taking
+pub mod Courses
+pub mod WellFormed
+pub mod Counted
+pub mod Refused
+pub mod Bounds
+pub mod AsSaid
+pub mod History
+pub mod Meaning
+pub mod Witness
+pub mod Worked

@@ -1,0 +1,54 @@
+// The keyboard handler's record, its queue of events, and what its calls answer: Theseus's `keyboard`.
+use keycodes_ascii::KeyEvent;
+use keycodes_ascii::KeyboardModifiers;
+
+// What the handler remembers of one keyboard: whether the last byte was a prefix, the keys that are held and the locks that are on.
+pub struct KeyboardState {
+    pub prefix: bool,
+    pub modifiers: KeyboardModifiers,
+}
+
+// The events that wait, in a ring: the oldest is at `start`, and `count` of them follow each other round the end.
+pub struct EventQueue {
+    pub places: [KeyEvent; 128],
+    pub start: usize,
+    pub count: usize,
+}
+
+// The handler record.
+pub struct KeyboardHandler {
+    pub keyboard: KeyboardState,
+    pub queue: EventQueue,
+}
+
+// How a handler call ends: done, or with the refusal that document 01 numbers 2, 3, 19, 20 or 21.
+pub enum HandlerAnswer {
+    Done,
+    NoScriptByte,
+    NoLogRoom,
+    UnknownScancode,
+    QueueFull,
+    MalformedRecord,
+}
+
+// What a handler call gives back. A lamp exchange that failed, document 01's 14, is shown beside the answer.
+pub struct Handled {
+    pub answer: HandlerAnswer,
+    pub lamps_failed: bool,
+    pub used: usize,
+    pub pairs: usize,
+    pub handler: KeyboardHandler,
+}
+
+// What a taking from the queue answers: the oldest event, none, or the refusal that document 01 numbers 21.
+pub enum TakenEvent {
+    Event(KeyEvent),
+    Nothing,
+    MalformedRecord,
+}
+
+// What a taking gives back.
+pub struct Taken {
+    pub event: TakenEvent,
+    pub handler: KeyboardHandler,
+}
