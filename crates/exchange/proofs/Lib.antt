@@ -18,3 +18,5 @@ pub mod Sends
 pub mod Then
 pub mod Search
 pub mod RepeatThen
+pub mod Grouping
+pub mod ReadingThen

@@ -84,6 +84,15 @@ module _ {A B : Type 0} (t : Exchange (Answer A)) (g : A → Exchange (Answer B)
       let z = bind-after (onGiven g) t s l (refuses n) h in
       refused-first n none (z .0) (z .1)
 
+  -- a refusal of the first, and what follows where the first gave what it is for, is the answer of both
+  pub refuses-then-both : (n : ℕ) → play t s l .end ≡ yields (refuses n) → play (andThen t g) s l .end ≡ yields (refuses n)
+  unfolding andThen play
+  refuses-then-both n h = after-bind (onGiven g) t s l (refuses n) (refuses n) (record { before = h; after = refl })
+
+  pub gives-then-both : (b : A) (c : Answer B) → After t (onGiven g) s l (gives b) c → play (andThen t g) s l .end ≡ yields c
+  unfolding andThen
+  gives-then-both b c k = after-bind (onGiven g) t s l (gives b) c k
+
 -- ---- a repetition
 
 module _ {A : Type 0} (One : List ℕ → Turn A → List ℕ → Type 0) (t : Exchange (Turn A)) (d : A)

@@ -1,7 +1,7 @@
 -- An operation on a record that is passed by value: its answer, and the record as it is left.
 -- Assumes nothing.
 use Rattle.exchange.specs.Exchange.{End, yields, noScript, noLog}
-use Rattle.exchange.specs.Answer.{Answer, refuses}
+use Rattle.exchange.specs.Answer.{Answer, answered}
 
 -- What such an operation yields.
 pub record Left (R A : Type 0) : Type 0 where
@@ -11,11 +11,11 @@ pub record Left (R A : Type 0) : Type 0 where
 abbrev pub left : {R A : Type 0} → Answer A → R → Left R A
 left a r = record { answer = a; now = r }
 
--- The answer of a play's end.
+-- The answer of a play's end: the operation's own, or 2 or 3 as of every operation.
 abbrev pub answerOf : {R A : Type 0} → End (Left R A) → Answer A
 answerOf (yields v) = v .answer
-answerOf noScript = refuses 2
-answerOf noLog = refuses 3
+answerOf noScript = answered noScript
+answerOf noLog = answered noLog
 
 -- "After 2, 3 or 21 records are as passed in": the record after a play that began with `passed`.
 abbrev pub recordAfter : {R A : Type 0} → R → End (Left R A) → R

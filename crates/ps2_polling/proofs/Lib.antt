@@ -5,3 +5,4 @@ pub mod Attained
 pub mod Refuses
 pub mod Silence
 pub mod Worked
+pub mod Brought

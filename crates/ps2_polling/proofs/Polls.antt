@@ -28,6 +28,24 @@ use Rattle.ps2_ports.proofs.Refusals.{onAnswer, reads-refused-turn}
 use Rattle.ps2_polling.specs.Polling.{dataTurn, poll, pollData, responseTurn, passedTurn, saidPolled}
 use Rattle.ps2_polling.specs.declared.Polled.{Polled}
 
+-- ---- a poll, by the byte that the poll by itself brings
+
+-- what such a byte is worth, and what a refusal is, which a poll by itself never has
+module _ {A : Type 0} (worth other : ℕ → Turn A) where
+  abbrev pub judged : Turn (Answer ℕ) → Turn A
+  judged (found (gives b)) = worth b
+  judged (found (refuses n)) = other n
+  judged again = again
+
+  judged-data : (full : Bool) → bind (cond full (dataTurn (λ b. found (gives b))) (done again)) (λ r. done (judged r)) ≡ cond full (dataTurn worth) (done again)
+  unfolding bind
+  judged-data true = refl
+  judged-data false = refl
+
+  pub poll-judged : bind pollData (λ r. done (judged r)) ≡ poll worth
+  unfolding poll bind
+  poll-judged = ap (read p64) (fun-ext (λ status. judged-data (bit outputBufferFull status)))
+
 module _ {A : Type 0} (worth : ℕ → Turn (Answer A)) where
   -- ---- a read of data
 
@@ -45,34 +63,24 @@ module _ {A : Type 0} (worth : ℕ → Turn (Answer A)) where
 
   -- ---- a poll
 
-  abbrev judged : Turn (Answer ℕ) → Turn (Answer A)
-  judged (found (gives b)) = worth b
-  judged (found (refuses n)) = found (refuses n)
-  judged again = again
-
-  judged-data : (full : Bool) → bind (cond full (dataTurn (λ b. found (gives b))) (done again)) (λ r. done (judged r)) ≡ cond full (dataTurn worth) (done again)
-  unfolding bind
-  judged-data true = refl
-  judged-data false = refl
-
-  poll-judged : bind pollData (λ r. done (judged r)) ≡ poll worth
-  unfolding poll bind
-  poll-judged = ap (read p64) (fun-ext (λ status. judged-data (bit outputBufferFull status)))
-
   abbrev pub pollEnd : Polled → End (Turn (Answer A))
   pollEnd (Polled.Data b) = yields (worth b)
   pollEnd Polled.Nothing = yields again
   pollEnd (Polled.Refused r) = foundEnd (refused r)
 
-  poll-ended : (s : List ℕ) (a : Polled) {u : ℕ} → Reads pollData s (saidPolled a) u → Reads (bind pollData (λ r. done (judged r))) s (pollEnd a) u
-  poll-ended s (Polled.Data b) r = reads-done pollData (λ r. done (judged r)) s r refl refl
-  poll-ended s Polled.Nothing r = reads-done pollData (λ r. done (judged r)) s r refl refl
-  poll-ended s (Polled.Refused ScriptUsedUp) r = reads-no-script pollData (λ r. done (judged r)) s r refl
-  poll-ended s (Polled.Refused LogFull) r = record { with-any = λ l. bind-no-log pollData (λ r. done (judged r)) s l (r .with-any l) refl }
-  poll-ended s (Polled.Refused (Failed f)) r = reads-done pollData (λ r. done (judged r)) s r refl refl
+  -- a refusal is passed on
+  abbrev passed : Turn (Answer ℕ) → Turn (Answer A)
+  passed = judged worth (λ n. found (refuses n))
+
+  poll-ended : (s : List ℕ) (a : Polled) {u : ℕ} → Reads pollData s (saidPolled a) u → Reads (bind pollData (λ r. done (passed r))) s (pollEnd a) u
+  poll-ended s (Polled.Data b) r = reads-done pollData (λ r. done (passed r)) s r refl refl
+  poll-ended s Polled.Nothing r = reads-done pollData (λ r. done (passed r)) s r refl refl
+  poll-ended s (Polled.Refused ScriptUsedUp) r = reads-no-script pollData (λ r. done (passed r)) s r refl
+  poll-ended s (Polled.Refused LogFull) r = record { with-any = λ l. bind-no-log pollData (λ r. done (passed r)) s l (r .with-any l) refl }
+  poll-ended s (Polled.Refused (Failed f)) r = reads-done pollData (λ r. done (passed r)) s r refl refl
 
   pub poll-turn : {a a₂ : Polled} → a ≡ a₂ → (s : List ℕ) {u : ℕ} → Reads pollData s (saidPolled a) u → Reads (poll worth) s (pollEnd a₂) u
-  poll-turn {a} q s r = rw q at (rw poll-judged at (poll-ended s a r))
+  poll-turn {a} q s r = rw q at (rw (poll-judged worth (λ n. found (refuses n))) at (poll-ended s a r))
 
 -- ---- a device's response
 

@@ -1,0 +1,5 @@
+-- Commands to a device, and searches for a byte.
+pub mod Command
+pub mod Search
+pub mod Reset
+pub mod Replaced

@@ -1,0 +1,184 @@
+// The command rule: a byte is sent to a device up to four times, until its response settles the matter. And what a reset waits for.
+ghost use mathlib.Core.Path.{_≡_};
+ghost use Rattle.exchange.specs.Exchange.{play, played, yields, Reads};
+ghost use Rattle.ps2_ports.specs.Refusals.{saidDone};
+ghost use Rattle.ps2_command.specs.Command.{command as commandRule, commandToPort2, attempt as attemptRule, saidCommand, saidAttempt, verdict as verdictRule};
+ghost use Rattle.ps2_command.specs.Replaced.{replacedBy};
+ghost use Rattle.ps2_command.specs.Search.{selfTestWithin};
+use ps2_bytes::DeviceToHostResponse;
+use ps2_bytes::HostToControllerCommand;
+use ps2_bytes::HostToDevice;
+use ps2_polling::ResponseAnswer;
+use ps2_polling::polling_send_receive;
+use ps2_ports::ByteAnswer;
+use ps2_ports::CompletedRead;
+use ps2_ports::Completion;
+use ps2_ports::Failure;
+use ps2_ports::Refusal;
+use ps2_ports::read_data;
+use ps2_ports::write_command;
+
+// The attempts that a command has.
+const ATTEMPTS: u8 = 4;
+
+// A device's byte for a self test that it passed.
+const SELF_TEST_PASSED: u8 = 0xAA;
+
+// The answer of a command.
+pub enum CommandAnswer {
+    Accepted,
+    Refused(Refusal),
+}
+
+pub struct Commanded {
+    pub answer: CommandAnswer,
+    pub used: usize,
+    pub pairs: usize,
+}
+
+// What one attempt comes to: it settles the command, or another is to be made.
+pub enum Attempt {
+    Settled(CommandAnswer),
+    Again,
+}
+
+pub struct Attempted {
+    pub attempt: Attempt,
+    pub used: usize,
+    pub pairs: usize,
+}
+
+// What a response says of the command.
+fn verdict(response: DeviceToHostResponse) -> Attempt
+    ensures { λ r. ⌜ saidAttempt r ≡ yields (verdictRule response) ⌝ }
+{
+    match response {
+        DeviceToHostResponse::KeyDetectionErrorOrInternalBufferOverrun1 => Attempt::Again,
+        DeviceToHostResponse::SelfTestPassed => Attempt::Settled(CommandAnswer::Accepted),
+        DeviceToHostResponse::ResponseToEcho => Attempt::Again,
+        DeviceToHostResponse::Acknowledge => Attempt::Settled(CommandAnswer::Accepted),
+        DeviceToHostResponse::SelfTestFailed1 => {
+            Attempt::Settled(CommandAnswer::Refused(Refusal::Failed(Failure::SelfTestFailed)))
+        }
+        DeviceToHostResponse::SelfTestFailed2 => {
+            Attempt::Settled(CommandAnswer::Refused(Refusal::Failed(Failure::SelfTestFailed)))
+        }
+        DeviceToHostResponse::ResendCommand => Attempt::Again,
+        DeviceToHostResponse::KeyDetectionErrorOrInternalBufferOverrun2 => Attempt::Again,
+    }
+}
+
+// One attempt: sends the byte, and reads the response.
+fn attempt_once(script: &[u8], log: &mut [u8], value: HostToDevice) -> Attempted
+    ensures { λ r. ⌜ played (saidAttempt (r .attempt)) (r .used) (r .pairs) (now (log .exit)) ≡ play (attemptRule value) (now (script .entry)) (now (log .entry)) ⌝ }
+{
+    let s = polling_send_receive(script, log, value);
+    let used = s.used;
+    let pairs = s.pairs;
+    let answer = s.answer;
+    let attempt = match answer {
+        ResponseAnswer::Response(response) => verdict(response),
+        ResponseAnswer::Refused(e) => Attempt::Settled(CommandAnswer::Refused(e)),
+    };
+    Attempted {
+        attempt,
+        used,
+        pairs,
+    }
+}
+
+// A command to the device of the first port, or to whichever the controller was told to send the next byte to.
+pub fn command(script: &[u8], log: &mut [u8], value: HostToDevice) -> Commanded
+    ensures { λ r. ⌜ played (saidCommand (r .answer)) (r .used) (r .pairs) (now (log .exit)) ≡ play (commandRule value) (now (script .entry)) (now (log .entry)) ⌝ }
+{
+    let mut used: usize = 0;
+    let mut pairs: usize = 0;
+    let mut attempts = ATTEMPTS;
+    let answer = loop {
+        if attempts == 0 {
+            break CommandAnswer::Refused(Refusal::Failed(Failure::NotAcknowledged));
+        }
+        let at = 2 * pairs;
+        let a = attempt_once(&script[used..], &mut log[at..], value);
+        used += a.used;
+        pairs += a.pairs;
+        let attempt = a.attempt;
+        match attempt {
+            Attempt::Settled(answer) => {
+                break answer;
+            }
+            Attempt::Again => {}
+        }
+        attempts -= 1;
+    };
+    Commanded {
+        answer,
+        used,
+        pairs,
+    }
+}
+
+// A command to the device of the second port: the controller is told once to send the next byte there.
+pub fn command_to_port2(script: &[u8], log: &mut [u8], value: HostToDevice) -> Commanded
+    ensures { λ r. ⌜ played (saidCommand (r .answer)) (r .used) (r .pairs) (now (log .exit)) ≡ play (commandToPort2 value) (now (script .entry)) (now (log .entry)) ⌝ }
+{
+    let w = write_command(log, HostToControllerCommand::WriteByteToPort2InputBuffer);
+    let pairs = w.pairs;
+    let written = w.answer;
+    match written {
+        Completion::Done => {
+            let at = 2 * pairs;
+            let c = command(script, &mut log[at..], value);
+            let answer = c.answer;
+            Commanded {
+                answer,
+                used: c.used,
+                pairs: pairs + c.pairs,
+            }
+        }
+        Completion::Refused(e) => Commanded {
+            answer: CommandAnswer::Refused(e),
+            used: 0,
+            pairs,
+        },
+    }
+}
+
+// Reads data, without asking the status, until a device says that it passed its self test.
+pub fn read_self_test_result(script: &[u8], reads: u32) -> CompletedRead
+    ensures { λ r. ⌜ Reads (selfTestWithin reads) (now (script .entry)) (saidDone (r .answer)) (r .used) ⌝ }
+{
+    let mut used: usize = 0;
+    let mut left = reads;
+    let answer = loop {
+        if left == 0 {
+            break Completion::Refused(Refusal::Failed(Failure::ResetFailed));
+        }
+        let d = read_data(&script[used..]);
+        used += d.used;
+        let read = d.answer;
+        match read {
+            ByteAnswer::Byte(b) => {
+                if b == SELF_TEST_PASSED {
+                    break Completion::Done;
+                }
+            }
+            ByteAnswer::Refused(e) => {
+                break Completion::Refused(e);
+            }
+        }
+        left -= 1;
+    };
+    CompletedRead { answer, used }
+}
+
+// A refusal from inside an operation that has a failure of its own; a used-up script and a full log are replaced by nothing.
+pub fn refusing_as(e: Refusal, failure: Failure) -> Refusal
+    ensures { λ r. ⌜ r ≡ replacedBy failure e ⌝ }
+{
+    match e {
+        Refusal::ScriptUsedUp => Refusal::ScriptUsedUp,
+        Refusal::LogFull => Refusal::LogFull,
+        Refusal::Failed(_) => Refusal::Failed(failure),
+    }
+}
