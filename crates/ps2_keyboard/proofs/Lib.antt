@@ -1,0 +1,7 @@
+-- Laws of the keyboard's operations.
+pub mod Bounds
+pub mod Refuses
+pub mod Reset
+pub mod Detection
+pub mod Turns
+pub mod Worked

@@ -1,0 +1,67 @@
+-- `ps2_keyboard::command_pair` meets its contract: two commands, the second on what the first left.
+-- Assumes nothing.
+use borrow.Author.Needs.{needs}
+use native.Mathlib.Omega.{arith}
+use mathlib.Core.Path.{refl}
+use Rattle.exchange.proofs.Position.{call-used-le, call-pairs-le, call-log-length}
+use Rattle.ps2_command.proofs.Accepted.{two-used-le, two-pairs-le, accepted-then, refused-then}
+use Rattle.ps2_keyboard.proofs.command_pair.Statement.{statement}
+use Rattle.ps2_keyboard.proofs.command_pair.Tie as tie
+
+mul-at : tie.Need-mul-at
+mul-at c =
+    let w = c .before .before .before .before in
+    omega (arith, call-pairs-le _ _ _ (w .command-to-keyboard .ensures), w .before .before .before .before .good)
+
+sub-command-to-keyboard : tie.Need-sub-command-to-keyboard
+sub-command-to-keyboard c = call-used-le _ _ _ (c .before .before .before .before .command-to-keyboard .ensures)
+
+sub-command-to-keyboard-2 : tie.Need-sub-command-to-keyboard-2
+sub-command-to-keyboard-2 c =
+    let e = c .before .before .before .before .before .command-to-keyboard .ensures in
+    omega (arith, call-pairs-le _ _ _ e, call-log-length _ _ _ e)
+
+add-t17 : tie.Need-add-t17
+add-t17 c =
+    let d = c .before .before .before in
+    let w = d .before .before .before .before .before .before .before in
+    omega (arith, two-used-le _ _ _ _ (w .command-to-keyboard .ensures) refl (d .command-to-keyboard2 .ensures), w .before .before .before .before .good)
+
+add-t21 : tie.Need-add-t21
+add-t21 c =
+    let d = c .before .before .before .before in
+    let w = d .before .before .before .before .before .before .before in
+    omega (arith, two-pairs-le _ _ _ _ (w .command-to-keyboard .ensures) refl (d .command-to-keyboard2 .ensures), w .before .before .before .before .good)
+
+returns : tie.Need-returns
+returns c =
+    let d = c .before .before .before .before in
+    let m = d .before .before .before in
+    accepted-then _ _ _ _ _ (m .before .before .before .before .command-to-keyboard .ensures) (m .enum-told .given .1) refl (d .command-to-keyboard2 .ensures)
+
+returns-2 : tie.Need-returns-2
+returns-2 c =
+    let w = c .before .before .before .before .before in
+    refused-then _ _ _ _ _ (w .command-to-keyboard .ensures) (c .before .accepted .given .0 .0) (c .before .accepted .given .1)
+
+pub command-pair-spec : {M : Type 1} → statement M
+command-pair-spec =
+    tie.close
+    (tie.spec
+    (λ c κs. search needs)
+    (λ c. search needs)
+    mul-at
+    sub-command-to-keyboard
+    sub-command-to-keyboard
+    (λ c. search needs)
+    sub-command-to-keyboard-2
+    sub-command-to-keyboard-2
+    (λ c. search needs)
+    (λ c κs. search needs)
+    add-t17
+    add-t21
+    (λ c. search needs)
+    (λ c. search needs)
+    returns
+    (λ c. search needs)
+    returns-2)

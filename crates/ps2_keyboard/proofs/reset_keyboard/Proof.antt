@@ -1,0 +1,50 @@
+-- `ps2_keyboard::reset_keyboard` meets its contract: the command, then the reads for an AA of the reset's own.
+-- Assumes nothing.
+use borrow.Author.Needs.{needs}
+use native.Mathlib.Omega.{arith}
+use Rattle.exchange.proofs.Position.{call-used-le}
+use Rattle.ps2_command.specs.Search.{selfTestWithin}
+use Rattle.ps2_command.proofs.Accepted.{two-used-le-reads, accepted-then-reads, refused-then}
+use Rattle.ps2_keyboard.specs.Keyboard.{resetReads, resetKeyboard}
+use Rattle.ps2_keyboard.proofs.reset_keyboard.Statement.{statement}
+use Rattle.ps2_keyboard.proofs.reset_keyboard.Tie as tie
+
+sub-read-self-test-result : tie.Need-sub-read-self-test-result
+sub-read-self-test-result c = call-used-le _ _ _ (c .before .before .before .before .command-to-keyboard .ensures)
+
+add-t16 : tie.Need-add-t16
+add-t16 c =
+    let d = c .before in
+    let w = d .before .before .before .before .before .before in
+    omega (arith, two-used-le-reads _ _ _ _ (w .command-to-keyboard .ensures) (d .read-self-test-result .ensures), w .before .before .before .before .good)
+
+returns : tie.Need-returns
+unfolding resetKeyboard
+returns c =
+    let d = c .before in
+    let m = d .before .before in
+    accepted-then-reads _ (λ _. selfTestWithin resetReads) _ _ _ (m .before .before .before .before .command-to-keyboard .ensures) (m .enum-told .given .1)
+    (d .read-self-test-result .ensures)
+
+returns-2 : tie.Need-returns-2
+unfolding resetKeyboard
+returns-2 c =
+    let w = c .before .before .before .before .before in
+    refused-then _ (λ _. selfTestWithin resetReads) _ _ _ (w .command-to-keyboard .ensures) (c .before .accepted .given .0 .0) (c .before .accepted .given .1)
+
+pub reset-keyboard-spec : {M : Type 1} → statement M
+reset-keyboard-spec =
+    tie.close
+    (tie.spec
+    (λ c κs. search needs)
+    (λ c. search needs)
+    sub-read-self-test-result
+    sub-read-self-test-result
+    (λ c. search needs)
+    (λ c κs. search needs)
+    add-t16
+    (λ c. search needs)
+    (λ c. search needs)
+    returns
+    (λ c. search needs)
+    returns-2)

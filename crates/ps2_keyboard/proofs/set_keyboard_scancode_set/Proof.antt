@@ -1,0 +1,90 @@
+-- `ps2_keyboard::set_keyboard_scancode_set` meets its contract: two commands, then the question for the set, whatever its answer.
+-- Assumes nothing.
+use borrow.Author.Needs.{needs}
+use native.Mathlib.Omega.{arith}
+use mathlib.Core.Path.{refl, ap}
+use Rattle.exchange.specs.Answer.{gives, andThen, onGiven}
+use Rattle.exchange.specs.Exchange.{done}
+use Rattle.exchange.proofs.Position.{call-used-le, call-pairs-le, call-log-length}
+use Rattle.exchange.proofs.Calls.{bind-done}
+use Rattle.ps2_ports.specs.Refusals.{success}
+use Rattle.ps2_ports.proofs.Refusals.{bind-refused}
+use Rattle.ps2_command.proofs.Accepted.{two-used-le, two-pairs-le, accepted-then, refused-then}
+use Rattle.ps2_keyboard.specs.Keyboard.{commandScancodeSet, getScancodeSet, setScancodeSet}
+use Rattle.ps2_keyboard.specs.Answers.{saidSet}
+use Rattle.ps2_keyboard.proofs.set_keyboard_scancode_set.Statement.{statement}
+use Rattle.ps2_keyboard.proofs.set_keyboard_scancode_set.Tie as tie
+
+mul-at : tie.Need-mul-at
+mul-at c =
+    let w = c .before .before .before .before in
+    omega (arith, call-pairs-le _ _ _ (w .command-pair .ensures), w .before .before .before .before .good)
+
+sub-script : tie.Need-sub-get-keyboard-scancode-set
+sub-script c = call-used-le _ _ _ (c .before .before .before .before .command-pair .ensures)
+
+sub-log : tie.Need-sub-get-keyboard-scancode-set-2
+sub-log c =
+    let e = c .before .before .before .before .before .command-pair .ensures in
+    omega (arith, call-pairs-le _ _ _ e, call-log-length _ _ _ e)
+
+add-both : tie.Need-add-both
+add-both c =
+    let d = c .before .before .before in
+    let w = d .before .before .before .before .before .before .before in
+    omega (arith, two-used-le _ _ _ _ (w .command-pair .ensures) refl (d .get-keyboard-scancode-set .ensures), w .before .before .before .before .good)
+
+add-all : tie.Need-add-all
+add-all c =
+    let d = c .before .before .before .before in
+    let w = d .before .before .before .before .before .before .before in
+    omega (arith, two-pairs-le _ _ _ _ (w .command-pair .ensures) refl (d .get-keyboard-scancode-set .ensures), w .before .before .before .before .good)
+
+returns : tie.Need-returns
+unfolding setScancodeSet commandScancodeSet andThen
+returns c =
+    let d = c .before .before .before .before .before .before in
+    let m = d .before .before .before in
+    accepted-then _ (λ _. andThen getScancodeSet (λ _. done (gives success))) _ _ _ (m .before .before .before .before .command-pair .ensures) (m .enum-told .given .1) refl
+    (bind-done getScancodeSet (onGiven (λ _. done (gives success))) _ _ (d .get-keyboard-scancode-set .ensures) (ap saidSet (c .enum-told2 .given .1)) refl)
+
+returns-2 : tie.Need-returns-2
+unfolding setScancodeSet commandScancodeSet andThen
+returns-2 c =
+    let t = c .before in
+    let d = t .before .before .before .before .before .before in
+    let m = d .before .before .before in
+    accepted-then _ (λ _. andThen getScancodeSet (λ _. done (gives success))) _ _ _ (m .before .before .before .before .command-pair .ensures) (m .enum-told .given .1) refl
+    (bind-refused getScancodeSet (λ _. done (gives success)) _ _ (d .get-keyboard-scancode-set .ensures) (t .told .given .0 .0) (ap saidSet (t .told .given .1)))
+
+returns-3 : tie.Need-returns-3
+unfolding setScancodeSet commandScancodeSet
+returns-3 c =
+    let w = c .before .before .before .before .before in
+    refused-then _ (λ _. andThen getScancodeSet (λ _. done (gives success))) _ _ _ (w .command-pair .ensures) (c .before .accepted .given .0 .0) (c .before .accepted .given .1)
+
+pub set-keyboard-scancode-set-spec : {M : Type 1} → statement M
+set-keyboard-scancode-set-spec =
+    tie.close
+    (tie.spec
+    (λ c κs. search needs)
+    (λ c. search needs)
+    mul-at
+    sub-script
+    sub-script
+    (λ c. search needs)
+    sub-log
+    sub-log
+    (λ c. search needs)
+    (λ c κs. search needs)
+    add-both
+    add-all
+    (λ c. search needs)
+    (λ c. search needs)
+    (λ c. search needs)
+    (λ c. search needs)
+    returns
+    (λ c. search needs)
+    returns-2
+    (λ c. search needs)
+    returns-3)

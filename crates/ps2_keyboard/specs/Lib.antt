@@ -1,0 +1,5 @@
+-- The keyboard's operations.
+pub mod Keyboard
+pub mod Parts
+pub mod Answers
+pub mod Unrecognised
