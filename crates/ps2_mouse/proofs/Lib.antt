@@ -1,0 +1,15 @@
+-- Laws of the mouse's operations.
+pub mod Bounds
+pub mod Refuses
+pub mod Identity
+pub mod Reset
+pub mod NoIdentity
+pub mod Packet
+pub mod Told
+pub mod Tail
+pub mod Polls
+pub mod Record
+pub mod Rates
+pub mod Forgives
+pub mod PacketReads
+pub mod Worked

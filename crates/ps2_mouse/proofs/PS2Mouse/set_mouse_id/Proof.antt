@@ -1,0 +1,82 @@
+-- `ps2_mouse::PS2Mouse::set_mouse_id` meets its contract: the packets are started where an identity was found.
+-- Assumes nothing.
+use borrow.Author.Needs.{needs}
+use native.Mathlib.Omega.{arith}
+use mathlib.Core.Path.{refl, ap}
+use Rattle.exchange.proofs.Position.{call-used-le, call-pairs-le}
+use Rattle.exchange.proofs.Calls.{bind-yields}
+use Rattle.ps2_mouse.specs.Identity.{newIdentity, startPackets, setMouseId}
+use Rattle.ps2_mouse.specs.Answers.{saidId}
+use Rattle.ps2_mouse.proofs.Tail.{call-tail-le, next-used-le, next-pairs-le}
+use Rattle.ps2_mouse.proofs.Record.{record-after, record-told, set-refused}
+use Rattle.ps2_mouse.proofs.PS2Mouse.set_mouse_id.Statement.{statement}
+use Rattle.ps2_mouse.proofs.PS2Mouse.set_mouse_id.Tie as tie
+
+mul-at : tie.Need-mul-at
+mul-at c =
+    let a = c .before .before .before .before .before in
+    omega (arith, call-pairs-le _ _ _ (a .new-identity .ensures), a .before .before .before .before .good)
+
+sub-start-packets : tie.Need-sub-start-packets
+sub-start-packets c = call-used-le _ _ _ (c .before .before .before .before .before .new-identity .ensures)
+
+part-start-packets-start : tie.Need-part-start-packets-start
+part-start-packets-start c = sub-start-packets c
+
+sub-start-packets-2 : tie.Need-sub-start-packets-2
+sub-start-packets-2 c = call-tail-le _ _ _ (c .before .before .before .before .before .before .new-identity .ensures)
+
+part-start-packets-start-2 : tie.Need-part-start-packets-start-2
+part-start-packets-start-2 c = sub-start-packets-2 c
+
+add-t19 : tie.Need-add-t19
+add-t19 c =
+    let m = c .before .before .before .before in
+    let a = m .before .before .before .before .before .before .before .before in
+    omega (arith, next-used-le _ _ _ (a .new-identity .ensures) _ _ (m .start-packets .ensures .0), a .before .before .before .before .good)
+
+add-t23 : tie.Need-add-t23
+add-t23 c =
+    let m = c .before .before .before .before .before in
+    let a = m .before .before .before .before .before .before .before .before in
+    omega (arith, next-pairs-le _ _ _ (a .new-identity .ensures) _ _ refl (m .start-packets .ensures .0), a .before .before .before .before .good)
+
+returns : tie.Need-returns
+unfolding setMouseId
+returns c =
+    let m = c .before .before .before .before .before in
+    let t = m .before .before .before .before in
+    let a = t .before .before .before .before in
+    let mouse = a .before .before .before .before .args .self in
+    record-after mouse
+    (bind-yields (newIdentity (mouse .id)) (λ id. startPackets mouse id) _ _ (a .new-identity .ensures) (ap saidId (t .found .given .1)) refl (m .start-packets .ensures .0))
+    (record-told mouse (m .start-packets .ensures))
+
+returns-2 : tie.Need-returns-2
+unfolding setMouseId
+returns-2 c =
+    let a = c .before .before .before .before .before in
+    let mouse = a .before .before .before .before .args .self in
+    set-refused mouse _ _ (a .new-identity .ensures) (c .before .found2 .given .0 .0) (ap saidId (c .before .found2 .given .1))
+
+pub set-mouse-id-spec : {M : Type 1} → statement M
+set-mouse-id-spec =
+    tie.close
+    (tie.spec
+    (λ c κs. search needs)
+    (λ c. search needs)
+    mul-at
+    sub-start-packets
+    part-start-packets-start
+    (λ c. search needs)
+    sub-start-packets-2
+    part-start-packets-start-2
+    (λ c. search needs)
+    (λ c κs. search needs)
+    add-t19
+    add-t23
+    (λ c. search needs)
+    (λ c. search needs)
+    returns
+    (λ c. search needs)
+    returns-2)

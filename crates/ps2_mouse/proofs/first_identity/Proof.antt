@@ -1,0 +1,108 @@
+-- `ps2_mouse::first_identity` meets its contract: each identity, and each refusal, is followed by its own.
+-- Assumes nothing.
+use borrow.Author.Needs.{needs}
+use native.Mathlib.Omega.{arith}
+use mathlib.Core.Path.{refl, ap, _∙_}
+use Rattle.exchange.proofs.Position.{call-used-le, call-pairs-le}
+use Rattle.exchange.proofs.Calls.{bind-yields, bind-done}
+use Rattle.ps2_mouse.specs.declared.IdAnswer.{IdAnswer}
+use Rattle.ps2_mouse.specs.Mouse.{mouseId}
+use Rattle.ps2_mouse.specs.Identity.{afterFirst}
+use Rattle.ps2_mouse.specs.Answers.{saidId}
+use Rattle.ps2_mouse.proofs.Tail.{call-tail-le, next-used-le, next-pairs-le}
+use Rattle.ps2_mouse.proofs.Forgives.{bind-forgiven}
+use Rattle.ps2_mouse.proofs.first_identity.Statement.{statement}
+use Rattle.ps2_mouse.proofs.first_identity.Tie as tie
+
+mul-at : tie.Need-mul-at
+mul-at c =
+    let a = c .before .before .before .before .before .before .before in
+    omega (arith, call-pairs-le _ _ _ (a .mouse-id .ensures), a .before .before .before .before .good)
+
+sub-button-identity : tie.Need-sub-button-identity
+sub-button-identity c = call-used-le _ _ _ (c .before .before .before .before .before .before .before .mouse-id .ensures)
+
+part-button-identity-start : tie.Need-part-button-identity-start
+part-button-identity-start c = sub-button-identity c
+
+sub-button-identity-2 : tie.Need-sub-button-identity-2
+sub-button-identity-2 c = call-tail-le _ _ _ (c .before .before .before .before .before .before .before .before .mouse-id .ensures)
+
+part-button-identity-start-2 : tie.Need-part-button-identity-start-2
+part-button-identity-start-2 c = sub-button-identity-2 c
+
+add-t19 : tie.Need-add-t19
+add-t19 c =
+    let m = c .before .before .before in
+    let a = m .before .before .before .before .before .before .before .before .before .before in
+    omega (arith, next-used-le _ _ _ (a .mouse-id .ensures) _ _ (m .button-identity .ensures), a .before .before .before .before .good)
+
+add-t23 : tie.Need-add-t23
+add-t23 c =
+    let m = c .before .before .before .before in
+    let a = m .before .before .before .before .before .before .before .before .before .before in
+    omega (arith, next-pairs-le _ _ _ (a .mouse-id .ensures) _ _ refl (m .button-identity .ensures), a .before .before .before .before .good)
+
+-- 0
+returns : tie.Need-returns
+returns c =
+    let f = c .before .before .before in
+    let a = f .before .before .before .before in
+    bind-done mouseId (λ first. afterFirst (a .before .before .before .before .args .old) first) _ _ (a .mouse-id .ensures)
+    (ap saidId (f .first .given .1 ∙ ap IdAnswer.Id (c .enum-told .given .1))) refl
+
+-- 3
+returns-2 : tie.Need-returns-2
+returns-2 c =
+    let m = c .before .before .before .before in
+    let t = m .before .before .before in
+    let f = t .before .before .before in
+    let a = f .before .before .before .before in
+    bind-yields mouseId (λ first. afterFirst (a .before .before .before .before .args .old) first) _ _ (a .mouse-id .ensures)
+    (ap saidId (f .first .given .1 ∙ ap IdAnswer.Id (t .enum-told2 .given .1))) refl (m .button-identity .ensures)
+
+-- 4
+returns-3 : tie.Need-returns-3
+returns-3 c =
+    let f = c .before .before .before in
+    let a = f .before .before .before .before in
+    bind-done mouseId (λ first. afterFirst (a .before .before .before .before .args .old) first) _ _ (a .mouse-id .ensures)
+    (ap saidId (f .first .given .1 ∙ ap IdAnswer.Id (c .enum-told3 .given .1))) refl
+
+returns-4 : tie.Need-returns-4
+returns-4 c =
+    let f = c .before .before in
+    let a = f .before .before .before .before in
+    let old = a .before .before .before .before .args .old in
+    bind-forgiven mouseId (λ first. afterFirst old first) old (λ n. refl) _ _ (a .mouse-id .ensures)
+    (f .first2 .given .0 .0) (ap saidId (f .first2 .given .1)) (c .forgiven .ensures)
+
+pub first-identity-spec : {M : Type 1} → statement M
+first-identity-spec =
+    tie.close
+    (tie.spec
+    (λ c κs. search needs)
+    (λ c. search needs)
+    (λ c. search needs)
+    (λ c. search needs)
+    mul-at
+    sub-button-identity
+    part-button-identity-start
+    (λ c. search needs)
+    sub-button-identity-2
+    part-button-identity-start-2
+    (λ c. search needs)
+    (λ c κs. search needs)
+    add-t19
+    add-t23
+    (λ c. search needs)
+    (λ c. search needs)
+    (λ c κs. search needs)
+    (λ c. search needs)
+    returns
+    (λ c. search needs)
+    returns-2
+    (λ c. search needs)
+    returns-3
+    (λ c. search needs)
+    returns-4)

@@ -1,0 +1,85 @@
+-- `ps2_mouse::new_identity` meets its contract: the rates follow where the packets were stopped.
+-- Assumes nothing.
+use borrow.Author.Needs.{needs}
+use native.Mathlib.Omega.{arith}
+use mathlib.Core.Path.{refl, ap}
+use Rattle.exchange.specs.Answer.{andThen, onGiven}
+use Rattle.exchange.proofs.Position.{call-used-le, call-pairs-le}
+use Rattle.exchange.proofs.Calls.{bind-yields}
+use Rattle.ps2_ports.proofs.Refusals.{bind-refused}
+use Rattle.exchange.specs.Exchange.{bind}
+use Rattle.ps2_command.specs.Command.{saidCommand}
+use Rattle.ps2_mouse.specs.Mouse.{disablePacketStreaming, mouseId}
+use Rattle.ps2_mouse.specs.Identity.{setRates, wheelRates, afterFirst, newIdentity}
+use Rattle.ps2_mouse.proofs.Tail.{call-tail-le, next-used-le, next-pairs-le}
+use Rattle.ps2_mouse.proofs.new_identity.Statement.{statement}
+use Rattle.ps2_mouse.proofs.new_identity.Tie as tie
+
+mul-at : tie.Need-mul-at
+mul-at c =
+    let a = c .before .before .before .before in
+    omega (arith, call-pairs-le _ _ _ (a .disable-mouse-packet-streaming .ensures), a .before .before .before .before .good)
+
+sub-wheel-identity : tie.Need-sub-wheel-identity
+sub-wheel-identity c = call-used-le _ _ _ (c .before .before .before .before .disable-mouse-packet-streaming .ensures)
+
+part-wheel-identity-start : tie.Need-part-wheel-identity-start
+part-wheel-identity-start c = sub-wheel-identity c
+
+sub-wheel-identity-2 : tie.Need-sub-wheel-identity-2
+sub-wheel-identity-2 c = call-tail-le _ _ _ (c .before .before .before .before .before .disable-mouse-packet-streaming .ensures)
+
+part-wheel-identity-start-2 : tie.Need-part-wheel-identity-start-2
+part-wheel-identity-start-2 c = sub-wheel-identity-2 c
+
+add-t16 : tie.Need-add-t16
+add-t16 c =
+    let m = c .before .before .before in
+    let a = m .before .before .before .before .before .before .before in
+    omega (arith, next-used-le _ _ _ (a .disable-mouse-packet-streaming .ensures) _ _ (m .wheel-identity .ensures), a .before .before .before .before .good)
+
+add-t20 : tie.Need-add-t20
+add-t20 c =
+    let m = c .before .before .before .before in
+    let a = m .before .before .before .before .before .before .before in
+    omega (arith, next-pairs-le _ _ _ (a .disable-mouse-packet-streaming .ensures) _ _ refl (m .wheel-identity .ensures), a .before .before .before .before .good)
+
+returns : tie.Need-returns
+unfolding newIdentity andThen
+returns c =
+    let m = c .before .before .before .before in
+    let t = m .before .before .before in
+    let a = t .before .before .before .before in
+    let old = a .before .before .before .before .args .old in
+    bind-yields disablePacketStreaming (onGiven (λ _. andThen (setRates wheelRates) (λ _. bind mouseId (λ first. afterFirst old first)))) _ _ (a .disable-mouse-packet-streaming .ensures)
+    (ap saidCommand (t .enum-told .given .1)) refl (m .wheel-identity .ensures)
+
+returns-2 : tie.Need-returns-2
+unfolding newIdentity andThen
+returns-2 c =
+    let a = c .before .before .before .before .before in
+    let old = a .before .before .before .before .args .old in
+    bind-refused disablePacketStreaming (λ _. andThen (setRates wheelRates) (λ _. bind mouseId (λ first. afterFirst old first))) _ _ (a .disable-mouse-packet-streaming .ensures)
+    (c .before .stopped .given .0 .0) (ap saidCommand (c .before .stopped .given .1))
+
+pub new-identity-spec : {M : Type 1} → statement M
+new-identity-spec =
+    tie.close
+    (tie.spec
+    (λ c κs. search needs)
+    (λ c. search needs)
+    mul-at
+    sub-wheel-identity
+    part-wheel-identity-start
+    (λ c. search needs)
+    sub-wheel-identity-2
+    part-wheel-identity-start-2
+    (λ c. search needs)
+    (λ c κs. search needs)
+    add-t16
+    add-t20
+    (λ c. search needs)
+    (λ c. search needs)
+    returns
+    (λ c. search needs)
+    returns-2)

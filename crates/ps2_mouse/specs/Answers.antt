@@ -1,0 +1,66 @@
+-- The record of a new mouse, and what the code's answers say of the ends of plays.
+-- Assumes nothing.
+use Prim.Native.Nat.{ℕ}
+use mathlib.Core.Bool.{Bool}
+use Rattle.exchange.specs.Exchange.{End, yields, noScript, noLog}
+use Rattle.exchange.specs.Answer.{Answer, gives, refuses}
+use Rattle.exchange.specs.Left.{Left, left}
+use Rattle.exchange.specs.Repeat.{Turn, again, foundEnd}
+use Rattle.ps2_bytes.specs.declared.packet.MousePacket.{MousePacket}
+use Rattle.ps2_bytes.specs.declared.response.MouseId.{MouseId}
+use Rattle.ps2_bytes.specs.declared.response.MouseId.the-variants.{Zero}
+use Rattle.ps2_ports.specs.declared.Completion.{Completion}
+use Rattle.ps2_ports.specs.declared.Completion.the-variants as Completion
+use Rattle.ps2_ports.specs.declared.Refusal.{Refusal}
+use Rattle.ps2_ports.specs.declared.Refusal.the-variants.{ScriptUsedUp, LogFull, Failed}
+use Rattle.ps2_ports.specs.Refusals.{Success, success, numberOf, refused}
+use Rattle.ps2_mouse.specs.declared.PS2Mouse.{PS2Mouse}
+use Rattle.ps2_mouse.specs.declared.FirstBytes.{FirstBytes}
+use Rattle.ps2_mouse.specs.declared.BytesAnswer.{BytesAnswer}
+use Rattle.ps2_mouse.specs.declared.FullAnswer.{FullAnswer}
+use Rattle.ps2_mouse.specs.declared.IdAnswer.{IdAnswer}
+use Rattle.ps2_mouse.specs.declared.IdPoll.{IdPoll}
+use Rattle.ps2_mouse.specs.declared.PacketAnswer.{PacketAnswer}
+
+-- The identity of a PS/2 mouse is 0 until a sequence of rates has changed it.
+abbrev pub freshMouse : PS2Mouse
+freshMouse = record { id = Zero }
+
+-- ---- answers
+
+abbrev pub saidFull : FullAnswer → End (Answer Bool)
+saidFull (FullAnswer.Full full) = yields (gives full)
+saidFull (FullAnswer.Refused r) = refused r
+
+abbrev pub saidId : IdAnswer → End (Answer MouseId)
+saidId (IdAnswer.Id id) = yields (gives id)
+saidId (IdAnswer.Refused r) = refused r
+
+abbrev pub saidIdPoll : IdPoll → End (Turn (Answer MouseId))
+saidIdPoll (IdPoll.Settled a) = foundEnd (saidId a)
+saidIdPoll IdPoll.Again = yields again
+
+-- The bytes that every packet starts with, in the order in which they come.
+abbrev pub firstBytes : ℕ → ℕ → ℕ → FirstBytes
+firstBytes b1 b2 b3 = record { byte1 = b1; byte2 = b2; byte3 = b3 }
+
+abbrev pub saidBytes : BytesAnswer → End (Answer FirstBytes)
+saidBytes (BytesAnswer.Bytes b) = yields (gives b)
+saidBytes (BytesAnswer.Refused r) = refused r
+
+abbrev pub saidPacket : PacketAnswer → End (Answer MousePacket)
+saidPacket (PacketAnswer.Packet p) = yields (gives p)
+saidPacket (PacketAnswer.Refused r) = refused r
+
+-- An answer that comes with the record as it is left. A used-up script and a full log say nothing of the record; `recordAfter` does.
+abbrev pub saidMouse : Completion → PS2Mouse → End (Left PS2Mouse Success)
+saidMouse Completion.Done mouse = yields (left (gives success) mouse)
+saidMouse (Completion.Refused ScriptUsedUp) mouse = noScript
+saidMouse (Completion.Refused LogFull) mouse = noLog
+saidMouse (Completion.Refused (Failed f)) mouse = yields (left (refuses (numberOf f)) mouse)
+
+-- "A failed first identity is forgiven", and "a failure leaves the old one": a failure, that is; "2 and 3 are .. forgiven by nothing".
+abbrev pub forgivenAs : MouseId → Refusal → IdAnswer
+forgivenAs old ScriptUsedUp = IdAnswer.Refused ScriptUsedUp
+forgivenAs old LogFull = IdAnswer.Refused LogFull
+forgivenAs old (Failed f) = IdAnswer.Id old
