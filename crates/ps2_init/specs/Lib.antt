@@ -2,3 +2,4 @@
 pub mod Init
 pub mod Ended
 pub mod Configuration
+pub mod Answers

@@ -1,0 +1,78 @@
+-- `ps2_init::test_and_set_up` meets its contract: the controller's test, then the rest on what is left.
+-- Assumes nothing.
+use borrow.Author.Needs.{needs}
+use native.Mathlib.Omega.{arith}
+use mathlib.Core.Path.{refl, ap}
+use Rattle.exchange.proofs.Position.{call-used-le, call-pairs-le, call-log-length}
+use Rattle.exchange.proofs.Calls.{bind-yields}
+use Rattle.ps2_command.proofs.Accepted.{two-used-le, two-pairs-le}
+use Rattle.exchange.specs.Answer.{onGiven, andThen}
+use Rattle.ps2_ports.proofs.Refusals.{bind-refused}
+use Rattle.ps2_ports.specs.Refusals.{saidDone}
+use Rattle.ps2_init.specs.Init.{testWith}
+use Rattle.ps2_init.specs.Answers.{portsTested}
+use Rattle.ps2_init.proofs.test_and_set_up.Statement.{statement}
+use Rattle.ps2_init.proofs.test_and_set_up.Tie as tie
+
+mul-at : tie.Need-mul-at
+mul-at c =
+    let w = c .before .before .before .before in
+    omega (arith, call-pairs-le _ _ _ (w .test-with .ensures), w .before .before .before .before .good)
+
+sub-test-ports-and-set-up : tie.Need-sub-test-ports-and-set-up
+sub-test-ports-and-set-up c = call-used-le _ _ _ (c .before .before .before .before .test-with .ensures)
+
+sub-test-ports-and-set-up-2 : tie.Need-sub-test-ports-and-set-up-2
+sub-test-ports-and-set-up-2 c =
+    let e = c .before .before .before .before .before .test-with .ensures in
+    omega (arith, call-pairs-le _ _ _ e, call-log-length _ _ _ e)
+
+add-t17 : tie.Need-add-t17
+add-t17 c =
+    let d = c .before .before .before in
+    let w = d .before .before .before .before .before .before .before in
+    omega (arith, two-used-le _ _ _ _ (w .test-with .ensures) refl (d .test-ports-and-set-up .ensures), w .before .before .before .before .good)
+
+add-t21 : tie.Need-add-t21
+add-t21 c =
+    let d = c .before .before .before .before in
+    let w = d .before .before .before .before .before .before .before in
+    omega (arith, two-pairs-le _ _ _ _ (w .test-with .ensures) refl (d .test-ports-and-set-up .ensures), w .before .before .before .before .good)
+
+returns : tie.Need-returns
+unfolding andThen
+returns c =
+    let a = c .before .before .before .before .before .before .before .before .before .before .before .before .before .before .before .args in
+    let d = c .before .before .before .before in
+    let m = d .before .before .before in
+    bind-yields (testWith (a .config)) (onGiven (λ _. portsTested (a .config) (a .has-mouse))) _ _ (m .before .before .before .before .test-with .ensures) (ap saidDone (m .enum-told .given .1)) refl
+    (d .test-ports-and-set-up .ensures)
+
+returns-2 : tie.Need-returns-2
+unfolding andThen
+returns-2 c =
+    let a = c .before .before .before .before .before .before .before .before .before .args in
+    let x = c .before .passed .given in
+    bind-refused (testWith (a .config)) (λ _. portsTested (a .config) (a .has-mouse)) _ _ (c .before .before .before .before .before .test-with .ensures) (x .0 .0) (ap saidDone (x .1))
+
+pub test-and-set-up-spec : {M : Type 1} → statement M
+test-and-set-up-spec =
+    tie.close
+    (tie.spec
+    (λ c κs. search needs)
+    (λ c. search needs)
+    mul-at
+    sub-test-ports-and-set-up
+    sub-test-ports-and-set-up
+    (λ c. search needs)
+    sub-test-ports-and-set-up-2
+    sub-test-ports-and-set-up-2
+    (λ c. search needs)
+    (λ c κs. search needs)
+    add-t17
+    add-t21
+    (λ c. search needs)
+    (λ c. search needs)
+    returns
+    (λ c. search needs)
+    returns-2)
