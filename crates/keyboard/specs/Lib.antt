@@ -5,6 +5,7 @@ pub mod Queue
 pub mod Strokes
 pub mod FlagTable
 pub mod Lamps
+pub mod KeyboardLamps
 pub mod Events
 pub mod Said
 pub mod Counted
@@ -13,6 +14,7 @@ pub mod Record
 pub mod Answers
 pub mod FlagsAfter
 pub mod Handler
+pub mod Outcomes
 pub mod Taking
 pub mod Run
 pub mod History

@@ -1,6 +1,37 @@
 // The keyboard handler's record, its queue of events, and what its calls answer: Theseus's `keyboard`.
+ghost use mathlib.Core.Bool.{true};
+ghost use mathlib.Core.Path.{_≡_};
+ghost use Prim.Native.Nat.{_<_};
+ghost use Rattle.keyboard.specs.Queue.{pushed};
+ghost use Rattle.keyboard.specs.Strokes.{stroke, isPrefix, lowPart};
+ghost use Rattle.keyboard.specs.FlagTable.{flagTable, isLockPress};
+ghost use Rattle.keyboard.specs.FlagsAfter.{flagsAfter};
+ghost use Rattle.keyboard.specs.Lamps.{lampsLit};
+ghost use Rattle.keyboard.specs.KeyboardLamps.{keyboardLamps};
+ghost use Rattle.keyboard.specs.Events.{keycodeAt, eventOf};
+ghost use Rattle.keyboard.specs.Record.{fresh, wellFormed};
+ghost use Rattle.keyboard.specs.Taking.{taken};
+ghost use Rattle.keyboard.specs.Handler.{isSilent, queued, onByte, handled, logLeft};
+ghost use Rattle.keyboard.specs.Outcomes.{handledOf, handledBy, onKey};
+ghost use Rattle.exchange.specs.Exchange.{play};
+use keycodes_ascii::FoundKeycode;
+use keycodes_ascii::KEY_RELEASED_OFFSET;
+use keycodes_ascii::KeyAction;
 use keycodes_ascii::KeyEvent;
 use keycodes_ascii::KeyboardModifiers;
+use keycodes_ascii::Keycode;
+use ps2_bytes::LEDState;
+use ps2_command::CommandAnswer;
+use ps2_keyboard::read_scancode;
+use ps2_keyboard::set_keyboard_led;
+use ps2_ports::ByteAnswer;
+use ps2_ports::Refusal;
+
+// The places of the queue.
+const QUEUE_LENGTH: usize = 128;
+
+// The flags are the bits below this one.
+const FLAG_LIMIT: u16 = 1 << 10;
 
 // What the handler remembers of one keyboard: whether the last byte was a prefix, the keys that are held and the locks that are on.
 pub struct KeyboardState {
@@ -51,4 +82,340 @@ pub enum TakenEvent {
 pub struct Taken {
     pub event: TakenEvent,
     pub handler: KeyboardHandler,
+}
+
+impl KeyboardHandler {
+    // A fresh record: no prefix, no flag, an empty queue.
+    pub fn fresh() -> KeyboardHandler
+        ensures { λ r. ⌜ r ≡ fresh ⌝ }
+    {
+        let empty = KeyEvent {
+            keycode: Keycode::OverflowError,
+            action: KeyAction::Pressed,
+            modifiers: KeyboardModifiers { bits: 0 },
+        };
+        KeyboardHandler {
+            keyboard: KeyboardState {
+                prefix: false,
+                modifiers: KeyboardModifiers { bits: 0 },
+            },
+            queue: EventQueue {
+                places: [empty; 128],
+                start: 0,
+                count: 0,
+            },
+        }
+    }
+}
+
+// Whether a record has no flag above bit 9, and a start and a count that the queue's places allow.
+fn well_formed(handler: KeyboardHandler) -> bool
+    ensures { λ r. ⌜ r ≡ wellFormed handler ⌝ }
+{
+    if FLAG_LIMIT <= handler.keyboard.modifiers.bits {
+        return false;
+    }
+    if QUEUE_LENGTH <= handler.queue.start {
+        return false;
+    }
+    handler.queue.count <= QUEUE_LENGTH
+}
+
+// Takes the oldest event from the queue; its place is free for a later one.
+pub fn take_event(handler: KeyboardHandler) -> Taken
+    ensures { λ r. ⌜ r ≡ taken handler ⌝ }
+{
+    if !well_formed(handler) {
+        return Taken {
+            event: TakenEvent::MalformedRecord,
+            handler: handler,
+        };
+    }
+    let queue = handler.queue;
+    let start = queue.start;
+    let count = queue.count;
+    if count == 0 {
+        return Taken {
+            event: TakenEvent::Nothing,
+            handler: handler,
+        };
+    }
+    let keyboard = handler.keyboard;
+    let places = queue.places;
+    let oldest = places[start];
+    Taken {
+        event: TakenEvent::Event(oldest),
+        handler: KeyboardHandler {
+            keyboard: keyboard,
+            queue: EventQueue {
+                places: places,
+                start: (start + 1) % QUEUE_LENGTH,
+                count: count - 1,
+            },
+        },
+    }
+}
+
+// Puts an event behind those that wait, where there is room.
+fn push(queue: EventQueue, event: KeyEvent) -> EventQueue
+    requires { ⌜ (queue .start < 128) × (queue .count < 128) ⌝ }
+    ensures { λ r. ⌜ r ≡ pushed queue event ⌝ }
+{
+    let start = queue.start;
+    let count = queue.count;
+    let place = (start + count) % QUEUE_LENGTH;
+    let mut places = queue.places;
+    places[place] = event;
+    EventQueue {
+        places: places,
+        start: start,
+        count: count + 1,
+    }
+}
+
+// The flags just after a scancode. A lock goes over at its press; a prefix directly before tells right Control from left.
+fn modifiers_after(keyboard: KeyboardState, scan_code: u8) -> KeyboardModifiers
+    ensures { λ r. ⌜ r .bits ≡ flagsAfter flagTable (stroke «scan_code» (keyboard .prefix)) (keyboard .modifiers .bits) ⌝ }
+{
+    let modifiers = keyboard.modifiers;
+    let control = if keyboard.prefix {
+        KeyboardModifiers::CONTROL_RIGHT
+    } else {
+        KeyboardModifiers::CONTROL_LEFT
+    };
+    match scan_code {
+        0x1D => modifiers.insert(control),
+        0x38 => modifiers.insert(KeyboardModifiers::ALT),
+        0x2A => modifiers.insert(KeyboardModifiers::SHIFT_LEFT),
+        0x36 => modifiers.insert(KeyboardModifiers::SHIFT_RIGHT),
+        0x5B => modifiers.insert(KeyboardModifiers::SUPER_KEY_LEFT),
+        0x5C => modifiers.insert(KeyboardModifiers::SUPER_KEY_RIGHT),
+        0x9D => modifiers.remove(control),
+        0xB8 => modifiers.remove(KeyboardModifiers::ALT),
+        0xAA => modifiers.remove(KeyboardModifiers::SHIFT_LEFT),
+        0xB6 => modifiers.remove(KeyboardModifiers::SHIFT_RIGHT),
+        0xDB => modifiers.remove(KeyboardModifiers::SUPER_KEY_LEFT),
+        0xDC => modifiers.remove(KeyboardModifiers::SUPER_KEY_RIGHT),
+        0x3A => modifiers.toggle(KeyboardModifiers::CAPS_LOCK),
+        0x46 => modifiers.toggle(KeyboardModifiers::SCROLL_LOCK),
+        0x45 => modifiers.toggle(KeyboardModifiers::NUM_LOCK),
+        _ => modifiers,
+    }
+}
+
+// The event of a scancode whose low part is this keycode's number.
+fn event_of(keycode: Keycode, scan_code: u8, modifiers: KeyboardModifiers) -> KeyEvent
+    requires { ⌜ keycodeAt (lowPart «scan_code») ≡ keycode ⌝ }
+    ensures { λ r. ⌜ r ≡ eventOf «scan_code» (modifiers .bits) ⌝ }
+{
+    let action = if scan_code < KEY_RELEASED_OFFSET {
+        KeyAction::Pressed
+    } else {
+        KeyAction::Released
+    };
+    KeyEvent {
+        keycode,
+        action,
+        modifiers,
+    }
+}
+
+// What follows a scancode's lamp exchange, which used and wrote this much: its event is queued, where it has one and there is room.
+fn queue_event(
+    handler: KeyboardHandler,
+    scan_code: u8,
+    modifiers: KeyboardModifiers,
+    lamps_failed: bool,
+    used: usize,
+    pairs: usize,
+) -> Handled
+    requires { ⌜ wellFormed handler ≡ true ⌝ }
+    ensures { λ r. ⌜ r ≡ handledOf (queued handler «scan_code» (modifiers .bits) «lamps_failed») used pairs ⌝ }
+{
+    let queue = handler.queue;
+    let keyboard = KeyboardState {
+        prefix: false,
+        modifiers,
+    };
+    match Keycode::from_byte(scan_code & 0x7F) {
+        FoundKeycode::Found(keycode) => {
+            if QUEUE_LENGTH <= queue.count {
+                return Handled {
+                    answer: HandlerAnswer::QueueFull,
+                    lamps_failed,
+                    used,
+                    pairs,
+                    handler: KeyboardHandler { keyboard, queue },
+                };
+            }
+            let event = event_of(keycode, scan_code, modifiers);
+            let longer = push(queue, event);
+            Handled {
+                answer: HandlerAnswer::Done,
+                lamps_failed,
+                used,
+                pairs,
+                handler: KeyboardHandler {
+                    keyboard,
+                    queue: longer,
+                },
+            }
+        }
+        FoundKeycode::Unknown => Handled {
+            answer: HandlerAnswer::UnknownScancode,
+            lamps_failed,
+            used,
+            pairs,
+            handler: KeyboardHandler { keyboard, queue },
+        },
+    }
+}
+
+// The lamps of the locks that are on.
+fn leds(modifiers: KeyboardModifiers) -> LEDState
+    ensures { λ r. ⌜ r .bits ≡ lampsLit (modifiers .bits) ⌝ }
+{
+    LEDState::new()
+        .with_scroll_lock(modifiers.is_scroll_lock())
+        .with_number_lock(modifiers.is_num_lock())
+        .with_caps_lock(modifiers.is_caps_lock())
+}
+
+// E0 and E1 say that the next byte belongs to an extended key.
+fn is_prefix(scan_code: u8) -> bool
+    ensures { λ r. ⌜ r ≡ isPrefix «scan_code» ⌝ }
+{
+    if scan_code == 0xE0 {
+        return true;
+    }
+    scan_code == 0xE1
+}
+
+// The prefixes, 00 (an error of the port) and FA (an acknowledgement) are no key's.
+fn is_silent(scan_code: u8) -> bool
+    ensures { λ r. ⌜ r ≡ isSilent «scan_code» ⌝ }
+{
+    if is_prefix(scan_code) {
+        return true;
+    }
+    if scan_code == 0x00 {
+        return true;
+    }
+    scan_code == 0xFA
+}
+
+// The press of Caps Lock, Num Lock or Scroll Lock.
+fn is_lock_press(scan_code: u8) -> bool
+    ensures { λ r. ⌜ r ≡ isLockPress «scan_code» ⌝ }
+{
+    match scan_code {
+        0x3A => true,
+        0x45 => true,
+        0x46 => true,
+        _ => false,
+    }
+}
+
+// The press of a lock, with the flags just after it: the lamps are set, then the event is queued whether they could be or not.
+fn lock_pressed(
+    handler: KeyboardHandler,
+    scan_code: u8,
+    modifiers: KeyboardModifiers,
+    script: &[u8],
+    log: &mut [u8],
+) -> Handled
+    requires { ⌜ (wellFormed handler ≡ true) × (isLockPress «scan_code» ≡ true) ⌝ }
+    ensures { λ r. ⌜ (r ≡ handledBy handler (play (onKey keyboardLamps handler «scan_code» (modifiers .bits)) (now (script .entry)) (now (log .entry)))) × (now (log .exit) ≡ play (onKey keyboardLamps handler «scan_code» (modifiers .bits)) (now (script .entry)) (now (log .entry)) .log) ⌝ }
+{
+    let lit = set_keyboard_led(script, log, leds(modifiers));
+    let used = lit.used;
+    let pairs = lit.pairs;
+    let answer = lit.answer;
+    match answer {
+        CommandAnswer::Accepted => queue_event(handler, scan_code, modifiers, false, used, pairs),
+        CommandAnswer::Refused(e) => match e {
+            Refusal::ScriptUsedUp => Handled {
+                answer: HandlerAnswer::NoScriptByte,
+                lamps_failed: false,
+                used,
+                pairs,
+                handler,
+            },
+            Refusal::LogFull => Handled {
+                answer: HandlerAnswer::NoLogRoom,
+                lamps_failed: false,
+                used,
+                pairs,
+                handler,
+            },
+            Refusal::Failed(f) => queue_event(handler, scan_code, modifiers, true, used, pairs),
+        },
+    }
+}
+
+// A scancode that was read.
+fn on_byte(handler: KeyboardHandler, scan_code: u8, script: &[u8], log: &mut [u8]) -> Handled
+    requires { ⌜ wellFormed handler ≡ true ⌝ }
+    ensures { λ r. ⌜ (r ≡ handledBy handler (play (onByte keyboardLamps handler «scan_code») (now (script .entry)) (now (log .entry)))) × (now (log .exit) ≡ play (onByte keyboardLamps handler «scan_code») (now (script .entry)) (now (log .entry)) .log) ⌝ }
+{
+    let keyboard = handler.keyboard;
+    if is_silent(scan_code) {
+        let queue = handler.queue;
+        let modifiers = keyboard.modifiers;
+        let prefix = is_prefix(scan_code);
+        return Handled {
+            answer: HandlerAnswer::Done,
+            lamps_failed: false,
+            used: 0,
+            pairs: 0,
+            handler: KeyboardHandler {
+                keyboard: KeyboardState { prefix, modifiers },
+                queue,
+            },
+        };
+    }
+    let modifiers = modifiers_after(keyboard, scan_code);
+    if is_lock_press(scan_code) {
+        return lock_pressed(handler, scan_code, modifiers, script, log);
+    }
+    queue_event(handler, scan_code, modifiers, false, 0, 0)
+}
+
+// A handler call: one scancode is read without asking the status, and handled.
+pub fn handle(handler: KeyboardHandler, script: &[u8], log: &mut [u8]) -> Handled
+    ensures { λ r. ⌜ (r ≡ handled keyboardLamps handler (now (script .entry)) (now (log .entry))) × (now (log .exit) ≡ logLeft keyboardLamps handler (now (script .entry)) (now (log .entry))) ⌝ }
+{
+    if !well_formed(handler) {
+        return Handled {
+            answer: HandlerAnswer::MalformedRecord,
+            lamps_failed: false,
+            used: 0,
+            pairs: 0,
+            handler,
+        };
+    }
+    let read = read_scancode(script);
+    let used = read.used;
+    let answer = read.answer;
+    match answer {
+        ByteAnswer::Byte(scan_code) => {
+            let after = on_byte(handler, scan_code, &script[used..], log);
+            let answer = after.answer;
+            let handler = after.handler;
+            Handled {
+                answer,
+                lamps_failed: after.lamps_failed,
+                used: used + after.used,
+                pairs: after.pairs,
+                handler,
+            }
+        }
+        ByteAnswer::Refused(e) => Handled {
+            answer: HandlerAnswer::NoScriptByte,
+            lamps_failed: false,
+            used,
+            pairs: 0,
+            handler,
+        },
+    }
 }

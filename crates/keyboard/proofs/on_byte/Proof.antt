@@ -1,0 +1,60 @@
+-- `keyboard::on_byte` meets its contract: a silent byte, the press of a lock, or another key's byte.
+-- Assumes nothing.
+use borrow.Author.Needs.{needs}
+use mathlib.Core.Path.{refl, sym, _∙_}
+use Rattle.keyboard.specs.KeyboardLamps.{keyboardLamps}
+use Rattle.keyboard.proofs.Outcomes.{gives-back, silent-byte, key-byte, no-lamps}
+use Rattle.keyboard.proofs.on_byte.Statement.{statement}
+use Rattle.keyboard.proofs.on_byte.Tie as tie
+
+returns : tie.Need-returns
+returns c =
+    let t = c .before .before .before in
+    let i = t .before in
+    let a = i .before .before .before .before .args in
+    rw (c .is-prefix .ensures)
+    (gives-back (a .handler) _ _ _ (silent-byte keyboardLamps (a .handler) (a .scan-code) _ _ (sym (i .is-silent .ensures) ∙ t .if1 .taken)) refl)
+
+lock-pressed-requires : tie.Need-lock-pressed-requires
+lock-pressed-requires c κs =
+    let t = c .before in
+    let k = t .before in
+    (k .before .before .before .before .before .before .before .pre, sym (k .is-lock-press .ensures) ∙ t .if2 .taken)
+
+returns-2 : tie.Need-returns-2
+returns-2 c =
+    let p = c .before .before in
+    let n = p .before .before .before .before in
+    let t = n .before in
+    let i = t .before in
+    let a = i .before .before .before .before .args in
+    rw (← key-byte keyboardLamps (a .handler) (a .scan-code) (n .modifiers-after .ensures) (sym (i .is-silent .ensures) ∙ t .if1 .left))
+    (p .lock-pressed .ensures)
+
+returns-3 : tie.Need-returns-3
+returns-3 c =
+    let f = c .before in
+    let k = f .before in
+    let n = k .before in
+    let t = n .before in
+    let i = t .before in
+    let a = i .before .before .before .before .args in
+    rw (← key-byte keyboardLamps (a .handler) (a .scan-code) (n .modifiers-after .ensures) (sym (i .is-silent .ensures) ∙ t .if1 .left))
+    (gives-back (a .handler) _ _ _
+    (no-lamps keyboardLamps (a .handler) (a .scan-code) (n .modifiers-after .result .bits) _ _ (sym (k .is-lock-press .ensures) ∙ f .if2 .left))
+    (c .queue-event .ensures))
+
+pub on-byte-spec : {M : Type 1} → statement M
+on-byte-spec =
+    tie.close
+    (tie.spec
+    (λ c κs. search needs)
+    (λ c κs. search needs)
+    returns
+    (λ c κs. search needs)
+    (λ c κs. search needs)
+    lock-pressed-requires
+    (λ c. search needs)
+    returns-2
+    (λ c κs. search needs)
+    returns-3)
