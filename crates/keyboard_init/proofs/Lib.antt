@@ -1,0 +1,3 @@
+-- Laws of keyboard initialisation.
+pub mod Laws
+pub mod Worked

@@ -1,0 +1,2 @@
+-- Keyboard initialisation.
+pub mod KeyboardInit

@@ -1,0 +1,75 @@
+// Keyboard initialisation: the keyboard's type is detected and its scancode set chosen, and the handler starts from a fresh record.
+ghost use mathlib.Core.Path.{_≡_};
+ghost use Rattle.exchange.specs.Exchange.{play, played};
+ghost use Rattle.ps2_keyboard.specs.Answers.{saidType};
+ghost use Rattle.keyboard_init.specs.KeyboardInit.{detection, keyboardInit};
+ghost use Rattle.keyboard.specs.Record.{fresh};
+ghost use Rattle.ps2_ports.specs.Refusals.{saidDone};
+use keyboard::KeyboardHandler;
+use ps2_bytes::ScancodeSet;
+use ps2_command::refusing_as;
+use ps2_keyboard::Detected;
+use ps2_keyboard::TypeAnswer;
+use ps2_keyboard::keyboard_detect;
+use ps2_keyboard::set_keyboard_scancode_set;
+use ps2_ports::Completion;
+use ps2_ports::Failure;
+
+// The handler's record, which is good where the answer is that all was done.
+pub struct KeyboardInitialized {
+    pub answer: Completion,
+    pub handler: KeyboardHandler,
+    pub used: usize,
+    pub pairs: usize,
+}
+
+// Initialises the keyboard.
+pub fn keyboard_init(script: &[u8], log: &mut [u8]) -> KeyboardInitialized
+    ensures { λ r. ⌜ (played (saidDone (r .answer)) (r .used) (r .pairs) (now (log .exit)) ≡ play keyboardInit (now (script .entry)) (now (log .entry))) × (r .handler ≡ fresh) ⌝ }
+{
+    let d = detect_type(script, log);
+    let used = d.used;
+    let pairs = d.pairs;
+    let found = d.answer;
+    match found {
+        TypeAnswer::Recognised(_) => {
+            let at = 2 * pairs;
+            let s = set_keyboard_scancode_set(&script[used..], &mut log[at..], ScancodeSet::Set1);
+            let answer = s.answer;
+            KeyboardInitialized {
+                answer,
+                handler: KeyboardHandler::fresh(),
+                used: used + s.used,
+                pairs: pairs + s.pairs,
+            }
+        }
+        TypeAnswer::Refused(e) => KeyboardInitialized {
+            answer: Completion::Refused(e),
+            handler: KeyboardHandler::fresh(),
+            used,
+            pairs,
+        },
+    }
+}
+
+// Detects the type of the keyboard, with its refusals replaced by one.
+fn detect_type(script: &[u8], log: &mut [u8]) -> Detected
+    ensures { λ r. ⌜ played (saidType (r .answer)) (r .used) (r .pairs) (now (log .exit)) ≡ play detection (now (script .entry)) (now (log .entry)) ⌝ }
+{
+    let d = keyboard_detect(script, log);
+    let used = d.used;
+    let pairs = d.pairs;
+    let found = d.answer;
+    match found {
+        TypeAnswer::Recognised(t) => Detected {
+            answer: TypeAnswer::Recognised(t),
+            used,
+            pairs,
+        },
+        TypeAnswer::Refused(e) => Detected {
+            answer: TypeAnswer::Refused(refusing_as(e, Failure::KeyboardNotDetected)),
+            used,
+            pairs,
+        },
+    }
+}
