@@ -3,4 +3,3 @@ pub mod Codes
 pub mod Set1
 pub mod Modifiers
 pub mod Chars
-pub mod Worked

@@ -6,4 +6,3 @@ pub mod CommandTables
 pub mod ReadBack
 pub mod Leds
 pub mod Length
-pub mod Worked

@@ -9,22 +9,15 @@ use Rattle.exchange.specs.Exchange.{bind, yields, noScript, played, play}
 use Rattle.exchange.specs.Answer.{gives, refuses, andThen, refusingAs}
 use Rattle.exchange.specs.Left.{left, recordAfter}
 use Rattle.exchange.specs.Repeat.{repeat, times}
-use Rattle.ps2_bytes.specs.declared.command.HostToMouseCommand.the-variants.{GetDeviceID}
 use Rattle.ps2_bytes.specs.declared.response.MouseId.the-variants.{Zero, Three, Four}
 use Rattle.ps2_ports.specs.Refusals.{success}
 use Rattle.ps2_ports.specs.Ports.{flushOutputBuffer, writePort}
 use Rattle.ps2_polling.specs.Polling.{sendTry, pollingSend, poll, pollingReceive, pollingSendReceive}
-use Rattle.ps2_command.specs.Command.{accepted, attempt, command, commandToPort2}
+use Rattle.ps2_command.specs.Command.{attempt, command, commandToPort2}
 use Rattle.ps2_command.specs.Search.{pollWhen, selfTestWithin}
 use Rattle.ps2_command.proofs.Runs.{room, fa}
-use Rattle.ps2_mouse.specs.Mouse.{commandToMouse, mouseCommand, resetMouse, setSamplingRate, disablePacketStreaming, enablePacketStreaming, mouseId}
+use Rattle.ps2_mouse.specs.Mouse.{commandToMouse, resetMouse, setSamplingRate, disablePacketStreaming, enablePacketStreaming, mouseId}
 use Rattle.ps2_mouse.specs.Identity.{setRates, secondIdentity, newIdentity, setMouseId}
-
--- document 01's row 13
-pub row-13 : play (mouseCommand GetDeviceID) (0x00 ∷ 0x01 ∷ 0xFE ∷ 0x00 ∷ 0x01 ∷ 0xFA ∷ []) (room 3)
-    ≡ played (yields (gives accepted)) 6 3 (0x64 ∷ 0xD4 ∷ 0x60 ∷ 0xF2 ∷ 0x60 ∷ 0xF2 ∷ [])
-unfolding play bind andThen repeat commandToMouse commandToPort2 writePort command attempt pollingSendReceive pollingSend sendTry pollingReceive poll decode bit odd
-row-13 = refl
 
 -- an AA that accepts FF is not the reset's own; after the reset's own one byte more is read
 pub resets :

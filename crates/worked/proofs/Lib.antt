@@ -1,0 +1,2 @@
+-- Every worked position holds.
+pub mod WorkedPositions

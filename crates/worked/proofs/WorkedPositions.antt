@@ -1,0 +1,48 @@
+-- Document 01's thirteen rows, one table, hold: by computing the definitions of every layer.
+-- Assumes nothing.
+use mathlib.Core.Path.{_≡_, refl}
+use mathlib.Core.Bool.{xor}
+use Prim.Native.Nat.{ℕ}
+use Rattle.bits.specs.Bits.{bit, odd, putBit}
+use Rattle.bits.specs.Table.{decode}
+use Rattle.exchange.specs.Exchange.{bind, play}
+use Rattle.exchange.specs.Answer.{andThen, refusingAs}
+use Rattle.exchange.specs.Repeat.{repeat}
+use Rattle.keycodes_ascii.specs.Characters.{characterOf}
+use Rattle.keycodes_ascii.specs.Keycode.{keycodeOf, numbered, keycodes}
+use Rattle.ps2_ports.specs.Ports.{writePort}
+use Rattle.ps2_polling.specs.Polling.{sendTry, pollingSend, poll, pollingReceive, pollingSendReceive}
+use Rattle.ps2_command.specs.Command.{attempt, command, commandToPort2}
+use Rattle.ps2_keyboard.specs.Keyboard.{commandToKeyboard, setLedBy, setKeyboardLed}
+use Rattle.ps2_mouse.specs.Mouse.{commandToMouse, readMousePacket}
+use Rattle.keyboard.specs.Events.{keycodeAt, eventOf}
+use Rattle.keyboard.specs.FlagTable.{flagTable, flagLimit, isOf, pressesLock}
+use Rattle.keyboard.specs.FlagsAfter.{flagsAfter, flagsThen}
+use Rattle.keyboard.specs.Handler.{queued, lampExchange, onByte, handle, handled, logLeft}
+use Rattle.keyboard.specs.Lamps.{lampsLit}
+use Rattle.keyboard.specs.Queue.{round, pushed}
+use Rattle.keyboard.specs.Record.{wellFormed}
+use Rattle.worked.specs.Holds.{All, all, _&_, RowHolds}
+use Rattle.worked.specs.Table.{table}
+
+-- the same, whatever the first three bytes of a packet are
+whatever : {A : Type 0} {a : A} (b1 b2 b3 : ℕ) → a ≡ a
+whatever b1 b2 b3 = refl
+
+pub worked-positions : All RowHolds table
+unfolding table handled logLeft handle onByte lampExchange queued pushed round eventOf keycodeAt keycodeOf numbered keycodes flagsThen flagsAfter flagTable flagLimit isOf pressesLock lampsLit wellFormed characterOf setKeyboardLed setLedBy commandToKeyboard commandToMouse commandToPort2 readMousePacket writePort command attempt pollingSendReceive pollingSend sendTry pollingReceive poll play bind andThen refusingAs repeat decode bit odd putBit xor
+worked-positions =
+    ((refl & refl & all) & all)
+    & ((refl & refl & all) & all)
+    & ((refl & refl & refl & all) & all)
+    & ((refl & all) & all)
+    & ((refl & all) & all)
+    & ((refl & all) & (refl & all) & all)
+    & ((refl & all) & (refl & all) & (refl & all) & all)
+    & ((refl & all) & all)
+    & (refl & refl & all)
+    & (refl & refl & all)
+    & (whatever & whatever & all)
+    & (refl & refl & all)
+    & (refl & all)
+    & all
