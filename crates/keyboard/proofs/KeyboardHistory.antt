@@ -1,31 +1,36 @@
 -- The history rule and the bounds for the keyboard's own lamp exchange, the one that `handle` makes.
 -- Assumes nothing.
 use Prim.Native.Nat.{ℕ, _≤_}
+use mathlib.Core.Bool.{true}
 use mathlib.Core.List.{List}
+use mathlib.Core.Path.{_≡_}
+use Rattle.exchange.specs.Attains.{Most}
 use Rattle.exchange.specs.Bounds.{Within}
 use Rattle.exchange.proofs.Bounds.{within-used, within-pairs}
-use Rattle.exchange.proofs.Then.{within-then, within-as}
-use Rattle.ps2_command.proofs.Bounds.{within-command}
-use Rattle.ps2_keyboard.specs.Keyboard.{commandToKeyboard, setLedBy, setKeyboardLed}
+use Rattle.ps2_keyboard.proofs.Bounds.{most-setKeyboardLed}
 use Rattle.keyboard.specs.declared.KeyboardHandler.{KeyboardHandler}
 use Rattle.keyboard.specs.Past.{Past}
 use Rattle.keyboard.specs.Counted.{Call}
 use Rattle.keyboard.specs.KeyboardLamps.{keyboardLamps}
+use Rattle.keyboard.specs.Record.{wellFormed}
 use Rattle.keyboard.specs.Handler.{handle, handled}
 use Rattle.keyboard.specs.History.{History}
-use Rattle.keyboard.proofs.Bounds.{within-handle}
+use Rattle.keyboard.proofs.Bounds.{within-handle, most-handle}
 use Rattle.keyboard.proofs.History.{history}
 
 pub keyboard-history : (calls : Past Call) → History keyboardLamps calls
 keyboard-history = history keyboardLamps
 
 -- two commands
-pub within-keyboard-lamps : (lamps : ℕ) → Within 1050600 8 (keyboardLamps lamps)
-unfolding setKeyboardLed setLedBy commandToKeyboard
-within-keyboard-lamps lamps = within-as 14 (within-then (within-command _) (λ _. within-command _))
+most-lamps : (lamps : ℕ) → Most 1050600 8 (keyboardLamps lamps)
+most-lamps lamps = most-setKeyboardLed (record { bits = lamps })
 
 pub within-keyboard-handle : (h : KeyboardHandler) → Within 1050601 8 (handle keyboardLamps h)
-within-keyboard-handle = within-handle keyboardLamps within-keyboard-lamps
+within-keyboard-handle = within-handle keyboardLamps (λ lamps. most-lamps lamps .within)
+
+-- and on every well-formed record a call can take them all
+pub most-keyboard-handle : (h : KeyboardHandler) → wellFormed h ≡ true → Most 1050601 8 (handle keyboardLamps h)
+most-keyboard-handle = most-handle keyboardLamps most-lamps
 
 -- a handler call uses at most 1,050,601 script bytes and writes at most 8 pairs
 pub handled-used : (h : KeyboardHandler) (script log : List ℕ) → handled keyboardLamps h script log .used ≤ 1050601

@@ -3,13 +3,15 @@
 use Prim.{tt}
 use Prim.Native.Nat.{ℕ}
 use mathlib.Core.List.{List, [], _∷_}
-use Rattle.exchange.specs.Bounds.{Within}
+use Rattle.exchange.specs.Answer.{gives}
+use Rattle.exchange.specs.Attains.{Most}
 use Rattle.exchange.specs.Refuses.{Refuses}
-use Rattle.exchange.proofs.Then.{within-then, within-as, refuses-then, refuses-more, refuses-as}
+use Rattle.exchange.proofs.Then.{within-then, attains-then, within-as, attains-as, refuses-then, refuses-more, refuses-as}
 use Rattle.ps2_bytes.specs.declared.data.ScancodeSet.the-variants.{Set1}
+use Rattle.ps2_ports.specs.Refusals.{success}
 use Rattle.ps2_command.proofs.Refuses.{commandAnd}
-use Rattle.ps2_keyboard.specs.Keyboard.{keyboardDetect}
-use Rattle.ps2_keyboard.proofs.Bounds.{most-keyboardDetect, most-setScancodeSet}
+use Rattle.ps2_keyboard.specs.Keyboard.{setScancodeSet, keyboardDetect}
+use Rattle.ps2_keyboard.proofs.Bounds.{attains-setScancodeSet, most-setScancodeSet, attains-keyboardDetect, most-keyboardDetect}
 use Rattle.ps2_keyboard.proofs.Refuses.{refuses-setScancodeSet}
 use Rattle.keyboard_init.specs.KeyboardInit.{detection, keyboardInit}
 
@@ -23,6 +25,12 @@ refuses-keyboardInit =
     refuses-then initRefusals (refuses-more (18 ∷ []) initRefusals tt (refuses-as 18 keyboardDetect))
     (λ _. refuses-more (commandAnd 11) initRefusals tt (refuses-setScancodeSet Set1))
 
-pub within-keyboardInit : Within 4070310 28 keyboardInit
+-- a detection that takes all it can and recognises a type, then a scancode set that takes all it can
+pub most-keyboardInit : Most 4070310 28 keyboardInit
 unfolding keyboardInit detection
-within-keyboardInit = within-then (within-as 18 (most-keyboardDetect .within)) (λ _. most-setScancodeSet Set1 .within)
+most-keyboardInit =
+    record {
+      within = within-then (within-as 18 (most-keyboardDetect .within)) (λ _. most-setScancodeSet Set1 .within);
+      yielded = gives success;
+      attains = attains-then (λ _. setScancodeSet Set1) (attains-as 18 attains-keyboardDetect) (attains-setScancodeSet Set1);
+    }

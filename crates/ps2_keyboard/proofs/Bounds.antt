@@ -95,14 +95,19 @@ attains-getScancodeSet =
 pub most-getScancodeSet : Most 1181670 8 getScancodeSet
 most-getScancodeSet = record { within = within-getScancodeSet; yielded = gives Set.Set1; attains = attains-getScancodeSet }
 
-pub most-setScancodeSet : (set : ScancodeSet) → Most 2232270 16 (setScancodeSet set)
-unfolding setScancodeSet
-most-setScancodeSet set =
-    record {
-      within = within-then (within-commandScancodeSet set) (λ _. within-then within-getScancodeSet (λ _. within-done {r = 0} {w = 0}));
-      yielded = gives success;
-      attains = attains-then _ (attains-commandScancodeSet set) (attains-then (λ _. done (gives success)) attains-getScancodeSet attains-done);
-    }
+module _ (set : ScancodeSet) where
+  pub attains-setScancodeSet : Attains (gives success) 2232270 16 (setScancodeSet set)
+  unfolding setScancodeSet
+  attains-setScancodeSet = attains-then _ (attains-commandScancodeSet set) (attains-then (λ _. done (gives success)) attains-getScancodeSet attains-done)
+
+  pub most-setScancodeSet : Most 2232270 16 (setScancodeSet set)
+  unfolding setScancodeSet
+  most-setScancodeSet =
+      record {
+        within = within-then (within-commandScancodeSet set) (λ _. within-then within-getScancodeSet (λ _. within-done {r = 0} {w = 0}));
+        yielded = gives success;
+        attains = attains-setScancodeSet;
+      }
 
 -- ---- detection
 
@@ -124,6 +129,14 @@ attains-typeSearch =
     (attains-last none (attains-poll firstTurn 1 (omega arith)) 65534 (attains-poll firstTurn 0xAB (omega arith)))
     (attains-last (refuses 12) (attains-poll (listedTurn secondBytes) 1 (omega arith)) 65534 (attains-poll (listedTurn secondBytes) 0x83 (omega arith)))
 
+pub attains-keyboardDetect : Attains (gives MF2Keyboard) 1838040 12 keyboardDetect
+unfolding keyboardDetect
+attains-keyboardDetect =
+    attains-then _ (attains-keyboard (Byte.KeyboardCommand Command.DisableScanning))
+    (attains-then _ (attains-keyboard (Byte.KeyboardCommand Command.IdentifyKeyboard))
+    (attains-bind _ attains-typeSearch
+    (attains-then (λ _. done (gives MF2Keyboard)) (attains-keyboard (Byte.KeyboardCommand Command.EnableScanning)) attains-done)))
+
 pub most-keyboardDetect : Most 1838040 12 keyboardDetect
 unfolding keyboardDetect
 most-keyboardDetect =
@@ -134,11 +147,7 @@ most-keyboardDetect =
           (λ _. within-bind within-typeSearch
           (λ _. within-then (within-keyboard (Byte.KeyboardCommand Command.EnableScanning)) (λ _. within-done {r = 0} {w = 0}))));
       yielded = gives MF2Keyboard;
-      attains =
-          attains-then _ (attains-keyboard (Byte.KeyboardCommand Command.DisableScanning))
-          (attains-then _ (attains-keyboard (Byte.KeyboardCommand Command.IdentifyKeyboard))
-          (attains-bind _ attains-typeSearch
-          (attains-then (λ _. done (gives MF2Keyboard)) (attains-keyboard (Byte.KeyboardCommand Command.EnableScanning)) attains-done)));
+      attains = attains-keyboardDetect;
     }
 
 -- ---- one byte
