@@ -33,9 +33,9 @@ use ps2_ports::write_config;
 
 // What is known of the controller: whether it was initialised, and which devices passed their reset then.
 pub struct PS2Controller {
-    initialized: bool,
-    keyboard_attached: bool,
-    mouse_attached: bool,
+    pub initialized: bool,
+    pub keyboard_attached: bool,
+    pub mouse_attached: bool,
 }
 
 // The keyboard, where one is attached.

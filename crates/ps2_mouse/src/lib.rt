@@ -50,7 +50,7 @@ const RESET_READS: u32 = 196605;
 
 // The mouse as its record says it is. A mouse's packets go by its identity.
 pub struct PS2Mouse {
-    id: MouseId,
+    pub id: MouseId,
 }
 
 // Whether the mouse has a byte to read.
