@@ -1,0 +1,529 @@
+//! A call line of the trace format (tests/traces/README.md), read and written.
+
+use std::fmt::{self, Write};
+
+/// What stands in a call line.
+#[derive(Clone, Debug, PartialEq)]
+pub struct Call {
+    pub op: Op,
+    pub script: Vec<u8>,
+    /// Room of the log, in bytes; for a handler line the room of each call.
+    pub room: usize,
+    /// How often the call is made, each time from the same state.
+    pub repeat: u64,
+}
+
+#[derive(Clone, Debug, PartialEq)]
+pub enum Op {
+    Init(Controller),
+    ControllerTest,
+    TestPort1,
+    TestPort2,
+    ReadConfig,
+    WriteConfig(u8),
+    PollingSend(u8),
+    PollingReceive,
+    Keyboard(KeyboardOp),
+    /// A mouse operation, with the mouse's identity where the line gives one.
+    Mouse(MouseOp, Option<u8>),
+    KeyboardInit,
+    Handle(Handler, Vec<Step>),
+    ToAscii(u8, u16),
+}
+
+#[derive(Clone, Copy, Debug, PartialEq)]
+pub enum KeyboardOp {
+    Command(u8),
+    DataSet(u8),
+    DataLed(u8),
+    Reset,
+    SetLed(u8),
+    SetScancodeSet(u8),
+    GetScancodeSet,
+    Detect,
+}
+
+#[derive(Clone, Copy, Debug, PartialEq)]
+pub enum MouseOp {
+    Command(u8),
+    DataRate(u8),
+    DataResolution(u8),
+    Reset,
+    Enable,
+    Disable,
+    SetSamplingRate(u8),
+    Resolution(u8),
+    Id,
+    SetId,
+    ReadPacket,
+}
+
+#[derive(Clone, Copy, Debug, Default, PartialEq)]
+pub struct Controller {
+    pub init: bool,
+    pub kbd: bool,
+    pub mouse: bool,
+}
+
+/// The handler's record, with the flags in document 01's numbering.
+#[derive(Clone, Debug, Default, PartialEq)]
+pub struct Handler {
+    pub ext: bool,
+    pub flags: u16,
+    pub queue: Vec<KeyEvent>,
+}
+
+#[derive(Clone, Copy, Debug, PartialEq)]
+pub struct KeyEvent {
+    pub keycode: u8,
+    pub released: bool,
+    pub flags: u16,
+}
+
+/// A part of a handler line's plan.
+#[derive(Clone, Copy, Debug, PartialEq)]
+pub enum Step {
+    /// Handler calls until the script is used.
+    Auto,
+    /// A handler call and a taking in turn, until the script is used.
+    Each,
+    Handle(u32),
+    Take(u32),
+}
+
+pub const KEYBOARD_COMMANDS: [u8; 8] = [0xED, 0xF0, 0xF2, 0xF3, 0xF4, 0xF5, 0xFE, 0xFF];
+pub const MOUSE_COMMANDS: [u8; 15] =
+    [0xE6, 0xE8, 0xE9, 0xEA, 0xEB, 0xEC, 0xEE, 0xF0, 0xF2, 0xF3, 0xF4, 0xF5, 0xF6, 0xFE, 0xFF];
+pub const RATES: [u8; 7] = [10, 20, 40, 60, 80, 100, 200];
+pub const LAST_KEYCODE: u8 = 0x5D;
+pub const ALL_FLAGS: u16 = 0x3FF;
+pub const QUEUE_PLACES: usize = 128;
+
+/// A line that asks for no answer: empty, a comment, or an answer.
+pub fn is_skipped(line: &str) -> bool {
+    line.trim().is_empty() || line.starts_with('#') || line.starts_with("out=")
+}
+
+pub fn parse(line: &str) -> Result<Call, String> {
+    let mut words = line.split_ascii_whitespace().peekable();
+    let name = words.next().ok_or("an empty line")?;
+    let mut args = Vec::new();
+    while let Some(word) = words.next_if(|word| !word.contains('=')) {
+        args.push(word);
+    }
+    let (mut script, mut room, mut state, mut plan, mut repeat) = (None, None, None, None, None);
+    for word in words {
+        let (key, value) = word.split_once('=').ok_or_else(|| format!("'{word}' is not key=value"))?;
+        let field = match key {
+            "script" => &mut script,
+            "log" => &mut room,
+            "state" => &mut state,
+            "plan" => &mut plan,
+            "repeat" => &mut repeat,
+            _ => return Err(format!("there is no field '{key}='")),
+        };
+        if field.replace(value).is_some() {
+            return Err(format!("the field '{key}=' comes twice"));
+        }
+    }
+    let op = parse_op(name, &args, state, plan)?;
+    if !matches!(op, Op::ToAscii(..)) {
+        script.ok_or("the field 'script=' is missing")?;
+        room.ok_or("the field 'log=' is missing")?;
+    }
+    Ok(Call {
+        op,
+        script: script.map_or(Ok(Vec::new()), parse_script)?,
+        room: room.map_or(Ok(0), decimal)? as usize,
+        repeat: repeat.map_or(Ok(1), decimal)?,
+    })
+}
+
+fn parse_op(name: &str, args: &[&str], state: Option<&str>, plan: Option<&str>) -> Result<Op, String> {
+    let count = |n: usize| match args.len() == n {
+        true => Ok(()),
+        false => Err(format!("{name} takes {n} arguments, not {}", args.len())),
+    };
+    // An operation's one argument: a hexadecimal byte of a list, or a decimal number.
+    let one_hex = |allowed: &[u8]| -> Result<u8, String> {
+        count(1)?;
+        let byte = hex(args[0], 2)? as u8;
+        if allowed.is_empty() || allowed.contains(&byte) { Ok(byte) } else { Err(format!("{name} knows no {}", args[0])) }
+    };
+    let one_decimal = |allowed: &[u8]| -> Result<u8, String> {
+        count(1)?;
+        let number = decimal(args[0])?;
+        allowed.iter().copied().find(|&a| a as u64 == number).ok_or_else(|| format!("{name} knows no {}", args[0]))
+    };
+    let none = |op: Op| count(0).map(|()| op);
+    let sets = [0, 1, 2, 3];
+    let lamps = [0, 1, 2, 3, 4, 5, 6, 7];
+
+    use KeyboardOp as K;
+    use MouseOp as M;
+    let keyboard = |op: K| Ok(Op::Keyboard(op));
+    let mouse = |op: M| Ok(Op::Mouse(op, parse_identity(state)?));
+    let op = match name {
+        "init" => none(Op::Init(parse_controller(state)?)),
+        "controller_test" => none(Op::ControllerTest),
+        "test_port1" => none(Op::TestPort1),
+        "test_port2" => none(Op::TestPort2),
+        "read_config" => none(Op::ReadConfig),
+        "write_config" => Ok(Op::WriteConfig(one_hex(&[])?)),
+        "polling_send" => Ok(Op::PollingSend(one_decimal(&sets)?)),
+        "polling_receive" => none(Op::PollingReceive),
+        "keyboard_command" => keyboard(K::Command(one_hex(&KEYBOARD_COMMANDS)?)),
+        "keyboard_data_set" => keyboard(K::DataSet(one_decimal(&sets)?)),
+        "keyboard_data_led" => keyboard(K::DataLed(one_decimal(&lamps)?)),
+        "keyboard_reset" => none(Op::Keyboard(K::Reset)),
+        "set_keyboard_led" => keyboard(K::SetLed(one_decimal(&lamps)?)),
+        "set_keyboard_scancode_set" => keyboard(K::SetScancodeSet(one_decimal(&sets)?)),
+        "get_keyboard_scancode_set" => none(Op::Keyboard(K::GetScancodeSet)),
+        "keyboard_detect" => none(Op::Keyboard(K::Detect)),
+        "mouse_command" => mouse(M::Command(one_hex(&MOUSE_COMMANDS)?)),
+        "mouse_data_rate" => mouse(M::DataRate(one_decimal(&RATES)?)),
+        "mouse_data_resolution" => mouse(M::DataResolution(one_decimal(&sets)?)),
+        "mouse_reset" => count(0).and_then(|()| mouse(M::Reset)),
+        "mouse_enable" => count(0).and_then(|()| mouse(M::Enable)),
+        "mouse_disable" => count(0).and_then(|()| mouse(M::Disable)),
+        "set_mouse_sampling_rate" => mouse(M::SetSamplingRate(one_decimal(&RATES)?)),
+        "mouse_resolution" => mouse(M::Resolution(one_decimal(&sets)?)),
+        "mouse_id" => count(0).and_then(|()| mouse(M::Id)),
+        "set_mouse_id" => count(0).and_then(|()| mouse(M::SetId)),
+        "read_mouse_packet" => count(0).and_then(|()| mouse(M::ReadPacket)),
+        "keyboard_init" => none(Op::KeyboardInit),
+        "handle" => none(Op::Handle(parse_handler(state)?, parse_plan(plan.unwrap_or("auto"))?)),
+        "to_ascii" => {
+            count(2)?;
+            let keycode = hex(args[0], 2)? as u8;
+            if keycode > LAST_KEYCODE {
+                return Err(format!("{} is no keycode", args[0]));
+            }
+            Ok(Op::ToAscii(keycode, parse_flags(args[1])?))
+        }
+        _ => return Err(format!("there is no operation '{name}'")),
+    }?;
+    if plan.is_some() && !matches!(op, Op::Handle(..)) {
+        return Err(format!("{name} takes no plan"));
+    }
+    if state.is_some() && !matches!(op, Op::Handle(..) | Op::Mouse(..) | Op::Init(..)) {
+        return Err(format!("{name} takes no state"));
+    }
+    Ok(op)
+}
+
+fn decimal(text: &str) -> Result<u64, String> {
+    text.parse().map_err(|_| format!("'{text}' is no decimal number"))
+}
+
+fn hex(text: &str, digits: usize) -> Result<u16, String> {
+    let good = text.len() == digits && text.bytes().all(|b| b.is_ascii_hexdigit());
+    if !good {
+        return Err(format!("'{text}' is not {digits} hexadecimal digits"));
+    }
+    Ok(u16::from_str_radix(text, 16).unwrap())
+}
+
+/// Parts joined by commas, each perhaps repeated: 0001FA*4,02*255. `-` is empty.
+fn parse_script(text: &str) -> Result<Vec<u8>, String> {
+    let mut script = Vec::new();
+    if text == "-" || text.is_empty() {
+        return Ok(script);
+    }
+    for part in text.split(',') {
+        let (digits, times) = part.split_once('*').unwrap_or((part, "1"));
+        if digits.is_empty() || digits.len() % 2 == 1 || !digits.is_ascii() {
+            return Err(format!("'{digits}' is not pairs of hexadecimal digits"));
+        }
+        let bytes = digits.as_bytes().chunks(2).map(|pair| Ok(hex(std::str::from_utf8(pair).unwrap(), 2)? as u8));
+        let bytes = bytes.collect::<Result<Vec<u8>, String>>()?;
+        for _ in 0..decimal(times)? {
+            script.extend(&bytes);
+        }
+    }
+    Ok(script)
+}
+
+/// The pairs `key:value` of a state.
+fn pairs(state: Option<&str>) -> impl Iterator<Item = Result<(&str, &str), String>> {
+    let parts = state.into_iter().flat_map(|s| s.split(','));
+    parts.map(|part| part.split_once(':').ok_or_else(|| format!("'{part}' of the state is not key:value")))
+}
+
+fn bit(text: &str) -> Result<bool, String> {
+    match text {
+        "0" => Ok(false),
+        "1" => Ok(true),
+        _ => Err(format!("'{text}' is neither 0 nor 1")),
+    }
+}
+
+fn parse_controller(state: Option<&str>) -> Result<Controller, String> {
+    let mut controller = Controller::default();
+    for pair in pairs(state) {
+        match pair? {
+            ("init", v) => controller.init = bit(v)?,
+            ("kbd", v) => controller.kbd = bit(v)?,
+            ("mouse", v) => controller.mouse = bit(v)?,
+            (key, _) => return Err(format!("a controller's state has no '{key}'")),
+        }
+    }
+    Ok(controller)
+}
+
+fn parse_identity(state: Option<&str>) -> Result<Option<u8>, String> {
+    let mut identity = None;
+    for pair in pairs(state) {
+        identity = match pair? {
+            ("id", "0") => Some(0),
+            ("id", "3") => Some(3),
+            ("id", "4") => Some(4),
+            (key, v) => return Err(format!("'{key}:{v}' is no mouse's state")),
+        };
+    }
+    Ok(identity)
+}
+
+fn parse_flags(text: &str) -> Result<u16, String> {
+    match hex(text, 3)? {
+        flags if flags <= ALL_FLAGS => Ok(flags),
+        _ => Err(format!("flags {text}: the Rust has no record with a flag above bit 9")),
+    }
+}
+
+fn parse_handler(state: Option<&str>) -> Result<Handler, String> {
+    let mut handler = Handler::default();
+    for pair in pairs(state) {
+        match pair? {
+            ("ext", v) => handler.ext = bit(v)?,
+            ("flags", v) => handler.flags = parse_flags(v)?,
+            ("queue", "-") => {}
+            ("queue", v) => {
+                for part in v.split(';') {
+                    let (event, times) = part.split_once('*').unwrap_or((part, "1"));
+                    let (event, times) = (parse_event(event)?, decimal(times)? as usize);
+                    if handler.queue.len() + times > QUEUE_PLACES {
+                        return Err(format!("the Rust has no queue of more than {QUEUE_PLACES} events"));
+                    }
+                    handler.queue.extend(vec![event; times]);
+                }
+            }
+            (key, _) => return Err(format!("a handler's state has no '{key}'")),
+        }
+    }
+    Ok(handler)
+}
+
+fn parse_event(text: &str) -> Result<KeyEvent, String> {
+    let bad = || format!("'{text}' is no event");
+    if text.len() != 6 || !text.is_ascii() {
+        return Err(bad());
+    }
+    let released = match &text[2..3] {
+        "P" => false,
+        "R" => true,
+        _ => return Err(bad()),
+    };
+    let keycode = hex(&text[..2], 2)? as u8;
+    if keycode > LAST_KEYCODE {
+        return Err(bad());
+    }
+    Ok(KeyEvent { keycode, released, flags: parse_flags(&text[3..])? })
+}
+
+fn parse_plan(text: &str) -> Result<Vec<Step>, String> {
+    let step = |part: &str| {
+        let (letter, times) = part.split_once('*').unwrap_or((part, "1"));
+        let times = decimal(times)? as u32;
+        match letter {
+            "h" => Ok(Step::Handle(times)),
+            "t" => Ok(Step::Take(times)),
+            _ => Err(format!("'{part}' is no part of a plan")),
+        }
+    };
+    match text {
+        "auto" => Ok(vec![Step::Auto]),
+        "each" => Ok(vec![Step::Each]),
+        _ => text.split(',').map(step).collect(),
+    }
+}
+
+/// Bytes as hexadecimal digits; none as `-`.
+pub fn push_hex(out: &mut String, bytes: &[u8]) {
+    const DIGITS: &[u8; 16] = b"0123456789ABCDEF";
+    if bytes.is_empty() {
+        out.push('-');
+    }
+    for byte in bytes {
+        out.push(DIGITS[(byte >> 4) as usize] as char);
+        out.push(DIGITS[(byte & 15) as usize] as char);
+    }
+}
+
+/// A script with its long runs of one byte, or of two in turn, as `XX*N` and `XXYY*N`.
+fn push_script(out: &mut String, script: &[u8]) {
+    const LONG: usize = 12;
+    if script.is_empty() {
+        return out.push('-');
+    }
+    let (mut plain, mut at) = (0, 0);
+    let mut first = true;
+    let mut part = |out: &mut String, bytes: &[u8], times: usize| {
+        if !bytes.is_empty() {
+            if !std::mem::take(&mut first) {
+                out.push(',');
+            }
+            push_hex(out, bytes);
+            if times > 1 {
+                write!(out, "*{times}").unwrap();
+            }
+        }
+    };
+    while at < script.len() {
+        let run = |width: usize| match script.get(at..at + width) {
+            Some(unit) => 1 + script[at + width..].chunks(width).take_while(|&chunk| chunk == unit).count(),
+            None => 0,
+        };
+        let width = if run(1) >= LONG { 1 } else { 2 };
+        let times = run(width);
+        if times < LONG {
+            at += 1;
+            continue;
+        }
+        part(out, &script[plain..at], 1);
+        part(out, &script[at..at + width], times);
+        at += width * times;
+        plain = at;
+    }
+    part(out, &script[plain..], 1);
+}
+
+impl fmt::Display for KeyEvent {
+    fn fmt(&self, f: &mut fmt::Formatter) -> fmt::Result {
+        write!(f, "{:02X}{}{:03X}", self.keycode, if self.released { 'R' } else { 'P' }, self.flags)
+    }
+}
+
+impl fmt::Display for Controller {
+    fn fmt(&self, f: &mut fmt::Formatter) -> fmt::Result {
+        write!(f, "init:{},kbd:{},mouse:{}", self.init as u8, self.kbd as u8, self.mouse as u8)
+    }
+}
+
+impl fmt::Display for Handler {
+    fn fmt(&self, f: &mut fmt::Formatter) -> fmt::Result {
+        write!(f, "ext:{},flags:{:03X},queue:", self.ext as u8, self.flags)?;
+        for (i, event) in self.queue.iter().enumerate() {
+            write!(f, "{}{event}", if i == 0 { "" } else { ";" })?;
+        }
+        if self.queue.is_empty() { f.write_str("-") } else { Ok(()) }
+    }
+}
+
+impl Op {
+    pub fn name(&self) -> &'static str {
+        match self {
+            Op::Init(_) => "init",
+            Op::ControllerTest => "controller_test",
+            Op::TestPort1 => "test_port1",
+            Op::TestPort2 => "test_port2",
+            Op::ReadConfig => "read_config",
+            Op::WriteConfig(_) => "write_config",
+            Op::PollingSend(_) => "polling_send",
+            Op::PollingReceive => "polling_receive",
+            Op::Keyboard(op) => match op {
+                KeyboardOp::Command(_) => "keyboard_command",
+                KeyboardOp::DataSet(_) => "keyboard_data_set",
+                KeyboardOp::DataLed(_) => "keyboard_data_led",
+                KeyboardOp::Reset => "keyboard_reset",
+                KeyboardOp::SetLed(_) => "set_keyboard_led",
+                KeyboardOp::SetScancodeSet(_) => "set_keyboard_scancode_set",
+                KeyboardOp::GetScancodeSet => "get_keyboard_scancode_set",
+                KeyboardOp::Detect => "keyboard_detect",
+            },
+            Op::Mouse(op, _) => match op {
+                MouseOp::Command(_) => "mouse_command",
+                MouseOp::DataRate(_) => "mouse_data_rate",
+                MouseOp::DataResolution(_) => "mouse_data_resolution",
+                MouseOp::Reset => "mouse_reset",
+                MouseOp::Enable => "mouse_enable",
+                MouseOp::Disable => "mouse_disable",
+                MouseOp::SetSamplingRate(_) => "set_mouse_sampling_rate",
+                MouseOp::Resolution(_) => "mouse_resolution",
+                MouseOp::Id => "mouse_id",
+                MouseOp::SetId => "set_mouse_id",
+                MouseOp::ReadPacket => "read_mouse_packet",
+            },
+            Op::KeyboardInit => "keyboard_init",
+            Op::Handle(..) => "handle",
+            Op::ToAscii(..) => "to_ascii",
+        }
+    }
+
+    /// The arguments, each with a blank before it.
+    fn push_args(&self, out: &mut String) {
+        use KeyboardOp as K;
+        use MouseOp as M;
+        match *self {
+            Op::WriteConfig(byte) | Op::Keyboard(K::Command(byte)) | Op::Mouse(M::Command(byte), _) => {
+                write!(out, " {byte:02X}").unwrap()
+            }
+            Op::PollingSend(n)
+            | Op::Keyboard(K::DataSet(n) | K::DataLed(n) | K::SetLed(n) | K::SetScancodeSet(n))
+            | Op::Mouse(M::DataRate(n) | M::DataResolution(n) | M::SetSamplingRate(n) | M::Resolution(n), _) => {
+                write!(out, " {n}").unwrap()
+            }
+            Op::ToAscii(keycode, flags) => write!(out, " {keycode:02X} {flags:03X}").unwrap(),
+            _ => {}
+        }
+    }
+}
+
+impl Call {
+    /// The call as a line; `parse` gives the call back.
+    pub fn line(&self) -> String {
+        let mut out = String::with_capacity(64 + 2 * self.script.len().min(1000));
+        out += self.op.name();
+        self.op.push_args(&mut out);
+        match &self.op {
+            Op::Init(controller) if *controller != Controller::default() => write!(out, " state={controller}").unwrap(),
+            Op::Mouse(_, Some(id)) => write!(out, " state=id:{id}").unwrap(),
+            Op::Handle(handler, _) if *handler != Handler::default() => write!(out, " state={handler}").unwrap(),
+            _ => {}
+        }
+        if !matches!(self.op, Op::ToAscii(..)) {
+            out += " script=";
+            push_script(&mut out, &self.script);
+            write!(out, " log={}", self.room).unwrap();
+        }
+        if let Op::Handle(_, plan) = &self.op {
+            push_plan(&mut out, plan);
+        }
+        if self.repeat != 1 {
+            write!(out, " repeat={}", self.repeat).unwrap();
+        }
+        out
+    }
+}
+
+fn push_plan(out: &mut String, plan: &[Step]) {
+    if plan == [Step::Auto] {
+        return;
+    }
+    *out += " plan=";
+    for (i, step) in plan.iter().enumerate() {
+        if i > 0 {
+            out.push(',');
+        }
+        let (letter, times) = match *step {
+            Step::Auto => ("auto", 1),
+            Step::Each => ("each", 1),
+            Step::Handle(times) => ("h", times),
+            Step::Take(times) => ("t", times),
+        };
+        *out += letter;
+        if times != 1 {
+            write!(out, "*{times}").unwrap();
+        }
+    }
+}

@@ -1,0 +1,477 @@
+//! The Rust's answer to a call: its records are set, its function is called over the ports' stand-in, and what it
+//! answers and leaves is written in the trace format.
+
+use crate::call::*;
+use event_types::Event;
+use keycodes_ascii::{KeyAction, KeyboardModifiers as Flags, Keycode};
+use port_io::{wire, Lack};
+use ps2::*;
+use std::fmt::Write;
+use std::hint::black_box;
+use std::panic::{catch_unwind, resume_unwind, AssertUnwindSafe};
+
+/// Document 01's number for each text with which the Rust fails.
+const NUMBERS: [(&str, u8); 23] = [
+    ("The PS/2 Controller has already been initialized once.", 1),
+    ("polling_send timeout value exceeded", 4),
+    ("polling_receive timeout value exceeded", 5),
+    ("failed self-test on reset", 6),
+    ("keyboard doesn't support the command or there has been a hardware failure", 7),
+    ("mouse doesn't support the command or there has been a hardware failure", 7),
+    ("failed PS/2 controller test", 8),
+    ("failed PS/2 port test", 9),
+    ("failed both PS/2 port tests, terminating PS/2 controller driver", 9),
+    ("failed to reset keyboard", 10),
+    ("failed to reset mouse", 10),
+    ("failed to get scancode set: timeout exceeded", 11),
+    ("failed to get mouse id: bad response", 11),
+    ("unrecognized keyboard type", 12),
+    ("failed to set the keyboard led", 14),
+    ("failed to set the mouse sampling rate", 15),
+    ("failed to set the mouse resolution", 15),
+    ("failed to disable mouse streaming", 16),
+    ("failed to enable mouse streaming", 17),
+    ("Failed to detect the PS/2 keyboard type", 18),
+    // its one panic
+    ("assertion failed: id == MouseId::Zero", 13),
+    // as the interrupt handler logs them
+    ("ps2_keyboard_handler: error handling PS2_PORT input: \"unknown keyboard scancode\"", 19),
+    ("ps2_keyboard_handler: error handling PS2_PORT input: \"keyboard input queue is full\"", 20),
+];
+
+fn number_of(text: &str) -> Option<u8> {
+    NUMBERS.iter().find(|(known, _)| *known == text).map(|&(_, number)| number)
+}
+
+/// The Rust's flags in the order of document 01's numbers.
+const FLAGS: [Flags; 10] = [
+    Flags::SHIFT_LEFT,
+    Flags::SHIFT_RIGHT,
+    Flags::CONTROL_LEFT,
+    Flags::CONTROL_RIGHT,
+    Flags::ALT,
+    Flags::SUPER_KEY_LEFT,
+    Flags::SUPER_KEY_RIGHT,
+    Flags::CAPS_LOCK,
+    Flags::NUM_LOCK,
+    Flags::SCROLL_LOCK,
+];
+
+fn to_flags(number: u16) -> Flags {
+    let mut flags = Flags::new();
+    for (bit, flag) in FLAGS.into_iter().enumerate() {
+        if number >> bit & 1 == 1 {
+            flags.insert(flag);
+        }
+    }
+    flags
+}
+
+fn from_flags(flags: Flags) -> u16 {
+    FLAGS.iter().enumerate().map(|(bit, flag)| (flags.intersects(*flag) as u16) << bit).sum()
+}
+
+impl KeyEvent {
+    fn to_rust(self) -> Event {
+        let action = if self.released { KeyAction::Released } else { KeyAction::Pressed };
+        let keycode = self.keycode.try_into().unwrap();
+        Event::new_keyboard_event(keycodes_ascii::KeyEvent::new(keycode, action, to_flags(self.flags)))
+    }
+
+    fn of_rust(Event(event): &Event) -> KeyEvent {
+        KeyEvent {
+            keycode: event.keycode as u8,
+            released: event.action == KeyAction::Released,
+            flags: from_flags(event.modifiers),
+        }
+    }
+
+    /// The character that the Rust gives an event.
+    pub fn ascii(self) -> Option<char> {
+        Keycode::try_from(self.keycode).unwrap().to_ascii(to_flags(self.flags))
+    }
+}
+
+/// How a call of the Rust ended: 0, or the number of its refusal.
+type End = u8;
+
+/// Runs a call of the Rust on the script from its start. A lack ends it with 2 or 3, a panic with its number.
+fn run<T>(room: usize, call: impl FnOnce() -> Result<T, &'static str>) -> (End, Option<T>) {
+    wire().begin(0, room, true);
+    match catch_unwind(AssertUnwindSafe(call)) {
+        Ok(Ok(value)) => (0, Some(value)),
+        Ok(Err(text)) => (number_of(text).unwrap_or_else(|| panic!("a text without a number: {text}")), None),
+        Err(payload) if payload.is::<Lack>() => (wire().lack, None),
+        Err(payload) => match payload.downcast_ref::<&str>().and_then(|text| number_of(text)) {
+            Some(number) => (number, None),
+            None => resume_unwind(payload),
+        },
+    }
+}
+
+/// What a port operation answers beside its end.
+enum Value {
+    Nothing,
+    Byte(u8),
+    Keyboard(KeyboardType),
+    Packet(MousePacket),
+    Character(Option<char>),
+}
+
+impl Value {
+    fn byte((end, byte): (End, Option<u8>)) -> (End, Value) {
+        (end, byte.map_or(Value::Nothing, Value::Byte))
+    }
+
+    fn push(&self, out: &mut String) {
+        match self {
+            Value::Nothing => Ok(()),
+            Value::Byte(byte) => write!(out, " val={byte:02X}"),
+            Value::Keyboard(KeyboardType::AncientATKeyboard) => write!(out, " val=ancient"),
+            Value::Keyboard(KeyboardType::MF2KeyboardWithPSControllerTranslator) => write!(out, " val=translated"),
+            Value::Keyboard(KeyboardType::MF2Keyboard) => write!(out, " val=plain"),
+            Value::Packet(p) => write!(
+                out,
+                " val=left:{},right:{},middle:{},one:{},x:{},y:{},wheel:{},b4:{},b5:{}",
+                p.button_left() as u8,
+                p.button_right() as u8,
+                p.button_middle() as u8,
+                p.always_one(),
+                p.x_movement(),
+                p.y_movement(),
+                p.scroll_movement(),
+                p.button_4() as u8,
+                p.button_5() as u8,
+            ),
+            Value::Character(Some(character)) => write!(out, " val={}", *character as u32),
+            Value::Character(None) => write!(out, " val=-"),
+        }
+        .unwrap()
+    }
+}
+
+/// The record that a port operation leaves.
+enum Record {
+    Nothing,
+    Controller(Controller),
+    Mouse(u8),
+    Handler,
+    NoHandler,
+}
+
+/// One call of a handler line.
+pub enum Done {
+    Handled { used: usize, log: Vec<u8>, end: End, lamps_failed: bool },
+    Taken(Option<KeyEvent>),
+}
+
+impl Done {
+    fn lacks(&self) -> bool {
+        matches!(self, Done::Handled { end: 2 | 3, .. })
+    }
+
+    fn push(&self, out: &mut String) {
+        match self {
+            Done::Handled { used, log, end, lamps_failed } => {
+                write!(out, "h:{used}:{}:", log.len() / 2).unwrap();
+                push_hex(out, log);
+                match end {
+                    0 => *out += ":ok",
+                    number => write!(out, ":{number}").unwrap(),
+                }
+                if *lamps_failed {
+                    *out += "+14";
+                }
+            }
+            Done::Taken(Some(event)) => write!(out, "t:{event}").unwrap(),
+            Done::Taken(None) => *out += "t:none",
+        }
+    }
+}
+
+/// A keyboard that answers every step of keyboard initialisation.
+const GOOD_KEYBOARD: [u8; 27] = [
+    0, 1, 0xFA, 0, 1, 0xFA, 1, 0xAB, 1, 0x83, 0, 1, 0xFA, 0, 1, 0xFA, 0, 1, 0xFA, 0, 1, 0xFA, 0, 1, 0xFA, 1, 1,
+];
+
+/// The Rust, one to a process: its records are statics.
+pub struct Oracle {
+    /// The controller through which devices are called: only its ports count.
+    controller: &'static PS2Controller,
+    /// The queue that the handler was given.
+    queue: mpmc::Queue<Event>,
+    /// Whether the handler is registered: a keyboard initialisation that fails leaves none.
+    registered: bool,
+}
+
+impl Oracle {
+    pub fn new() -> Oracle {
+        // The one panic of the Rust is an answer here, and says nothing.
+        std::panic::set_hook(Box::new(|info| {
+            if info.payload().downcast_ref::<&str>().and_then(|text| number_of(text)).is_none() {
+                eprintln!("{info}");
+            }
+        }));
+        let controller = Box::leak(Box::new(reach::controller(true, true)));
+        Oracle { controller, queue: mpmc::Queue::new(), registered: false }
+    }
+
+    /// The answer to a call, as a line.
+    pub fn answer(&mut self, call: &Call) -> String {
+        if let Op::Handle(handler, plan) = &call.op {
+            return self.answer_handle(call, handler, plan);
+        }
+        if call.op == Op::KeyboardInit {
+            self.set(&Handler::default());
+        }
+        wire().script.clone_from(&call.script);
+        let mut done = self.port_operation(&call.op, call.room);
+        for _ in 1..call.repeat {
+            done = self.port_operation(&call.op, call.room);
+        }
+
+        let (end, value, record) = done;
+        let mut out = match end {
+            0 => "out=ok".to_string(),
+            number => format!("out=refused:{number}"),
+        };
+        write!(out, " used={} wrote={} log=", wire().at, wire().log.len() / 2).unwrap();
+        push_hex(&mut out, &wire().log);
+        value.push(&mut out);
+        out += " rec=";
+        match record {
+            Record::Nothing => out.push('-'),
+            Record::Controller(controller) => write!(out, "{controller}").unwrap(),
+            Record::Mouse(id) => write!(out, "id:{id}").unwrap(),
+            Record::Handler => write!(out, "{}", self.record()).unwrap(),
+            Record::NoHandler => out += "none",
+        }
+        out
+    }
+
+    fn port_operation(&mut self, op: &Op, room: usize) -> (End, Value, Record) {
+        let c = self.controller;
+        let no_value = |(end, _)| (end, Value::Nothing);
+        let mut record = Record::Nothing;
+        let (end, value) = match *op {
+            Op::Init(state) => {
+                reach::set_controller(state.init.then(|| reach::controller(state.kbd, state.mouse)));
+                let (end, _) = run(room, || ps2::init());
+                // The Rust has no record of a controller that is not initialised.
+                let left = reach::attached().map(|(kbd, mouse)| Controller { init: true, kbd, mouse });
+                record = Record::Controller(left.unwrap_or(state));
+                (end, Value::Nothing)
+            }
+            Op::ControllerTest => no_value(run(room, || c.test())),
+            Op::TestPort1 => no_value(run(room, || c.test_port1())),
+            Op::TestPort2 => no_value(run(room, || c.test_port2())),
+            Op::ReadConfig => Value::byte(run(room, || Ok(c.read_config().into_bytes()[0]))),
+            Op::WriteConfig(config) => {
+                no_value(run(room, || Ok(c.write_config(ControllerConfigurationByte::from_bytes([config])))))
+            }
+            Op::PollingSend(set) => no_value(run(room, || reach::polling_send(c, set.try_into().unwrap()))),
+            Op::PollingReceive => Value::byte(run(room, || reach::polling_receive(c))),
+            Op::Keyboard(op) => keyboard_operation(&PS2Keyboard::new(c), op, room),
+            Op::Mouse(op, id) => {
+                let passed = id.unwrap_or(0);
+                let mut mouse = reach::mouse(c, passed.try_into().unwrap());
+                let (end, value) = mouse_operation(&mut mouse, op, room);
+                if id.is_some() || matches!(op, MouseOp::SetId | MouseOp::ReadPacket) {
+                    // After 2 and 3 the record is as passed in: no port of the Rust runs out, so we put it back.
+                    record = Record::Mouse(if matches!(end, 2 | 3) { passed } else { reach::identity(&mouse) });
+                }
+                (end, value)
+            }
+            Op::KeyboardInit => {
+                keyboard::reach::forget();
+                let (end, _) = run(room, || keyboard::init(PS2Keyboard::new(c), self.queue.clone()));
+                self.registered = end == 0;
+                record = if end == 0 { Record::Handler } else { Record::NoHandler };
+                (end, Value::Nothing)
+            }
+            Op::ToAscii(keycode, flags) => {
+                wire().begin(0, 0, true);
+                let keycode: Keycode = black_box(keycode).try_into().unwrap();
+                (0, Value::Character(black_box(keycode.to_ascii(black_box(to_flags(flags))))))
+            }
+            Op::Handle(..) => unreachable!(),
+        };
+        (end, value, record)
+    }
+
+    fn answer_handle(&mut self, call: &Call, handler: &Handler, plan: &[Step]) -> String {
+        let mut done = Vec::new();
+        for _ in 0..call.repeat.max(1) {
+            done.clear();
+            self.set(handler);
+            wire().script.clone_from(&call.script);
+            self.steps(plan, call.room, usize::MAX, &mut done);
+        }
+        if done.last().is_some_and(Done::lacks) {
+            // After 2 and 3 the record is as passed in to that call: we make the calls before it once more.
+            self.set(handler);
+            wire().script.clone_from(&call.script);
+            self.steps(plan, call.room, done.len() - 1, &mut Vec::new());
+        }
+
+        let handled = done.iter().filter_map(|d| match d {
+            Done::Handled { used, log, .. } => Some((used, log.len() / 2)),
+            Done::Taken(_) => None,
+        });
+        let (used, pairs) = handled.fold((0, 0), |sums, (used, pairs)| (sums.0 + used, sums.1 + pairs));
+        let mut out = format!("out=ok used={used} wrote={pairs} calls=");
+        for (i, d) in done.iter().enumerate() {
+            if i > 0 {
+                out.push(',');
+            }
+            d.push(&mut out);
+        }
+        if done.is_empty() {
+            out.push('-');
+        }
+        write!(out, " rec={}", self.record()).unwrap();
+        out
+    }
+
+    /// Makes a plan's calls on the script from its start, at most `limit`, until one lacks a byte.
+    pub fn steps(&mut self, plan: &[Step], room: usize, limit: usize, done: &mut Vec<Done>) {
+        wire().at = 0;
+        for step in plan {
+            let (mut left, each) = match *step {
+                Step::Auto => (u32::MAX, false),
+                Step::Each => (u32::MAX, true),
+                Step::Handle(times) | Step::Take(times) => (times, false),
+            };
+            while left > 0 {
+                if done.len() == limit || done.last().is_some_and(Done::lacks) {
+                    return;
+                }
+                let until_used = matches!(step, Step::Auto | Step::Each);
+                let taking = matches!(step, Step::Take(_)) || each && matches!(done.last(), Some(Done::Handled { .. }));
+                if until_used && !taking && wire().at >= wire().script.len() {
+                    break;
+                }
+                done.push(if taking { self.take() } else { self.handle(wire().at, room) });
+                left -= 1;
+            }
+        }
+    }
+
+    /// A handler call on the script from a place on.
+    pub fn handle(&mut self, at: usize, room: usize) -> Done {
+        wire().begin(at, room, false);
+        log::errors().clear();
+        interrupts::raise();
+        let (mut end, mut lamps_failed) = (0, false);
+        for text in log::errors().iter() {
+            match number_of(text) {
+                Some(14) => lamps_failed = true,
+                Some(number) => end = number,
+                None => {}
+            }
+        }
+        if wire().lack != 0 {
+            (end, lamps_failed) = (wire().lack, false);
+        }
+        Done::Handled { used: wire().at - at, log: wire().log.clone(), end, lamps_failed }
+    }
+
+    fn take(&mut self) -> Done {
+        Done::Taken(self.queue.pop().map(|event| KeyEvent::of_rust(&event)))
+    }
+
+    /// Makes the handler's record this one. The prefix can't be reached: a byte E0 sets it, 00 clears it.
+    pub fn set(&mut self, handler: &Handler) {
+        if !self.registered {
+            wire().script = GOOD_KEYBOARD.to_vec();
+            let (end, ..) = self.port_operation(&Op::KeyboardInit, 64);
+            assert!(end == 0);
+        }
+        self.feed(if handler.ext { 0xE0 } else { 0x00 });
+        *keyboard::reach::modifiers() = to_flags(handler.flags);
+        self.queue.clear();
+        for event in &handler.queue {
+            self.queue.push(event.to_rust()).unwrap();
+        }
+    }
+
+    /// The handler's record. The prefix shows in what a press of Control does, so the record is gone afterwards.
+    fn record(&mut self) -> Handler {
+        let flags = from_flags(*keyboard::reach::modifiers());
+        let mut queue = Vec::new();
+        self.queue.for_each(|event| queue.push(KeyEvent::of_rust(event)));
+
+        *keyboard::reach::modifiers() = Flags::new();
+        self.feed(0x1D);
+        let ext = keyboard::reach::modifiers().intersects(Flags::CONTROL_RIGHT);
+        Handler { ext, flags, queue }
+    }
+
+    /// A handler call on one byte.
+    fn feed(&mut self, byte: u8) {
+        wire().script.clear();
+        wire().script.push(byte);
+        self.handle(0, 0);
+    }
+}
+
+fn leds(bits: u8) -> LEDState {
+    LEDState::new().with_scroll_lock(bits & 1 != 0).with_number_lock(bits & 2 != 0).with_caps_lock(bits & 4 != 0)
+}
+
+fn keyboard_operation(keyboard: &PS2Keyboard, op: KeyboardOp, room: usize) -> (End, Value) {
+    use HostToKeyboardCommandOrData as Byte;
+    let command = |byte: Byte| run(room, || reach::command_to_keyboard(keyboard, byte));
+    let (end, _) = match op {
+        KeyboardOp::GetScancodeSet => return Value::byte(run(room, || reach::get_keyboard_scancode_set(keyboard))),
+        KeyboardOp::Detect => {
+            let (end, found) = run(room, || keyboard.keyboard_detect());
+            return (end, found.map_or(Value::Nothing, Value::Keyboard));
+        }
+        KeyboardOp::Command(byte) => {
+            let known = reach::keyboard_commands().into_iter().find(|c| c.clone() as u8 == byte);
+            command(Byte::KeyboardCommand(known.unwrap()))
+        }
+        KeyboardOp::DataSet(set) => command(Byte::ScancodeSet(set.try_into().unwrap())),
+        KeyboardOp::DataLed(bits) => command(Byte::LEDState(leds(bits))),
+        KeyboardOp::Reset => run(room, || keyboard.reset()),
+        KeyboardOp::SetLed(bits) => run(room, || keyboard.set_keyboard_led(leds(bits))),
+        KeyboardOp::SetScancodeSet(set) => run(room, || keyboard.set_keyboard_scancode_set(set.try_into().unwrap())),
+    };
+    (end, Value::Nothing)
+}
+
+fn rate(number: u8) -> MouseSampleRate {
+    use MouseSampleRate::*;
+    [_10, _20, _40, _60, _80, _100, _200].into_iter().find(|rate| rate.clone() as u8 == number).unwrap()
+}
+
+fn resolution(number: u8) -> MouseResolution {
+    use MouseResolution::*;
+    [Count1PerMm, Count2PerMm, Count4PerMm, Count8PerMm].into_iter().find(|r| r.clone() as u8 == number).unwrap()
+}
+
+fn mouse_operation(mouse: &mut PS2Mouse, op: MouseOp, room: usize) -> (End, Value) {
+    use HostToMouseCommandOrData as Byte;
+    let command = |mouse: &PS2Mouse, byte: Byte| run(room, || reach::command_to_mouse(mouse, byte));
+    let (end, _) = match op {
+        MouseOp::Id => return Value::byte(run(room, || reach::mouse_id(mouse))),
+        MouseOp::ReadPacket => {
+            let (end, packet) = run(room, || Ok(mouse.read_mouse_packet()));
+            return (end, packet.map_or(Value::Nothing, Value::Packet));
+        }
+        MouseOp::Command(byte) => {
+            let known = reach::mouse_commands().into_iter().find(|c| c.clone() as u8 == byte);
+            command(mouse, Byte::MouseCommand(known.unwrap()))
+        }
+        MouseOp::DataRate(number) => command(mouse, Byte::SampleRate(rate(number))),
+        MouseOp::DataResolution(number) => command(mouse, Byte::MouseResolution(resolution(number))),
+        MouseOp::Reset => run(room, || mouse.reset()),
+        MouseOp::Enable => run(room, || reach::enable_mouse_packet_streaming(mouse)),
+        MouseOp::Disable => run(room, || reach::disable_mouse_packet_streaming(mouse)),
+        MouseOp::SetSamplingRate(number) => run(room, || reach::set_mouse_sampling_rate(mouse, rate(number))),
+        MouseOp::Resolution(number) => run(room, || reach::mouse_resolution(mouse, resolution(number))),
+        MouseOp::SetId => run(room, || mouse.set_mouse_id()),
+    };
+    (end, Value::Nothing)
+}
