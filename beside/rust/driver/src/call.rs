@@ -380,9 +380,10 @@ fn push_script(out: &mut String, script: &[u8]) {
         }
     };
     while at < script.len() {
-        let run = |width: usize| match script.get(at..at + width) {
-            Some(unit) => 1 + script[at + width..].chunks(width).take_while(|&chunk| chunk == unit).count(),
-            None => 0,
+        let rest = &script[at..];
+        let run = |width: usize| {
+            let alike = rest.iter().zip(rest.iter().skip(width)).take_while(|(a, b)| a == b).count();
+            alike / width + 1
         };
         let width = if run(1) >= LONG { 1 } else { 2 };
         let times = run(width);

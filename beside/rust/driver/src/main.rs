@@ -1,9 +1,12 @@
 //! Runs Theseus's three files beside the port: see ../../../README.md.
 
 mod call;
+mod compare;
+mod device;
+mod generate;
 mod oracle;
 
-use std::io::{self, BufRead, BufWriter, Write};
+use std::io::{self, BufRead, BufWriter, Read, Write};
 use std::process::ExitCode;
 
 /// Answers each call line of standard input. A bad line gets an error with its number, and the exit status 1.
@@ -28,12 +31,72 @@ fn replay() -> io::Result<ExitCode> {
     Ok(ExitCode::from(bad as u8))
 }
 
+/// Writes calls of every operation with the Rust's answers.
+fn sample(calls: u64, seed: u64) -> io::Result<ExitCode> {
+    let mut out = BufWriter::new(io::stdout().lock());
+    writeln!(out, "# Calls of every operation with the Rust's answers: beside/sample --calls {calls} --seed {seed}")?;
+    let mut written = Ok(());
+    generate::sample(&mut oracle::Oracle::new(), calls, seed, &mut |oracle, call| {
+        let pair = writeln!(out, "{}\n{}", call.line(), oracle.answer(&call));
+        written = std::mem::replace(&mut written, Ok(())).and(pair);
+    });
+    written.and(out.flush())?;
+    Ok(ExitCode::SUCCESS)
+}
+
+/// Document 01's program over the Rust: the events of the first 65,536 bytes of standard input.
+fn tablekeys() -> io::Result<ExitCode> {
+    use oracle::Done::*;
+    let mut script = Vec::new();
+    io::stdin().lock().take(65536).read_to_end(&mut script)?;
+    let length = script.len();
+    let mut oracle = oracle::Oracle::new();
+    let mut out = BufWriter::new(io::stdout().lock());
+    oracle.set(&call::Handler::default());
+    port_io::wire().script = script;
+    let mut at = 0;
+    while at < length {
+        if let Handled { used, end, .. } = oracle.handle(at, 16) {
+            at += used;
+            if end != 0 {
+                writeln!(out, "refused {end}")?;
+            }
+            if end == 2 {
+                break;
+            }
+        }
+        if let Taken(Some(event)) = oracle.take() {
+            let action = if event.released { 'R' } else { 'P' };
+            write!(out, "{:02X} {action} {:03X} ", event.keycode, event.flags)?;
+            match event.ascii() {
+                Some(character) => writeln!(out, "{}", character as u32)?,
+                None => writeln!(out, "-")?,
+            }
+        }
+    }
+    out.flush()?;
+    Ok(ExitCode::SUCCESS)
+}
+
+/// The value of an option.
+fn option<'a>(args: &'a [String], name: &str) -> Option<&'a str> {
+    args.iter().position(|arg| arg == name).and_then(|at| args.get(at + 1)).map(String::as_str)
+}
+
+fn number(args: &[String], name: &str) -> Option<u64> {
+    option(args, name)?.parse().ok()
+}
+
 fn main() -> io::Result<ExitCode> {
     let args: Vec<String> = std::env::args().skip(1).collect();
-    match args.first().map(String::as_str) {
-        Some("replay") if args.len() == 1 => replay(),
+    let (calls, seed, port) = (number(&args, "--calls"), number(&args, "--seed"), option(&args, "--port"));
+    match (args.first().map(String::as_str), calls, seed, port) {
+        (Some("replay"), ..) => replay(),
+        (Some("tablekeys"), ..) => tablekeys(),
+        (Some("sample"), Some(calls), Some(seed), None) => sample(calls, seed),
+        (Some("compare"), Some(calls), Some(seed), Some(port)) => compare::compare(port, calls, seed),
         _ => {
-            eprintln!("usage: beside replay");
+            eprintln!("usage: beside replay | tablekeys | sample --calls N --seed S | compare --calls N --seed S --port PROGRAM");
             Ok(ExitCode::from(2))
         }
     }

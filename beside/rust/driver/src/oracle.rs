@@ -4,7 +4,7 @@
 use crate::call::*;
 use event_types::Event;
 use keycodes_ascii::{KeyAction, KeyboardModifiers as Flags, Keycode};
-use port_io::{wire, Lack};
+use port_io::{wire, Device, Lack};
 use ps2::*;
 use std::fmt::Write;
 use std::hint::black_box;
@@ -243,10 +243,35 @@ impl Oracle {
             Record::Nothing => out.push('-'),
             Record::Controller(controller) => write!(out, "{controller}").unwrap(),
             Record::Mouse(id) => write!(out, "id:{id}").unwrap(),
-            Record::Handler => write!(out, "{}", self.record()).unwrap(),
+            Record::Handler => write!(out, "{}", self.left()).unwrap(),
             Record::NoHandler => out += "none",
         }
         out
+    }
+
+    /// Has a device make up the script of an operation while the Rust reads it. Gives the script and the number of
+    /// bytes logged, of a handler line by the call that logged most.
+    pub fn record(&mut self, op: &Op, device: Box<dyn Device>) -> (Vec<u8>, usize) {
+        const AMPLE: usize = 1000;
+        match op {
+            Op::Handle(handler, _) => self.set(handler),
+            Op::KeyboardInit => self.set(&Handler::default()),
+            _ => {}
+        }
+        wire().script.clear();
+        wire().device = Some(device);
+        let logged = if let Op::Handle(_, plan) = op {
+            let mut done = Vec::new();
+            self.steps(plan, AMPLE, usize::MAX, &mut done);
+            let logs = done.iter().map(|d| if let Done::Handled { log, .. } = d { log.len() } else { 0 });
+            logs.max().unwrap_or(0)
+        } else {
+            self.port_operation(op, AMPLE);
+            wire().log.len()
+        };
+        wire().device = None;
+        wire().script.truncate(wire().at);
+        (std::mem::take(&mut wire().script), logged)
     }
 
     fn port_operation(&mut self, op: &Op, room: usize) -> (End, Value, Record) {
@@ -329,7 +354,7 @@ impl Oracle {
         if done.is_empty() {
             out.push('-');
         }
-        write!(out, " rec={}", self.record()).unwrap();
+        write!(out, " rec={}", self.left()).unwrap();
         out
     }
 
@@ -376,7 +401,8 @@ impl Oracle {
         Done::Handled { used: wire().at - at, log: wire().log.clone(), end, lamps_failed }
     }
 
-    fn take(&mut self) -> Done {
+    /// A taking from the queue.
+    pub fn take(&mut self) -> Done {
         Done::Taken(self.queue.pop().map(|event| KeyEvent::of_rust(&event)))
     }
 
@@ -396,7 +422,7 @@ impl Oracle {
     }
 
     /// The handler's record. The prefix shows in what a press of Control does, so the record is gone afterwards.
-    fn record(&mut self) -> Handler {
+    fn left(&mut self) -> Handler {
         let flags = from_flags(*keyboard::reach::modifiers());
         let mut queue = Vec::new();
         self.queue.for_each(|event| queue.push(KeyEvent::of_rust(event)));

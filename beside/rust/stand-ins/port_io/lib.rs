@@ -24,9 +24,10 @@ impl Port<u8> {
     }
 }
 
-/// Ours: what makes up a script while the Rust reads it. `None` ends it.
+/// Ours: what makes up a script while the Rust reads it.
 pub trait Device {
-    fn read(&mut self, port: u16) -> Option<u8>;
+    /// Puts the next bytes behind the script, one at least; none ends it.
+    fn read(&mut self, port: u16, script: &mut Vec<u8>);
     fn write(&mut self, port: u16, value: u8);
 }
 
@@ -75,11 +76,13 @@ impl Wire {
     #[inline(never)]
     fn read_beyond(&mut self, port: u16) -> u8 {
         if self.lack == 0 {
-            if let Some(byte) = self.device.as_mut().and_then(|device| device.read(port)) {
-                self.script.push(byte);
-                self.end += 1;
-                self.at += 1;
-                return byte;
+            if let Some(device) = &mut self.device {
+                device.read(port, &mut self.script);
+                self.end = self.script.len();
+                if self.at < self.end {
+                    self.at += 1;
+                    return self.script[self.at - 1];
+                }
             }
         }
         self.lacks(2);
