@@ -1,5 +1,6 @@
 //! Runs Theseus's three files beside the port: see ../../../README.md.
 
+mod bench;
 mod call;
 mod compare;
 mod device;
@@ -92,11 +93,17 @@ fn main() -> io::Result<ExitCode> {
     let (calls, seed, port) = (number(&args, "--calls"), number(&args, "--seed"), option(&args, "--port"));
     match (args.first().map(String::as_str), calls, seed, port) {
         (Some("replay"), ..) => replay(),
+        (Some("bench"), None, None, Some(port)) => {
+            let rounds = number(&args, "--rounds").unwrap_or(7).max(1) as usize;
+            bench::bench(port, option(&args, "--tablekeys").unwrap_or("tablekeys"), rounds)
+        }
         (Some("tablekeys"), ..) => tablekeys(),
         (Some("sample"), Some(calls), Some(seed), None) => sample(calls, seed),
         (Some("compare"), Some(calls), Some(seed), Some(port)) => compare::compare(port, calls, seed),
         _ => {
-            eprintln!("usage: beside replay | tablekeys | sample --calls N --seed S | compare --calls N --seed S --port PROGRAM");
+            eprintln!("usage: beside replay | tablekeys | sample --calls N --seed S");
+            eprintln!("       beside compare --calls N --seed S --port PROGRAM");
+            eprintln!("       beside bench [--rounds N] --port PROGRAM --tablekeys PROGRAM");
             Ok(ExitCode::from(2))
         }
     }

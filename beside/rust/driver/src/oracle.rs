@@ -218,8 +218,10 @@ impl Oracle {
 
     /// The answer to a call, as a line.
     pub fn answer(&mut self, call: &Call) -> String {
-        if let Op::Handle(handler, plan) = &call.op {
-            return self.answer_handle(call, handler, plan);
+        match &call.op {
+            Op::Handle(handler, plan) => return self.answer_handle(call, handler, plan),
+            Op::ToAscii(keycode, flags) => return answer_to_ascii(*keycode, *flags, call.repeat),
+            _ => {}
         }
         if call.op == Op::KeyboardInit {
             self.set(&Handler::default());
@@ -256,6 +258,7 @@ impl Oracle {
         match op {
             Op::Handle(handler, _) => self.set(handler),
             Op::KeyboardInit => self.set(&Handler::default()),
+            Op::ToAscii(..) => return (Vec::new(), 0),
             _ => {}
         }
         wire().script.clear();
@@ -314,12 +317,7 @@ impl Oracle {
                 record = if end == 0 { Record::Handler } else { Record::NoHandler };
                 (end, Value::Nothing)
             }
-            Op::ToAscii(keycode, flags) => {
-                wire().begin(0, 0, true);
-                let keycode: Keycode = black_box(keycode).try_into().unwrap();
-                (0, Value::Character(black_box(keycode.to_ascii(black_box(to_flags(flags))))))
-            }
-            Op::Handle(..) => unreachable!(),
+            Op::Handle(..) | Op::ToAscii(..) => unreachable!(),
         };
         (end, value, record)
     }
@@ -439,6 +437,17 @@ impl Oracle {
         wire().script.push(byte);
         self.handle(0, 0);
     }
+}
+
+fn answer_to_ascii(keycode: u8, flags: u16, repeat: u64) -> String {
+    let (keycode, flags): (Keycode, Flags) = (keycode.try_into().unwrap(), to_flags(flags));
+    let mut character = keycode.to_ascii(flags);
+    for _ in 1..repeat {
+        character = black_box(black_box(keycode).to_ascii(black_box(flags)));
+    }
+    let mut out = "out=ok used=0 wrote=0 log=-".to_string();
+    Value::Character(character).push(&mut out);
+    out + " rec=-"
 }
 
 fn leds(bits: u8) -> LEDState {

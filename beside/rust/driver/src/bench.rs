@@ -1,0 +1,157 @@
+//! How long the port takes for a call, and the Rust: the same call lines to both programs, each of which repeats a call
+//! on its own side. What a program and a line cost beside the calls is taken off by a run that makes each call once.
+
+use crate::call::{ALL_FLAGS, LAST_KEYCODE};
+use crate::device::Rng;
+use std::io::{self, Read, Write};
+use std::process::{Child, Command, ExitCode, Stdio};
+use std::thread;
+use std::time::Instant;
+
+extern "C" {
+    fn wait4(pid: i32, status: *mut i32, options: i32, usage: *mut [i64; 18]) -> i32;
+}
+
+/// Waits for a program to end: the seconds of processor time that it took, which other programs hardly change.
+fn processor_time(child: Child) -> io::Result<f64> {
+    // The first four numbers of Linux's `rusage` are seconds and microseconds of user and of system time.
+    let (mut status, mut usage) = (0, [0; 18]);
+    match unsafe { wait4(child.id() as i32, &mut status, 0, &mut usage) } {
+        -1 => Err(io::Error::last_os_error()),
+        _ => Ok((usage[0] + usage[2]) as f64 + (usage[1] + usage[3]) as f64 / 1e6),
+    }
+}
+
+/// A program of either side, and the input with which it makes each call so many times.
+struct Side<'a> {
+    program: &'a [&'a str],
+    input: &'a dyn Fn(u64) -> Vec<u8>,
+}
+
+impl Side<'_> {
+    /// The seconds that the program takes, and what it writes.
+    fn run(&self, times: u64) -> io::Result<(f64, Vec<u8>)> {
+        let input = (self.input)(times);
+        let mut command = Command::new(self.program[0]);
+        let mut child = command.args(&self.program[1..]).stdin(Stdio::piped()).stdout(Stdio::piped()).spawn()?;
+        let (mut stdin, mut stdout) = (child.stdin.take().unwrap(), child.stdout.take().unwrap());
+        let mut output = Vec::new();
+        thread::scope(|scope| {
+            scope.spawn(move || stdin.write_all(&input));
+            stdout.read_to_end(&mut output)
+        })?;
+        let seconds = processor_time(child)?;
+        if output.starts_with(b"error:") {
+            return Err(io::Error::other(String::from_utf8_lossy(&output).lines().next().unwrap().to_string()));
+        }
+        Ok((seconds, output))
+    }
+
+    /// The seconds that so many repetitions take more than one.
+    fn beyond_one(&self, times: u64) -> io::Result<f64> {
+        Ok(self.run(times)?.0 - self.run(1)?.0)
+    }
+
+    /// Repetitions enough to be measured.
+    fn enough(&self) -> io::Result<u64> {
+        let mut times = 2;
+        while self.beyond_one(times)? < 0.15 {
+            times *= 2;
+        }
+        Ok(times)
+    }
+}
+
+fn median(values: &mut [f64]) -> f64 {
+    values.sort_by(f64::total_cmp);
+    values[values.len() / 2]
+}
+
+/// Prints a row: nanoseconds for a call on each side, and the port's over the Rust's, each the median of the rounds.
+fn measure(name: &str, calls: f64, times: u64, rounds: usize, rust: &Side, port: &Side) -> io::Result<()> {
+    let nanoseconds = 1e9 / (calls * (times - 1) as f64);
+    let (mut of_rust, mut of_port, mut ratios) = (Vec::new(), Vec::new(), Vec::new());
+    for _ in 0..rounds {
+        let (r, p) = (rust.beyond_one(times)?, port.beyond_one(times)?);
+        of_rust.push(r * nanoseconds);
+        of_port.push(p * nanoseconds);
+        ratios.push(p / r);
+    }
+    let (r, p, ratio) = (median(&mut of_rust), median(&mut of_port), median(&mut ratios));
+    let (least, most) = (ratios[0], ratios[rounds - 1]);
+    println!("{name:<44} {r:>12.1} {p:>12.1} {ratio:>8.2} {least:>8.2} {most:>8.2}");
+    Ok(())
+}
+
+/// A whole command of 525,300 reads: each of four attempts waits 254 times, then polls 65,534 times for nothing.
+fn silent_device() -> String {
+    format!("keyboard_command ED script={} log=8", ["02*254,00,0155*65534,01FE"; 4].join(","))
+}
+
+fn every_character() -> Vec<String> {
+    let flags = |key| (0..=ALL_FLAGS).map(move |flags| format!("to_ascii {key:02X} {flags:03X}"));
+    (0..=LAST_KEYCODE).flat_map(flags).collect()
+}
+
+/// 65,536 bytes of keys pressed and released, none of them a lock.
+fn keys() -> Vec<u8> {
+    let mut rng = Rng(1);
+    (0..32768).map(|_| 0x02 + rng.below(0x38) as u8).flat_map(|key| [key, key | 0x80]).collect()
+}
+
+/// Nanoseconds to enter a handler by an interrupt frame and to leave it.
+fn entering() -> f64 {
+    const TIMES: u32 = 1_000_000;
+    let start = Instant::now();
+    for _ in 0..TIMES {
+        interrupts::raise_nothing();
+    }
+    start.elapsed().as_secs_f64() * 1e9 / TIMES as f64
+}
+
+pub fn bench(port: &str, tablekeys: &str, rounds: usize) -> io::Result<ExitCode> {
+    let own = std::env::current_exe()?;
+    let own = own.to_str().expect("a path in UTF-8");
+    let one = |line: &str| vec![line.to_string()];
+    let plain = one("handle script=1E9E*50 log=16 plan=each");
+    let in_place = one("handle_in_place script=1E9E*50 log=16 plan=each");
+    let locks = one("handle script=3A0001FA0001FA*100 log=16 plan=each");
+    let silent = one(&silent_device());
+    let init = one("init script=0333551D001D001C1DFAAA1C3DFAAA0003 log=64");
+    let characters = every_character();
+    let rows = [
+        ("handler call and taking, plain key, by value", 100, &plain, &plain),
+        ("the same in place", 100, &plain, &in_place),
+        ("lock with its lamp exchange, and taking", 100, &locks, &locks),
+        ("silent device, 525,300 reads", 1, &silent, &silent),
+        ("init", 1, &init, &init),
+        ("to_ascii, all keys and flags", characters.len(), &characters, &characters),
+    ];
+
+    println!("{:<44} {:>12} {:>12} {:>8} {:>8} {:>8}", "", "Rust, ns", "port, ns", "ratio", "least", "most");
+    for (name, calls, for_rust, for_port) in rows {
+        let repeated = |lines: &[String], times| -> Vec<u8> {
+            lines.iter().flat_map(|line| format!("{line} repeat={times}\n").into_bytes()).collect()
+        };
+        let rust = Side { program: &[own, "replay"], input: &|times| repeated(for_rust, times) };
+        let port = Side { program: &[port], input: &|times| repeated(for_port, times) };
+        let times = rust.enough()?;
+        if let Err(why) = measure(name, calls as f64, times, rounds, &rust, &port) {
+            println!("{name:<44} not measured: {why}");
+        }
+    }
+
+    // This program can't repeat: it is run on all the keys, and on none, to take off its start.
+    let keys = keys();
+    let input = |times| if times == 1 { Vec::new() } else { keys.clone() };
+    let rust = Side { program: &[own, "tablekeys"], input: &input };
+    let port = Side { program: &[tablekeys], input: &input };
+    let name = "tablekeys, 65,536 bytes of keys";
+    match port.run(2) {
+        Ok((_, written)) if written == rust.run(2)?.1 => measure(name, 1.0, 2, 5 * rounds, &rust, &port)?,
+        Ok(_) => println!("{name:<44} not measured: the two sides write different lines"),
+        Err(why) => println!("{name:<44} not measured: {why}"),
+    }
+    println!("Of the Rust's handler rows {:.1} ns are the way in and out by an interrupt frame.", entering());
+    Ok(ExitCode::SUCCESS)
+}
