@@ -148,7 +148,11 @@ fn parse_op(name: &str, args: &[&str], state: Option<&str>, plan: Option<&str>) 
     let one_hex = |allowed: &[u8]| -> Result<u8, String> {
         count(1)?;
         let byte = hex(args[0], 2)? as u8;
-        if allowed.is_empty() || allowed.contains(&byte) { Ok(byte) } else { Err(format!("{name} knows no {}", args[0])) }
+        if allowed.is_empty() || allowed.contains(&byte) {
+            Ok(byte)
+        } else {
+            Err(format!("{name} knows no {}", args[0]))
+        }
     };
     let one_decimal = |allowed: &[u8]| -> Result<u8, String> {
         count(1)?;
@@ -418,7 +422,11 @@ impl fmt::Display for Handler {
         for (i, event) in self.queue.iter().enumerate() {
             write!(f, "{}{event}", if i == 0 { "" } else { ";" })?;
         }
-        if self.queue.is_empty() { f.write_str("-") } else { Ok(()) }
+        if self.queue.is_empty() {
+            f.write_str("-")
+        } else {
+            Ok(())
+        }
     }
 }
 

@@ -3,7 +3,7 @@
 use crate::call;
 use crate::call::Call;
 use crate::device::Rng;
-use crate::generate::{by_chance, sweep, Enough, KINDS};
+use crate::generate::{by_chance, kind_by_chance, sweep, Enough};
 use crate::oracle::Oracle;
 use std::collections::BTreeMap;
 use std::io::{self, BufRead, BufReader, Write};
@@ -48,7 +48,11 @@ impl Sender {
         *self.kinds.entry(call.op.name()).or_default() += 1;
         count_answers(&mut self.answers, &answer);
         self.batch.push((line, answer));
-        if self.batch.len() == BATCH { self.flush() } else { Ok(()) }
+        if self.batch.len() == BATCH {
+            self.flush()
+        } else {
+            Ok(())
+        }
     }
 
     fn flush(&mut self) -> Result<(), Enough> {
@@ -156,8 +160,12 @@ pub fn compare(port: &str, calls: u64, seed: u64) -> io::Result<ExitCode> {
     let status = child.wait()?;
     progress.thread().unpark();
     progress.join().unwrap();
-    if !more.is_empty() || !status.success() {
-        println!("# the port's program ended with {status}, and a line that was not asked for: {more}");
+    if !more.is_empty() {
+        println!("# the port's program answered more lines than it was given calls: {more}");
+        return Ok(ExitCode::from(1));
+    }
+    if !status.success() {
+        println!("# the port's program ended with {status}");
         return Ok(ExitCode::from(1));
     }
     let seconds = start.elapsed().as_secs();
@@ -165,9 +173,4 @@ pub fn compare(port: &str, calls: u64, seed: u64) -> io::Result<ExitCode> {
     println!("compare: calls of {}", listed(&kinds));
     println!("compare: answers {}", listed(&answers));
     Ok(ExitCode::SUCCESS)
-}
-
-/// The operations of many steps come more often.
-fn kind_by_chance(rng: &mut Rng) -> usize {
-    if rng.once_in(2) { rng.pick(&[0, 13, 15, 25, 27, 29, 30, 30]) } else { rng.below(KINDS) }
 }

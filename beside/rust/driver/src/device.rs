@@ -129,20 +129,27 @@ impl Model {
                 base
             }
         };
-        if self.rng.once_in(8 * self.noise) { status ^ self.rng.pick(&[0x01, 0x20, 0x21]) } else { status | busy }
+        if self.rng.once_in(8 * self.noise) {
+            status ^ self.rng.pick(&[0x01, 0x20, 0x21])
+        } else {
+            status | busy
+        }
     }
 
     fn data(&mut self) -> u8 {
         if let Some((byte, _)) = self.waiting.pop_front() {
             return byte;
         }
-        if self.keys { self.scancode() } else { self.rng.pick(&TELLING) }
+        if self.keys {
+            self.scancode()
+        } else {
+            self.rng.pick(&TELLING)
+        }
     }
 
     fn scancode(&mut self) -> u8 {
         const LOCKS: [u8; 3] = [0x3A, 0x45, 0x46];
-        const HELD: [u8; 14] =
-            [0x2A, 0xAA, 0x36, 0xB6, 0x1D, 0x9D, 0x38, 0xB8, 0x5B, 0xDB, 0x5C, 0xDC, 0x1D, 0x9D];
+        const HELD: [u8; 14] = [0x2A, 0xAA, 0x36, 0xB6, 0x1D, 0x9D, 0x38, 0xB8, 0x5B, 0xDB, 0x5C, 0xDC, 0x1D, 0x9D];
         if matches!(self.twist, Twist::Longest(_)) {
             self.stay_busy();
             return self.rng.pick(&LOCKS);

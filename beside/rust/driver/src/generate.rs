@@ -13,6 +13,17 @@ const TIMES: [usize; 5] = [1, 3, 4, 5, 1000];
 /// The number of operations.
 pub const KINDS: usize = 31;
 
+/// Those of many steps: initialisation, scancode set, type, identity, keyboard initialisation, the handler.
+const MANY_STEPS: [usize; 8] = [0, 13, 15, 25, 27, 29, 30, 30];
+
+pub fn kind_by_chance(rng: &mut Rng) -> usize {
+    if rng.once_in(2) {
+        rng.pick(&MANY_STEPS)
+    } else {
+        rng.below(KINDS)
+    }
+}
+
 /// An operation of a kind, its arguments and state by chance.
 pub fn operation(kind: usize, rng: &mut Rng) -> Op {
     use KeyboardOp as K;
@@ -191,7 +202,8 @@ pub fn sweep(oracle: &mut Oracle, emit: Emit) -> Result<(), Enough> {
         emit(oracle, plain(Op::WriteConfig(byte), &[], 4))?;
         emit(oracle, plain(Op::ReadConfig, &[byte], 2))?;
         for id in [0, 3, 4] {
-            for packet in [[byte, 0, 0, 0], [byte, 5, 0xFB, 0], [0x18, byte, 1, 2], [0x28, 1, byte, 2], [8, 1, 2, byte]] {
+            for packet in [[byte, 0, 0, 0], [byte, 5, 0xFB, 0], [0x18, byte, 1, 2], [0x28, 1, byte, 2], [8, 1, 2, byte]]
+            {
                 emit(oracle, plain(Op::Mouse(MouseOp::ReadPacket, Some(id)), &packet, 0))?;
             }
         }

@@ -190,9 +190,8 @@ impl Done {
 }
 
 /// A keyboard that answers every step of keyboard initialisation.
-const GOOD_KEYBOARD: [u8; 27] = [
-    0, 1, 0xFA, 0, 1, 0xFA, 1, 0xAB, 1, 0x83, 0, 1, 0xFA, 0, 1, 0xFA, 0, 1, 0xFA, 0, 1, 0xFA, 0, 1, 0xFA, 1, 1,
-];
+const GOOD_KEYBOARD: [u8; 27] =
+    [0, 1, 0xFA, 0, 1, 0xFA, 1, 0xAB, 1, 0x83, 0, 1, 0xFA, 0, 1, 0xFA, 0, 1, 0xFA, 0, 1, 0xFA, 0, 1, 0xFA, 1, 1];
 
 /// The Rust, one to a process: its records are statics.
 pub struct Oracle {

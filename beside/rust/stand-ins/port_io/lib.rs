@@ -86,7 +86,11 @@ impl Wire {
             }
         }
         self.lacks(2);
-        if port == 0x64 { 0x01 } else { 0xFA }
+        if port == 0x64 {
+            0x01
+        } else {
+            0xFA
+        }
     }
 
     fn write(&mut self, port: u16, value: u8) {
