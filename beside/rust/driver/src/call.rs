@@ -498,7 +498,7 @@ impl Call {
         match &self.op {
             Op::Init(controller) if *controller != Controller::default() => write!(out, " state={controller}").unwrap(),
             Op::Mouse(_, Some(id)) => write!(out, " state=id:{id}").unwrap(),
-            Op::Handle(handler, _) if *handler != Handler::default() => write!(out, " state={handler}").unwrap(),
+            Op::Handle(handler, _) if *handler != Handler::default() => push_handler(&mut out, handler),
             _ => {}
         }
         if !matches!(self.op, Op::ToAscii(..)) {
@@ -513,6 +513,22 @@ impl Call {
             write!(out, " repeat={}", self.repeat).unwrap();
         }
         out
+    }
+}
+
+/// A handler's state, equal events that wait behind one another as one with `*N`.
+fn push_handler(out: &mut String, handler: &Handler) {
+    let empty = Handler { queue: Vec::new(), ..*handler };
+    write!(out, " state={empty}").unwrap();
+    for (i, run) in handler.queue.chunk_by(|a, b| a == b).enumerate() {
+        match i {
+            0 => drop(out.pop()),
+            _ => out.push(';'),
+        }
+        write!(out, "{}", run[0]).unwrap();
+        if run.len() > 1 {
+            write!(out, "*{}", run.len()).unwrap();
+        }
     }
 }
 

@@ -3,6 +3,7 @@
 use crate::call::*;
 use crate::device::*;
 use crate::oracle::Oracle;
+use std::collections::BTreeMap;
 
 /// No script is longer: the port's program takes no more than 4,199,999 bytes.
 const LONGEST_SCRIPT: usize = 2_500_000;
@@ -93,7 +94,9 @@ fn handler(rng: &mut Rng) -> Handler {
 
 /// A plan that lists its calls, so that its script can be recorded.
 fn plan(rng: &mut Rng) -> Vec<Step> {
-    let calls = 1 + rng.below(6) as u32;
+    // The longer runs fill and empty the queue, and go round its places.
+    let most = if rng.once_in(16) { 200 } else { 6 };
+    let calls = 1 + rng.below(most) as u32;
     match rng.below(6) {
         0 => (0..2 * calls).map(|i| if i % 2 == 0 { Step::Handle(1) } else { Step::Take(1) }).collect(),
         1 => (0..=rng.below(4)).map(|_| if rng.once_in(2) { Step::Take(calls) } else { Step::Handle(calls) }).collect(),
@@ -312,7 +315,8 @@ fn sweep_limits(oracle: &mut Oracle, op: &Op, emit: Emit) -> Result<(), Enough> 
     Ok(())
 }
 
-/// A sample of every operation: short calls by chance, and of each operation a stall about a limit with its neighbours.
+/// A sample of every operation: short calls by chance, and of each operation stalls at which a limit counts, each with
+/// its two neighbours.
 pub fn sample(oracle: &mut Oracle, calls: u64, seed: u64, emit: &mut dyn FnMut(&mut Oracle, Call)) {
     const SHORT: usize = 150;
     let mut rng = Rng(seed);
@@ -326,19 +330,32 @@ pub fn sample(oracle: &mut Oracle, calls: u64, seed: u64, emit: &mut dyn FnMut(&
     }
     for kind in 0..KINDS {
         let op = operation(kind, &mut rng);
-        let good = recorded(oracle, &op, seed, 0, Twist::None);
-        if good.script.is_empty() {
-            continue;
+        for mut alike in limits_that_count(oracle, &op, seed).into_values() {
+            let three = alike.swap_remove(rng.below(alike.len()));
+            three.into_iter().for_each(|call| emit(oracle, call));
         }
-        for limit in LIMITS {
-            if let Twist::Stall(read, bytes, _) = stall(&mut rng, limit, good.script.len()) {
-                for times in limit - 1..=limit + 1 {
-                    let call = recorded(oracle, &op, seed, 0, Twist::Stall(read, bytes.clone(), times));
-                    if call.line().len() < 2 * SHORT {
-                        emit(oracle, call);
-                    }
-                }
+    }
+}
+
+/// The stalls of an operation after which one round more or less makes another answer, each with its neighbours, by how
+/// the three end.
+fn limits_that_count(oracle: &mut Oracle, op: &Op, seed: u64) -> BTreeMap<[String; 3], Vec<[Call; 3]>> {
+    // An answer without its counts and its log.
+    let end = |answer: String| {
+        let lamps = if answer.contains("+14") { "+14" } else { "" };
+        answer.split(' ').next().unwrap().to_string() + answer.rsplit(' ').next().unwrap() + lamps
+    };
+    let reads = recorded(oracle, op, seed, 0, Twist::None).script.len();
+    let mut places = BTreeMap::<_, Vec<_>>::new();
+    for read in 0..reads {
+        for (limit, bytes) in LIMITS.iter().flat_map(|&limit| stalling(limit).iter().map(move |bytes| (limit, bytes))) {
+            let three = [limit - 1, limit, limit + 1]
+                .map(|times| recorded(oracle, op, seed, 0, Twist::Stall(read, bytes.to_vec(), times)));
+            let ends = three.each_ref().map(|call| end(oracle.answer(call)));
+            if ends[0] != ends[1] || ends[1] != ends[2] {
+                places.entry(ends).or_default().push(three);
             }
         }
     }
+    places
 }
