@@ -78,6 +78,9 @@ fn measure(name: &str, calls: f64, times: u64, rounds: usize, rust: &Side, port:
         ratios.push(p / r);
     }
     let (r, p, ratio) = (median(&mut of_rust), median(&mut of_port), median(&mut ratios));
+    if ratio < 0.01 {
+        return Err(io::Error::other("the port's program does not repeat the call"));
+    }
     let (least, most) = (ratios[0], ratios[rounds - 1]);
     println!("{name:<44} {r:>12.1} {p:>12.1} {ratio:>8.2} {least:>8.2} {most:>8.2}");
     Ok(())

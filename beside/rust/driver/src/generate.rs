@@ -190,31 +190,32 @@ pub struct Enough;
 
 pub type Emit<'a> = &'a mut dyn FnMut(&mut Oracle, Call) -> Result<(), Enough>;
 
-/// Calls that leave nothing out: every character, configuration and scancode; of each operation with each argument, over
-/// good devices, every cut of the script, every room of the log, every telling byte in the place of each that is read,
-/// and every response to each byte for a device; of each operation a stall about every limit at each read, and the
+/// Calls that leave nothing out: of each operation with each argument, over good devices, every cut of the script, every
+/// room of the log, every telling byte in the place of each that is read, and every response to each byte for a device;
+/// every scancode, configuration and character; of each operation a stall about every limit at each read, and the
 /// longest exchange.
 pub fn sweep(oracle: &mut Oracle, emit: Emit) -> Result<(), Enough> {
-    let mut rng = Rng(0);
+    for op in operations() {
+        sweep_short(oracle, &op, emit)?;
+    }
+    sweep_scancodes(oracle, emit)?;
+    for byte in 0..=255 {
+        emit(oracle, plain(Op::WriteConfig(byte), &[], 4))?;
+        emit(oracle, plain(Op::ReadConfig, &[byte], 2))?;
+        for id in [0, 3, 4] {
+            let op = Op::Mouse(MouseOp::ReadPacket, Some(id));
+            for packet in [[byte, 0, 0, 0], [byte, 5, 0xFB, 0], [0x18, byte, 1, 2], [0x28, 1, byte, 2], [8, 1, 2, byte]]
+            {
+                emit(oracle, plain(op.clone(), &packet, 0))?;
+            }
+        }
+    }
     for keycode in 0..=LAST_KEYCODE {
         for flags in 0..=ALL_FLAGS {
             emit(oracle, plain(Op::ToAscii(keycode, flags), &[], 0))?;
         }
     }
-    for byte in 0..=255 {
-        emit(oracle, plain(Op::WriteConfig(byte), &[], 4))?;
-        emit(oracle, plain(Op::ReadConfig, &[byte], 2))?;
-        for id in [0, 3, 4] {
-            for packet in [[byte, 0, 0, 0], [byte, 5, 0xFB, 0], [0x18, byte, 1, 2], [0x28, 1, byte, 2], [8, 1, 2, byte]]
-            {
-                emit(oracle, plain(Op::Mouse(MouseOp::ReadPacket, Some(id)), &packet, 0))?;
-            }
-        }
-    }
-    sweep_scancodes(oracle, emit)?;
-    for op in operations() {
-        sweep_short(oracle, &op, emit)?;
-    }
+    let mut rng = Rng(0);
     for kind in 0..KINDS {
         let op = operation(kind, &mut rng);
         sweep_limits(oracle, &op, emit)?;
