@@ -32,7 +32,7 @@ use Rattle.keyboard.specs.Taking.{taken}
 use Rattle.keyboard.specs.Answers.{ends20, ends2-3-21}
 use Rattle.keyboard.proofs.Ways.{As, Queued, is-unknown, is-full, is-queued, endOf, scanned, Course, malformed, no-script, no-log, at-silent, at-key}
 use Rattle.keyboard.proofs.Tests.{which, neither-holds}
-use Rattle.keyboard.proofs.Silent.{silent-flags, silent-gives}
+use Rattle.keyboard.proofs.Silent.{silent-flags, silent-gives, key-gives}
 use Rattle.keyboard.proofs.Taking.{taken-none, taken-one}
 use Rattle.keyboard.proofs.WellFormed.{is-well}
 use Rattle.keyboard.proofs.Ring.{length-round, waiting-pushed, waiting-taken, waiting-none}
@@ -125,15 +125,12 @@ module _ {h : KeyboardHandler} {bytes : Past ℕ} {row : List KeyEvent} (a : As 
       key-prefix : false ≡ isPrefix b
       key-prefix = sym (neither-holds (isPrefix b) (eqb b 0x00 || eqb b 0xFA) q .0)
 
-      key-gives : (c : Bool) → leb (lowPart b) lastKeycode ≡ c → gives b ≡ c
-      key-gives c k = rw (neither-holds (eqb b 0x00) (eqb b 0xFA) (neither-holds (isPrefix b) (eqb b 0x00 || eqb b 0xFA) q .1) .0, k)
-
       step-unknown : leb (lowPart b) lastKeycode ≡ false → Stepped (some b) (outcome HandlerAnswer.UnknownScancode failed (handlerOf false (flagsThen h b) (h .queue)))
-      step-unknown k = gives-none false (flagsThen h b) HandlerAnswer.UnknownScancode failed (key-gives false k) refl (as-then a b) key-prefix
+      step-unknown k = gives-none false (flagsThen h b) HandlerAnswer.UnknownScancode failed (key-gives b q false k) refl (as-then a b) key-prefix
 
       module _ (k : leb (lowPart b) lastKeycode ≡ true) where
         event-one : eventGiven bytes b ≡ eventOf b (flagsThen h b) ∷ []
-        event-one = given-one bytes b (key-gives true k) ∙ ap (λ (w : ℕ). eventOf b w ∷ []) (sym (as-then a b))
+        event-one = given-one bytes b (key-gives b q true k) ∙ ap (λ (w : ℕ). eventOf b w ∷ []) (sym (as-then a b))
 
         step-full : hasRoom (h .queue) ≡ false → Stepped (some b) (outcome HandlerAnswer.QueueFull failed (handlerOf false (flagsThen h b) (h .queue)))
         unfolding prefixSaid
@@ -179,7 +176,7 @@ module _ {h : KeyboardHandler} {bytes : Past ℕ} {row : List KeyEvent} (a : As 
     by-course (at-key b failed q e n) = rw (e, n) (step-key b failed q)
 
     -- the scancode that the call counts, by its record, is the one that the bytes say
-    scanned-said : (s l : List ℕ) → scanned lamps h s l ≡ scancodeAfter lamps bytes s l
+    pub scanned-said : (s l : List ℕ) → scanned lamps h s l ≡ scancodeAfter lamps bytes s l
     unfolding scancodeAfter
     scanned-said s l =
         ap₂ (λ (c : Bool) (f : ℕ → ℕ). scancode lamps c f s l) (as-well a) (fun-ext (λ b. as-then a b))

@@ -1,17 +1,18 @@
--- The bytes 00, E0, E1 and FA: they are strokes of no key of the table, press no lock, and give no event.
+-- The bytes 00, E0, E1 and FA: they are strokes of no key of the table, press no lock, and give no event. Every other byte gives one if its low part is a keycode.
 -- Assumes nothing.
 use mathlib.Core.Path.{_≡_, refl, sym, subst}
 use mathlib.Core.Bool.{Bool, true, false, _||_}
 use mathlib.Core.Logic.{⊎-elim}
 use Prim.Native.Nat.{ℕ}
-use lib.Dec.{eqb}
+use lib.Dec.{eqb, leb}
 use borrow.Author.Tests.{eqb-true}
-use Rattle.keyboard.specs.Strokes.{stroke, isPrefix}
+use Rattle.keyboard.specs.Limits.{lastKeycode}
+use Rattle.keyboard.specs.Strokes.{stroke, isPrefix, lowPart}
 use Rattle.keyboard.specs.FlagTable.{flagTable, isOf, pressesLock, isLockPress}
 use Rattle.keyboard.specs.Said.{gives}
 use Rattle.keyboard.specs.FlagsAfter.{flagsAfter}
 use Rattle.keyboard.specs.Handler.{isSilent}
-use Rattle.keyboard.proofs.Tests.{one-holds}
+use Rattle.keyboard.proofs.Tests.{one-holds, neither-holds}
 
 one-of-two : (P : ℕ → Type 0) (x y b : ℕ) → (eqb b x || eqb b y) ≡ true → P x → P y → P b
 one-of-two P x y b e p q =
@@ -33,3 +34,6 @@ module _ (b : ℕ) (e : isSilent b ≡ true) where
 
   pub silent-gives : gives b ≡ false
   silent-gives = silent-is (λ (b : ℕ). gives b ≡ false) b e refl refl refl refl
+
+pub key-gives : (b : ℕ) → isSilent b ≡ false → (c : Bool) → leb (lowPart b) lastKeycode ≡ c → gives b ≡ c
+key-gives b q c k = rw (neither-holds (eqb b 0x00) (eqb b 0xFA) (neither-holds (isPrefix b) (eqb b 0x00 || eqb b 0xFA) q .1) .0, k)

@@ -1,0 +1,47 @@
+-- What the program tablekeys prints of a script.
+-- Assumes nothing.
+use mathlib.Core.Bool.{cond}
+use mathlib.Core.List.{List, [], _∷_, _++_}
+use Prim.Native.Nat.{ℕ, zero, suc}
+use lib.ListN.{length, take, drop, replicate}
+use Rattle.keyboard.specs.declared.Handled.{Handled}
+use Rattle.keyboard.specs.declared.KeyboardHandler.{KeyboardHandler}
+use Rattle.keyboard.specs.Answers.{ends2-3-21}
+use Rattle.keyboard.specs.Handler.{handled}
+use Rattle.keyboard.specs.KeyboardLamps.{keyboardLamps}
+use Rattle.keyboard.specs.Record.{fresh}
+use Rattle.keyboard.specs.Taking.{taken}
+use Rattle.key_listing.specs.Lines.{takenLine, refusalLine}
+
+-- "Reads the first 65,536 script bytes from standard input and ignores more."
+abbrev pub scriptLimit : ℕ
+scriptLimit = 65536
+
+-- A handler call "with a 16-byte log each time".
+abbrev pub callOn : KeyboardHandler → List ℕ → Handled
+callOn h script = handled keyboardLamps h script (replicate 16 0)
+
+-- What one call prints: its refusal, if it is refused, and the event that is taken "at once".
+unfoldable pub callText : KeyboardHandler → List ℕ → List ℕ
+callText h script = refusalLine (callOn h script .answer) ++ takenLine (taken (callOn h script .handler) .event)
+
+-- The record after a call and its taking.
+unfoldable pub recordAfter : KeyboardHandler → List ℕ → KeyboardHandler
+recordAfter h script = taken (callOn h script .handler) .handler
+
+-- What at most n calls print, each made on the record and on the script that the last one left, "until the script is used". After 2, 3 or 21, where a call leaves its record as it was, no call follows.
+unfoldable pub callsText : ℕ → KeyboardHandler → List ℕ → List ℕ
+callsText zero h script = []
+callsText (suc n) h [] = []
+callsText (suc n) h (b ∷ script) =
+    callText h (b ∷ script)
+    ++ cond (ends2-3-21 (callOn h (b ∷ script) .answer)) []
+    (callsText n (recordAfter h (b ∷ script)) (drop (callOn h (b ∷ script) .used) (b ∷ script)))
+
+-- What is printed from a record on. Every call that another follows uses a byte, so there are no more calls than bytes.
+abbrev pub listingFrom : KeyboardHandler → List ℕ → List ℕ
+listingFrom h script = callsText (length script) h script
+
+-- What is printed "from a fresh record on".
+unfoldable pub listing : List ℕ → List ℕ
+listing script = listingFrom fresh (take scriptLimit script)
