@@ -12,7 +12,7 @@ use Rattle.exchange.specs.Parts.{part, restored}
 use Rattle.exchange.specs.Position.{Reached}
 use Rattle.exchange.proofs.Parts.{part-drop, restored-append}
 use Rattle.exchange.proofs.Sequence.{play-bind}
-use Rattle.exchange.proofs.Position.{reads-used-le, call-used-le, call-pairs-le, call-log-length, reached-done, reached-ends, reached-trans}
+use Rattle.exchange.proofs.Position.{call-used-le, call-pairs-le, call-log-length, call-tail-le, reached-done, reached-ends, reached-trans}
 
 -- ---- the first callee, which has the whole script and log
 
@@ -24,7 +24,7 @@ module _ {A B : Type 0} (t : Exchange A) (g : A → Exchange B) (s l : List ℕ)
       record {
         goes-on = play-bind g t s l ∙ rw (← r, q);
         used-le = call-used-le t s l r;
-        pairs-le = rw (call-log-length t s l r) (call-pairs-le t s l r);
+        pairs-le = call-tail-le t s l r;
         same-length = call-log-length t s l r;
       }
 
@@ -40,19 +40,38 @@ module _ {A B : Type 0} (t : Exchange A) (g : A → Exchange B) (s l : List ℕ)
 -- ---- a later callee, which has what is left of the script, `&script[u..]`, and of the log, `&mut log[2 * w..]`
 
 -- with what it uses and writes, no more is used and written than there is
+module _ {A : Type 0} (t : Exchange A) where
+  left-used-le : (s : List ℕ) (u : ℕ) (x : List ℕ) {e : End A} {u₂ w₂ : ℕ} {m : List ℕ} → u ≤ length s → played e u₂ w₂ m ≡ play t (part u s) x → u + u₂ ≤ length s
+  left-used-le s u x h r = omega (arith, length-drop u s, rw (part-drop u s) at (call-used-le t (part u s) x r))
+
+  left-pairs-le : (x l : List ℕ) (w : ℕ) {e : End A} {k u₂ w₂ : ℕ} {m : List ℕ} → 2 * w ≤ length l → k ≡ 2 * w → played e u₂ w₂ m ≡ play t x (part k l)
+      → 2 * (w + w₂) ≤ length l
+  left-pairs-le x l w {k = k} p h r = omega (arith, length-drop k l, rw (part-drop k l) at (call-pairs-le t x (part k l) r))
+
 module _ {A B : Type 0} {whole : Exchange A} {s l : List ℕ} {rest : Exchange A} {u w : ℕ} {l′ : List ℕ} (at : Reached whole s l rest u w l′) (t : Exchange B) where
   pub reached-used-le : (x : List ℕ) {e : End B} {u₂ w₂ : ℕ} {m : List ℕ} → played e u₂ w₂ m ≡ play t (part u s) x → u + u₂ ≤ length s
-  reached-used-le x r = omega (arith, at .used-le, length-drop u s, rw (part-drop u s) at (call-used-le t (part u s) x r))
+  reached-used-le x r = left-used-le t s u x (at .used-le) r
 
   pub reached-used-le-reads : {e : End B} {u₂ : ℕ} → Reads t (part u s) e u₂ → u + u₂ ≤ length s
   reached-used-le-reads r = reached-used-le [] (r .with-any [])
 
   pub reached-pairs-le : (x : List ℕ) {e : End B} {k u₂ w₂ : ℕ} {m : List ℕ} → k ≡ 2 * w → played e u₂ w₂ m ≡ play t x (part k l′) → 2 * (w + w₂) ≤ length l
-  reached-pairs-le x {k = k} h r =
-      omega (arith, at .pairs-le, at .same-length, length-drop k l′, rw (part-drop k l′) at (call-pairs-le t x (part k l′) r))
+  reached-pairs-le x h r = rw (at .same-length) at (left-pairs-le t x l′ w (at .pairs-le) h r)
 
 pub part-used-le : {A : Type 0} {t : Exchange A} (s : List ℕ) (u : ℕ) {e : End A} {u₂ : ℕ} → u ≤ length s → Reads t (part u s) e u₂ → u + u₂ ≤ length s
-part-used-le s u h r = omega (arith, length-drop u s, rw (part-drop u s) at (reads-used-le r))
+part-used-le {t = t} s u h r = left-used-le t s u [] h (r .with-any [])
+
+-- the same of two calls, one after the other
+module _ {A B : Type 0} (t : Exchange A) (n : Exchange B) (s l : List ℕ) {e : End A} {u w : ℕ} {l′ : List ℕ} (r : played e u w l′ ≡ play t s l) where
+  module _ {e₂ : End B} {k u₂ w₂ : ℕ} {m : List ℕ} (h : k ≡ 2 * w) (r₂ : played e₂ u₂ w₂ m ≡ play n (part u s) (part k l′)) where
+    pub two-used-le : u + u₂ ≤ length s
+    two-used-le = left-used-le n s u (part k l′) (call-used-le t s l r) r₂
+
+    pub two-pairs-le : 2 * (w + w₂) ≤ length l
+    two-pairs-le = rw (call-log-length t s l r) at (left-pairs-le n (part u s) l′ w (call-tail-le t s l r) h r₂)
+
+  pub two-used-le-reads : {e₂ : End B} {u₂ : ℕ} → Reads n (part u s) e₂ u₂ → u + u₂ ≤ length s
+  two-used-le-reads r₂ = part-used-le s u (call-used-le t s l r) r₂
 
 -- its contract without the form of the parts, and the log with its part given back
 on-what-is-left : {A : Type 0} (t : Exchange A) (s : List ℕ) (u : ℕ) (l : List ℕ) (w : ℕ) {e : End A} {k u₂ w₂ : ℕ} {m : List ℕ} → k ≡ 2 * w
@@ -118,6 +137,10 @@ module _ {A B : Type 0} (t : Exchange A) (g : A → Exchange B) (s l : List ℕ)
   pub bind-yields-reads : {a : A} → e ≡ yields a → {e₂ : End B} {u₂ : ℕ} → Reads (g a) (part u s) e₂ u₂
       → played e₂ (u + u₂) w l′ ≡ play (bind t g) s l
   bind-yields-reads {a} q = reached-last-reads (g a) (bind-reached t g s l r q)
+
+  pub bind-yields-writes : {a : A} → e ≡ yields a → {e₂ : End B} {k w₂ : ℕ} {m : List ℕ} → k ≡ 2 * w → Writes (g a) (part k l′) e₂ w₂ m
+      → played e₂ u (w + w₂) (restored k l′ m) ≡ play (bind t g) s l
+  bind-yields-writes q h x = rw (add-zero u) at (bind-yields q h (x .with-any (part u s)))
 
   -- nothing is left to read or write
   pub bind-done : {a : A} {b : B} → e ≡ yields a → g a ≡ done b → played (yields b) u w l′ ≡ play (bind t g) s l

@@ -6,6 +6,8 @@ pub mod Kept
 pub mod Sequence
 pub mod Position
 pub mod Calls
+pub mod Told
+pub mod Left
 pub mod Repeat
 pub mod Reading
 pub mod Silence

@@ -28,6 +28,10 @@ module _ {A : Type 0} (t : Exchange A) (s l : List ℕ) {e : End A} {u w : ℕ} 
   pub call-log-length : length l′ ≡ length l
   call-log-length = ap (λ (o : Played A). length (o .log)) r ∙ log-length t s l
 
+  -- the pairs that it wrote are within the log as it left it
+  pub call-tail-le : 2 * w ≤ length l′
+  call-tail-le = rw call-log-length call-pairs-le
+
 pub reads-used-le : {A : Type 0} {t : Exchange A} {s : List ℕ} {e : End A} {u : ℕ} → Reads t s e u → u ≤ length s
 reads-used-le {t = t} {s = s} r = call-used-le t s [] (r .with-any [])
 
@@ -37,6 +41,9 @@ module _ {A : Type 0} {t : Exchange A} {l : List ℕ} {e : End A} {w : ℕ} {l�
 
   pub writes-log-length : length l′ ≡ length l
   writes-log-length = call-log-length t [] l (r .with-any [])
+
+  pub writes-tail-le : 2 * w ≤ length l′
+  writes-tail-le = call-tail-le t [] l (r .with-any [])
 
 -- ---- positions
 

@@ -31,6 +31,12 @@ pub data End (A : Type 0) : Type 0 where
   noScript : End A
   noLog : End A
 
+-- The same end, with what it yields told in another way.
+abbrev pub toldEnd : {A B : Type 0} → (A → B) → End A → End B
+toldEnd f (yields a) = yields (f a)
+toldEnd f noScript = noScript
+toldEnd f noLog = noLog
+
 -- What a play comes to (document 01, "Every answer gives the number of script bytes used and of pairs written"): its end, the script bytes used, the pairs written, and the log as it is left.
 pub record Played (A : Type 0) : Type 0 where
   pub end : End A

@@ -4,7 +4,7 @@ use Prim.Native.Nat.{ℕ, zero, suc, _*_}
 use mathlib.Core.List.{List, [], _++_}
 use mathlib.Core.Path.{_≡_}
 use lib.ListN.{drop}
-use Rattle.exchange.specs.Exchange.{Exchange, done, bind, End, yields, noScript, noLog, play}
+use Rattle.exchange.specs.Exchange.{Exchange, done, bind, End, yields, toldEnd, play}
 
 -- What one turn comes to: an answer, or another turn.
 pub data Turn (A : Type 0) : Type 0 where
@@ -18,9 +18,7 @@ turned again rest = rest
 
 -- The end of a turn that is the end of the whole: an answer found, or a lack of script or log.
 abbrev pub foundEnd : {A : Type 0} → End A → End (Turn A)
-foundEnd (yields a) = yields (found a)
-foundEnd noScript = noScript
-foundEnd noLog = noLog
+foundEnd e = toldEnd found e
 
 -- At most n turns, up to the first that finds an answer; `otherwise` where none of them does.
 unfoldable pub repeat : {A : Type 0} → ℕ → A → Exchange (Turn A) → Exchange A

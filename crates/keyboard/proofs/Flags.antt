@@ -17,7 +17,7 @@ use Rattle.keyboard.specs.FlagTable.{Kind, lock, held, left, right, Flag
 use Rattle.keyboard.specs.Said.{times, lastWasPress, saidOf, said, wordOf, flagsSaid}
 use Rattle.keyboard.specs.FlagsAfter.{flagAfter, rowAfter, flagsAfter}
 use Rattle.keyboard.proofs.Tests.{neither-holds}
-use Rattle.keyboard.proofs.PutBits.{put-put, put-comm}
+use Rattle.bits.proofs.PutBits.{put-put, put-comm}
 
 -- ---- what is asked of a table: no two rows have one flag, and each flag is below n
 

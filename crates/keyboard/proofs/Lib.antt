@@ -3,7 +3,6 @@ pub mod Tests
 pub mod Ways
 pub mod Ring
 pub mod Row
-pub mod PutBits
 pub mod Flags
 pub mod Silent
 pub mod Untouched

@@ -1,38 +1,17 @@
 -- A command and what follows it, from what the code's calls answered.
 -- Assumes nothing.
-use Prim.Native.Nat.{ℕ, _+_, _*_, _≤_}
-use native.Mathlib.Omega.{arith}
+use Prim.Native.Nat.{ℕ, _+_, _*_}
 use mathlib.Core.List.{List}
 use mathlib.Core.Path.{_≡_, ap}
-use lib.ListN.{length, length-drop}
 use Rattle.exchange.specs.Exchange.{Exchange, End, played, play, Reads}
 use Rattle.exchange.specs.Answer.{Answer, onGiven, andThen}
 use Rattle.exchange.specs.Parts.{part, restored}
-use Rattle.exchange.proofs.Parts.{part-drop}
-use Rattle.exchange.proofs.Position.{call-used-le, call-pairs-le, call-log-length}
-use Rattle.exchange.proofs.Calls.{bind-yields, bind-yields-reads, part-used-le}
+use Rattle.exchange.proofs.Calls.{bind-yields, bind-yields-reads}
 use Rattle.ps2_ports.specs.declared.Refusal.{Refusal}
 use Rattle.ps2_ports.specs.Refusals.{refused}
 use Rattle.ps2_ports.proofs.Refusals.{bind-refused}
 use Rattle.ps2_command.specs.declared.CommandAnswer.{CommandAnswer}
 use Rattle.ps2_command.specs.Command.{Accepted, accepted, saidCommand}
-
--- ---- what two calls, one after the other, use and write together
-
-module _ {A B : Type 0} (t : Exchange A) (n : Exchange B) (s l : List ℕ) {e : End A} {u w : ℕ} {l′ : List ℕ} (r : played e u w l′ ≡ play t s l)
-    {e₂ : End B} {k u₂ w₂ : ℕ} {m : List ℕ} (h : k ≡ 2 * w) (r₂ : played e₂ u₂ w₂ m ≡ play n (part u s) (part k l′)) where
-  pub two-used-le : u + u₂ ≤ length s
-  two-used-le = omega (arith, call-used-le t s l r, length-drop u s, rw (part-drop u s) at (call-used-le n (part u s) (part k l′) r₂))
-
-  pub two-pairs-le : 2 * (w + w₂) ≤ length l
-  two-pairs-le =
-      omega (arith, call-pairs-le t s l r, call-log-length t s l r, length-drop k l′, rw (part-drop k l′) at (call-pairs-le n (part u s) (part k l′) r₂))
-
-pub two-used-le-reads : {A B : Type 0} (t : Exchange A) (n : Exchange B) (s l : List ℕ) {e : End A} {u w : ℕ} {l′ : List ℕ} → played e u w l′ ≡ play t s l
-    → {e₂ : End B} {u₂ : ℕ} → Reads n (part u s) e₂ u₂ → u + u₂ ≤ length s
-two-used-le-reads t n s l {u = u} r r₂ = part-used-le s u (call-used-le t s l r) r₂
-
--- ---- what they come to
 
 module _ {B : Type 0} (t : Exchange (Answer Accepted)) (g : Accepted → Exchange (Answer B)) (s l : List ℕ) (a : CommandAnswer) {u w : ℕ} {l′ : List ℕ}
     (r : played (saidCommand a) u w l′ ≡ play t s l) where

@@ -8,6 +8,7 @@ use Rattle.exchange.specs.Exchange.{done, bind, End, Played, played, play}
 use Rattle.exchange.specs.Answer.{Answer, refuses}
 use Rattle.exchange.specs.Left.{Left, left, recordAfter}
 use Rattle.exchange.proofs.Calls.{bind-done, bind-no-script, bind-no-log}
+use Rattle.exchange.proofs.Left.{record-after}
 use Rattle.ps2_ports.specs.declared.Completion.{Completion}
 use Rattle.ps2_ports.specs.declared.Failure.the-variants.{AlreadyInitialized}
 use Rattle.ps2_ports.specs.declared.Refusal.{Refusal}
@@ -24,13 +25,9 @@ Promised passed answer now u w l′ s l =
     (played (saidInit answer now) u w l′ ≡ play (initialize passed) s l) × (now ≡ recordAfter passed (play (initialize passed) s l .end))
 
 module _ (passed : PS2Controller) (s l : List ℕ) where
-  promised : (now : PS2Controller) (answer : Completion) {u w : ℕ} {l′ : List ℕ} → played (saidInit answer now) u w l′ ≡ play (initialize passed) s l
-      → now ≡ recordAfter passed (saidInit answer now) → Promised passed answer now u w l′ s l
-  promised now answer r q = (r, q ∙ ap (λ (o : Played (Left PS2Controller Success)). recordAfter passed (o .end)) r)
-
   pub init-already : passed .initialized ≡ true → Promised passed (Completion.Refused (Failed AlreadyInitialized)) passed 0 0 l s l
   unfolding initialize play
-  init-already h = promised passed (Completion.Refused (Failed AlreadyInitialized)) (rw h) refl
+  init-already h = record-after passed (rw h) refl
 
   -- where it was not initialised, its steps are what there is to do
   steps : passed .initialized ≡ false → {o : Played (Left PS2Controller Success)} → o ≡ play (bind setUp (λ a. done (orPassed passed a))) s l
@@ -40,9 +37,9 @@ module _ (passed : PS2Controller) (s l : List ℕ) where
 
   module _ (h : passed .initialized ≡ false) {e : End (Answer PS2Controller)} {u w : ℕ} {l′ : List ℕ} (r : played e u w l′ ≡ play setUp s l) where
     pub init-ready : (now : PS2Controller) → e ≡ saidSetUp (SetUpAnswer.Ready now) → Promised passed Completion.Done now u w l′ s l
-    init-ready now q = promised now Completion.Done (steps h (bind-done setUp (λ a. done (orPassed passed a)) s l r q refl)) refl
+    init-ready now q = record-after passed (steps h (bind-done setUp (λ a. done (orPassed passed a)) s l r q refl)) refl
 
     pub init-refused : (x : Refusal) → e ≡ saidSetUp (SetUpAnswer.Refused x) → Promised passed (Completion.Refused x) passed u w l′ s l
-    init-refused ScriptUsedUp q = promised passed (Completion.Refused ScriptUsedUp) (steps h (bind-no-script setUp (λ a. done (orPassed passed a)) s l r q)) refl
-    init-refused LogFull q = promised passed (Completion.Refused LogFull) (steps h (bind-no-log setUp (λ a. done (orPassed passed a)) s l r q)) refl
-    init-refused (Failed f) q = promised passed (Completion.Refused (Failed f)) (steps h (bind-done setUp (λ a. done (orPassed passed a)) s l r q refl)) refl
+    init-refused ScriptUsedUp q = record-after passed (steps h (bind-no-script setUp (λ a. done (orPassed passed a)) s l r q)) refl
+    init-refused LogFull q = record-after passed (steps h (bind-no-log setUp (λ a. done (orPassed passed a)) s l r q)) refl
+    init-refused (Failed f) q = record-after passed (steps h (bind-done setUp (λ a. done (orPassed passed a)) s l r q refl)) refl

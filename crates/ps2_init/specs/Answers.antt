@@ -5,7 +5,6 @@ use Prim.Native.Nat.{ℕ}
 use Rattle.exchange.specs.Exchange.{Exchange, done, bind, End, yields, noScript, noLog}
 use Rattle.exchange.specs.Answer.{Answer, gives, refuses, andThen}
 use Rattle.exchange.specs.Left.{Left, left}
-use Rattle.exchange.specs.Refuses.{given}
 use Rattle.ps2_bytes.specs.declared.command.HostToControllerCommand.{HostToControllerCommand}
 use Rattle.ps2_bytes.specs.declared.command.HostToControllerCommand.the-variants.{EnablePort1, EnablePort2}
 use Rattle.ps2_bytes.specs.declared.configuration.ControllerConfigurationByte.{ControllerConfigurationByte}
@@ -41,12 +40,6 @@ lackRefusal LogFull = Refusal.LogFull
 abbrev pub saidTrial : Trial → End Bool
 saidTrial (Trial.Worked b) = yields b
 saidTrial (Trial.Lacked x) = lacked x
-
--- Whether an operation gave what it is for, by the end of its play.
-abbrev pub givenEnd : {A : Type 0} → End (Answer A) → End Bool
-givenEnd (yields a) = yields (given a)
-givenEnd noScript = noScript
-givenEnd noLog = noLog
 
 -- ---- the two ports
 

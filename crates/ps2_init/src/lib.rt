@@ -1,9 +1,9 @@
 // Initialisation of the controller, and the devices that it found.
 ghost use mathlib.Core.Path.{_≡_};
-ghost use Rattle.exchange.specs.Exchange.{play, played, yields, done, bind, Writes};
+ghost use Rattle.exchange.specs.Exchange.{play, played, yields, toldEnd, done, bind, Writes};
 ghost use Rattle.exchange.specs.Answer.{andThen};
 ghost use Rattle.exchange.specs.Left.{recordAfter};
-ghost use Rattle.exchange.specs.Refuses.{succeeds};
+ghost use Rattle.exchange.specs.Refuses.{given, succeeds};
 ghost use Rattle.ps2_bytes.specs.declared.command.HostToControllerCommand.the-variants.{DisablePort1, DisablePort2, EnablePort2};
 ghost use Rattle.ps2_bytes.specs.Configuration.{port2Interrupt, port2ClockDisabled};
 ghost use Rattle.ps2_ports.specs.Ports.{writeCommand, flushOutputBuffer, readConfig, writeConfig, saidConfig};
@@ -11,7 +11,7 @@ ghost use Rattle.ps2_ports.specs.Refusals.{saidDone};
 ghost use Rattle.ps2_polling.specs.Polling.{testController};
 ghost use Rattle.ps2_mouse.specs.Mouse.{resetMouse};
 ghost use Rattle.ps2_init.specs.Init.{quieted as quietedRule, running as runningRule, disableDevices, testWith, testSecond, atLeastOne, testPorts, enablePort, enablePorts, resetDevices, setUp, initialize, keyboardRef, mouseRef};
-ghost use Rattle.ps2_init.specs.Answers.{lackRefusal, saidTrial, givenEnd, enableOf, clockOf, interruptOf, portsOf, saidPorts, readLast, withDevices, enabled, portsTested, tested, saidSetUp, saidInit};
+ghost use Rattle.ps2_init.specs.Answers.{lackRefusal, saidTrial, enableOf, clockOf, interruptOf, portsOf, saidPorts, readLast, withDevices, enabled, portsTested, tested, saidSetUp, saidInit};
 use ps2_bytes::ControllerConfigurationByte;
 use ps2_bytes::HostToControllerCommand;
 use ps2_keyboard::reset_keyboard;
@@ -478,7 +478,7 @@ fn at_least_one(port_1_works: bool, port_2_works: bool) -> PortsAnswer
 
 // Whether a step worked, where its failure is forgiven.
 fn tried(answer: Completion) -> Trial
-    ensures { λ r. ⌜ saidTrial r ≡ givenEnd (saidDone answer) ⌝ }
+    ensures { λ r. ⌜ saidTrial r ≡ toldEnd given (saidDone answer) ⌝ }
 {
     match answer {
         Completion::Done => Trial::Worked(true),

@@ -5,8 +5,6 @@ pub mod Identity
 pub mod Reset
 pub mod NoIdentity
 pub mod Packet
-pub mod Told
-pub mod Tail
 pub mod Polls
 pub mod Record
 pub mod Rates

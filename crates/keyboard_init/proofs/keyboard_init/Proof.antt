@@ -4,11 +4,10 @@ use borrow.Author.Needs.{needs}
 use native.Mathlib.Omega.{arith}
 use mathlib.Core.Path.{refl, ap}
 use Rattle.exchange.specs.Answer.{andThen, onGiven}
-use Rattle.exchange.proofs.Position.{call-used-le, call-pairs-le, call-log-length}
-use Rattle.exchange.proofs.Calls.{bind-yields}
+use Rattle.exchange.proofs.Position.{call-used-le, call-pairs-le, call-tail-le}
+use Rattle.exchange.proofs.Calls.{bind-yields, two-used-le, two-pairs-le}
 use Rattle.ps2_bytes.specs.declared.data.ScancodeSet.the-variants.{Set1}
 use Rattle.ps2_ports.proofs.Refusals.{bind-refused}
-use Rattle.ps2_command.proofs.Accepted.{two-used-le, two-pairs-le}
 use Rattle.ps2_keyboard.specs.Keyboard.{setScancodeSet}
 use Rattle.ps2_keyboard.specs.Answers.{saidType}
 use Rattle.keyboard_init.specs.KeyboardInit.{detection, keyboardInit}
@@ -24,9 +23,7 @@ sub-script : tie.Need-sub-set-keyboard-scancode-set
 sub-script c = call-used-le _ _ _ (c .before .before .before .before .detect-type .ensures)
 
 sub-log : tie.Need-sub-set-keyboard-scancode-set-2
-sub-log c =
-    let e = c .before .before .before .before .before .detect-type .ensures in
-    omega (arith, call-pairs-le _ _ _ e, call-log-length _ _ _ e)
+sub-log c = call-tail-le _ _ _ (c .before .before .before .before .before .detect-type .ensures)
 
 add-used : tie.Need-add-t15
 add-used c =

@@ -4,7 +4,7 @@ use borrow.Author.Needs.{needs}
 use native.Mathlib.Omega.{arith}
 use mathlib.Core.Path.{refl, ap}
 use Rattle.exchange.specs.Answer.{andThen, onGiven}
-use Rattle.exchange.proofs.Position.{call-pairs-le, writes-pairs-le, writes-log-length}
+use Rattle.exchange.proofs.Position.{call-pairs-le, writes-pairs-le, writes-tail-le}
 use Rattle.exchange.proofs.Calls.{writes-then}
 use Rattle.ps2_bytes.specs.declared.command.HostToControllerCommand.the-variants.{WriteByteToPort2InputBuffer}
 use Rattle.ps2_ports.specs.Refusals.{saidDone}
@@ -20,12 +20,7 @@ mul-at c =
     omega (arith, writes-pairs-le (w .write-command .ensures), w .before .before .before .before .good)
 
 sub-command : tie.Need-sub-command
-sub-command c =
-    let e = c .before .before .before .before .write-command .ensures in
-    omega (arith, writes-pairs-le e, writes-log-length e)
-
-part-command-start : tie.Need-part-command-start
-part-command-start c = sub-command c
+sub-command c = writes-tail-le (c .before .before .before .before .write-command .ensures)
 
 returns : tie.Need-returns
 unfolding commandToPort2 andThen
@@ -56,7 +51,7 @@ command-to-port2-spec =
     (λ c. search needs)
     mul-at
     sub-command
-    part-command-start
+    sub-command
     (λ c. search needs)
     (λ c κs. search needs)
     add-t16

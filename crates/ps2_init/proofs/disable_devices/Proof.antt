@@ -4,7 +4,7 @@ use borrow.Author.Needs.{needs}
 use native.Mathlib.Omega.{arith}
 use mathlib.Core.Path.{refl, ap}
 use Rattle.exchange.specs.Answer.{onGiven, andThen}
-use Rattle.exchange.proofs.Position.{call-pairs-le, writes-pairs-le, writes-log-length}
+use Rattle.exchange.proofs.Position.{call-pairs-le, writes-pairs-le, writes-tail-le}
 use Rattle.exchange.proofs.Calls.{writes-then}
 use Rattle.ps2_ports.proofs.Refusals.{bind-refused}
 use Rattle.ps2_bytes.specs.declared.command.HostToControllerCommand.the-variants.{DisablePort1, DisablePort2}
@@ -20,9 +20,7 @@ mul-at c =
     omega (arith, writes-pairs-le (w .write-command .ensures), w .before .before .before .before .good)
 
 sub-disable-port2 : tie.Need-sub-disable-port2
-sub-disable-port2 c =
-    let e = c .before .before .before .before .write-command .ensures in
-    omega (arith, writes-pairs-le e, writes-log-length e)
+sub-disable-port2 c = writes-tail-le (c .before .before .before .before .write-command .ensures)
 
 returns : tie.Need-returns
 unfolding disableDevices andThen

@@ -4,7 +4,7 @@ use borrow.Author.Needs.{needs}
 use native.Mathlib.Omega.{arith}
 use mathlib.Core.Path.{refl, ap}
 use Rattle.exchange.specs.Answer.{onGiven, andThen}
-use Rattle.exchange.proofs.Position.{call-pairs-le, writes-pairs-le, writes-log-length}
+use Rattle.exchange.proofs.Position.{call-pairs-le, writes-pairs-le, writes-tail-le}
 use Rattle.exchange.proofs.Calls.{writes-then}
 use Rattle.ps2_ports.proofs.Refusals.{bind-refused}
 use Rattle.ps2_bytes.specs.declared.command.HostToControllerCommand.the-variants.{DisablePort2}
@@ -19,9 +19,7 @@ mul-at c =
     omega (arith, writes-pairs-le (w .write-command .ensures), w .before .before .before .before .good)
 
 sub-flush-and-read-config : tie.Need-sub-flush-and-read-config
-sub-flush-and-read-config c =
-    let e = c .before .before .before .before .write-command .ensures in
-    omega (arith, writes-pairs-le e, writes-log-length e)
+sub-flush-and-read-config c = writes-tail-le (c .before .before .before .before .write-command .ensures)
 
 returns : tie.Need-returns
 unfolding andThen

@@ -4,7 +4,7 @@ use borrow.Author.Needs.{needs}
 use native.Mathlib.Omega.{arith}
 use mathlib.Core.Path.{refl, ap}
 use Rattle.exchange.specs.Answer.{onGiven, andThen}
-use Rattle.exchange.proofs.Position.{call-pairs-le, writes-pairs-le, writes-log-length}
+use Rattle.exchange.proofs.Position.{call-pairs-le, writes-pairs-le, writes-tail-le}
 use Rattle.exchange.proofs.Calls.{writes-then}
 use Rattle.ps2_ports.proofs.Refusals.{bind-refused}
 use Rattle.exchange.specs.Exchange.{bind}
@@ -20,9 +20,7 @@ mul-at c =
     omega (arith, writes-pairs-le (w .enable-ports .ensures), w .before .before .before .before .good)
 
 sub-reset-devices : tie.Need-sub-reset-devices
-sub-reset-devices c =
-    let e = c .before .before .before .before .enable-ports .ensures in
-    omega (arith, writes-pairs-le e, writes-log-length e)
+sub-reset-devices c = writes-tail-le (c .before .before .before .before .enable-ports .ensures)
 
 returns : tie.Need-returns
 unfolding andThen

@@ -4,7 +4,7 @@ use borrow.Author.Needs.{needs}
 use native.Mathlib.Omega.{arith}
 use mathlib.Core.Path.{refl, ap}
 use Rattle.exchange.specs.Answer.{onGiven, andThen}
-use Rattle.exchange.proofs.Position.{writes-pairs-le, writes-log-length}
+use Rattle.exchange.proofs.Position.{writes-pairs-le, writes-tail-le}
 use Rattle.exchange.proofs.Calls.{writes-yields}
 use Rattle.ps2_ports.proofs.Refusals.{writes-refused}
 use Rattle.ps2_bytes.specs.declared.command.HostToControllerCommand.the-variants.{EnablePort1, EnablePort2}
@@ -20,9 +20,7 @@ mul-at c =
     omega (arith, writes-pairs-le (w .enable-port .ensures), w .before .before .before .good)
 
 sub-enable-port2 : tie.Need-sub-enable-port2
-sub-enable-port2 c =
-    let e = c .before .before .before .before .before .enable-port .ensures in
-    omega (arith, writes-pairs-le e, writes-log-length e)
+sub-enable-port2 c = writes-tail-le (c .before .before .before .before .before .enable-port .ensures)
 
 returns : tie.Need-returns
 unfolding enablePorts andThen

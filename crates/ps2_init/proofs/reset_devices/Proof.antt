@@ -3,9 +3,8 @@
 use borrow.Author.Needs.{needs}
 use native.Mathlib.Omega.{arith}
 use mathlib.Core.Path.{refl, ap}
-use Rattle.exchange.proofs.Position.{call-used-le, call-pairs-le, call-log-length}
-use Rattle.exchange.proofs.Calls.{bind-yields}
-use Rattle.ps2_command.proofs.Accepted.{two-used-le, two-pairs-le}
+use Rattle.exchange.proofs.Position.{call-used-le, call-pairs-le, call-tail-le}
+use Rattle.exchange.proofs.Calls.{bind-yields, two-used-le, two-pairs-le}
 use Rattle.exchange.specs.Refuses.{succeeds}
 use Rattle.ps2_init.specs.Answers.{saidTrial}
 use Rattle.ps2_init.proofs.Trials.{succeeds-tried, bind-lacked}
@@ -26,9 +25,7 @@ sub-reset-mouse : tie.Need-sub-reset-mouse
 sub-reset-mouse c = call-used-le _ _ _ (c .before .before .before .before .before .before .reset-keyboard .ensures)
 
 sub-reset-mouse-2 : tie.Need-sub-reset-mouse-2
-sub-reset-mouse-2 c =
-    let e = c .before .before .before .before .before .before .before .reset-keyboard .ensures in
-    omega (arith, call-pairs-le _ _ _ e, call-log-length _ _ _ e)
+sub-reset-mouse-2 c = call-tail-le _ _ _ (c .before .before .before .before .before .before .before .reset-keyboard .ensures)
 
 add-t17 : tie.Need-add-t17
 add-t17 c =

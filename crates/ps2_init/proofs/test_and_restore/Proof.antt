@@ -4,12 +4,12 @@ use borrow.Author.Needs.{needs}
 use native.Mathlib.Omega.{arith}
 use mathlib.Core.Path.{refl, ap}
 use Rattle.exchange.specs.Answer.{onGiven, andThen}
-use Rattle.exchange.proofs.Position.{call-pairs-le, call-log-length}
+use Rattle.exchange.proofs.Position.{call-pairs-le, call-tail-le}
+use Rattle.exchange.proofs.Calls.{bind-yields-writes}
 use Rattle.ps2_ports.specs.Ports.{writeConfig}
 use Rattle.ps2_ports.specs.Refusals.{saidDone}
 use Rattle.ps2_ports.proofs.Refusals.{bind-refused}
 use Rattle.ps2_polling.specs.Polling.{testController}
-use Rattle.ps2_init.proofs.Trials.{bind-yields-writes}
 use Rattle.ps2_init.proofs.test_and_restore.Statement.{statement}
 use Rattle.ps2_init.proofs.test_and_restore.Tie as tie
 
@@ -19,9 +19,7 @@ mul-at c =
     omega (arith, call-pairs-le _ _ _ (w .test .ensures), w .before .before .before .before .good)
 
 sub-write-config : tie.Need-sub-write-config
-sub-write-config c =
-    let e = c .before .before .before .before .test .ensures in
-    omega (arith, call-pairs-le _ _ _ e, call-log-length _ _ _ e)
+sub-write-config c = call-tail-le _ _ _ (c .before .before .before .before .test .ensures)
 
 returns : tie.Need-returns
 unfolding andThen

@@ -3,9 +3,8 @@
 use borrow.Author.Needs.{needs}
 use native.Mathlib.Omega.{arith}
 use mathlib.Core.Path.{refl, ap}
-use Rattle.exchange.proofs.Position.{call-used-le, call-pairs-le, call-log-length}
-use Rattle.exchange.proofs.Calls.{bind-yields}
-use Rattle.ps2_command.proofs.Accepted.{two-used-le, two-pairs-le}
+use Rattle.exchange.proofs.Position.{call-used-le, call-pairs-le, call-tail-le}
+use Rattle.exchange.proofs.Calls.{bind-yields, two-used-le, two-pairs-le}
 use Rattle.exchange.specs.Answer.{onGiven, andThen}
 use Rattle.ps2_ports.proofs.Refusals.{bind-refused}
 use Rattle.ps2_ports.specs.Refusals.{saidDone}
@@ -23,9 +22,7 @@ sub-test-ports-and-set-up : tie.Need-sub-test-ports-and-set-up
 sub-test-ports-and-set-up c = call-used-le _ _ _ (c .before .before .before .before .test-with .ensures)
 
 sub-test-ports-and-set-up-2 : tie.Need-sub-test-ports-and-set-up-2
-sub-test-ports-and-set-up-2 c =
-    let e = c .before .before .before .before .before .test-with .ensures in
-    omega (arith, call-pairs-le _ _ _ e, call-log-length _ _ _ e)
+sub-test-ports-and-set-up-2 c = call-tail-le _ _ _ (c .before .before .before .before .before .test-with .ensures)
 
 add-t17 : tie.Need-add-t17
 add-t17 c =

@@ -3,9 +3,8 @@
 use borrow.Author.Needs.{needs}
 use native.Mathlib.Omega.{arith}
 use mathlib.Core.Path.{refl, ap}
-use Rattle.exchange.proofs.Position.{call-used-le, call-pairs-le, call-log-length}
-use Rattle.exchange.proofs.Calls.{bind-yields}
-use Rattle.ps2_command.proofs.Accepted.{two-used-le, two-pairs-le}
+use Rattle.exchange.proofs.Position.{call-used-le, call-pairs-le, call-tail-le}
+use Rattle.exchange.proofs.Calls.{bind-yields, two-used-le, two-pairs-le}
 use Rattle.exchange.specs.Answer.{onGiven, andThen}
 use Rattle.ps2_ports.proofs.Refusals.{bind-refused}
 use Rattle.ps2_init.specs.Init.{testPorts}
@@ -22,9 +21,7 @@ sub-enable-and-reset : tie.Need-sub-enable-and-reset
 sub-enable-and-reset c = call-used-le _ _ _ (c .before .before .before .before .before .test-ports .ensures)
 
 sub-enable-and-reset-2 : tie.Need-sub-enable-and-reset-2
-sub-enable-and-reset-2 c =
-    let e = c .before .before .before .before .before .before .test-ports .ensures in
-    omega (arith, call-pairs-le _ _ _ e, call-log-length _ _ _ e)
+sub-enable-and-reset-2 c = call-tail-le _ _ _ (c .before .before .before .before .before .before .test-ports .ensures)
 
 add-t18 : tie.Need-add-t18
 add-t18 c =

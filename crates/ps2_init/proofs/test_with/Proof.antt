@@ -4,7 +4,7 @@ use borrow.Author.Needs.{needs}
 use native.Mathlib.Omega.{arith}
 use mathlib.Core.Path.{refl, ap}
 use Rattle.exchange.specs.Answer.{onGiven, andThen}
-use Rattle.exchange.proofs.Position.{call-pairs-le, writes-pairs-le, writes-log-length}
+use Rattle.exchange.proofs.Position.{call-pairs-le, writes-pairs-le, writes-tail-le}
 use Rattle.exchange.proofs.Calls.{writes-then}
 use Rattle.ps2_ports.proofs.Refusals.{bind-refused}
 use Rattle.ps2_ports.specs.Ports.{writeConfig}
@@ -20,9 +20,7 @@ mul-at c =
     omega (arith, writes-pairs-le (w .write-config .ensures), w .before .before .before .before .good)
 
 sub-test-and-restore : tie.Need-sub-test-and-restore
-sub-test-and-restore c =
-    let e = c .before .before .before .before .write-config .ensures in
-    omega (arith, writes-pairs-le e, writes-log-length e)
+sub-test-and-restore c = writes-tail-le (c .before .before .before .before .write-config .ensures)
 
 returns : tie.Need-returns
 unfolding testWith andThen

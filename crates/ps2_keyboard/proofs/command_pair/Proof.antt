@@ -3,8 +3,9 @@
 use borrow.Author.Needs.{needs}
 use native.Mathlib.Omega.{arith}
 use mathlib.Core.Path.{refl}
-use Rattle.exchange.proofs.Position.{call-used-le, call-pairs-le, call-log-length}
-use Rattle.ps2_command.proofs.Accepted.{two-used-le, two-pairs-le, accepted-then, refused-then}
+use Rattle.exchange.proofs.Position.{call-used-le, call-pairs-le, call-tail-le}
+use Rattle.exchange.proofs.Calls.{two-used-le, two-pairs-le}
+use Rattle.ps2_command.proofs.Accepted.{accepted-then, refused-then}
 use Rattle.ps2_keyboard.proofs.command_pair.Statement.{statement}
 use Rattle.ps2_keyboard.proofs.command_pair.Tie as tie
 
@@ -17,9 +18,7 @@ sub-command-to-keyboard : tie.Need-sub-command-to-keyboard
 sub-command-to-keyboard c = call-used-le _ _ _ (c .before .before .before .before .command-to-keyboard .ensures)
 
 sub-command-to-keyboard-2 : tie.Need-sub-command-to-keyboard-2
-sub-command-to-keyboard-2 c =
-    let e = c .before .before .before .before .before .command-to-keyboard .ensures in
-    omega (arith, call-pairs-le _ _ _ e, call-log-length _ _ _ e)
+sub-command-to-keyboard-2 c = call-tail-le _ _ _ (c .before .before .before .before .before .command-to-keyboard .ensures)
 
 add-t17 : tie.Need-add-t17
 add-t17 c =

@@ -3,7 +3,8 @@
 use borrow.Author.Needs.{needs}
 use native.Mathlib.Omega.{arith}
 use Rattle.exchange.proofs.Position.{call-used-le}
-use Rattle.ps2_command.proofs.Accepted.{two-used-le-reads, accepted-then-reads, refused-then}
+use Rattle.exchange.proofs.Calls.{two-used-le-reads}
+use Rattle.ps2_command.proofs.Accepted.{accepted-then-reads, refused-then}
 use Rattle.ps2_keyboard.specs.Keyboard.{commandScancodeSet, getScancodeSet}
 use Rattle.ps2_keyboard.specs.Parts.{setSearch}
 use Rattle.ps2_keyboard.proofs.get_keyboard_scancode_set.Statement.{statement}

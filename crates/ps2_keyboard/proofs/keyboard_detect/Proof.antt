@@ -5,9 +5,10 @@ use native.Mathlib.Omega.{arith}
 use mathlib.Core.Path.{_≡_, refl}
 use Rattle.exchange.specs.Answer.{andThen}
 use Rattle.exchange.proofs.Grouping.{andThen-assoc}
-use Rattle.exchange.proofs.Position.{call-used-le, call-pairs-le, call-log-length}
+use Rattle.exchange.proofs.Position.{call-used-le, call-pairs-le, call-tail-le}
+use Rattle.exchange.proofs.Calls.{two-used-le, two-pairs-le}
 use Rattle.ps2_bytes.specs.declared.command.HostToKeyboardCommand.the-variants.{DisableScanning, IdentifyKeyboard}
-use Rattle.ps2_command.proofs.Accepted.{two-used-le, two-pairs-le, accepted-then, refused-then}
+use Rattle.ps2_command.proofs.Accepted.{accepted-then, refused-then}
 use Rattle.ps2_keyboard.specs.Keyboard.{keyboardCommand, keyboardDetect}
 use Rattle.ps2_keyboard.specs.Parts.{identification}
 use Rattle.ps2_keyboard.proofs.keyboard_detect.Statement.{statement}
@@ -27,9 +28,7 @@ sub-script : tie.Need-sub-identify
 sub-script c = call-used-le _ _ _ (c .before .before .before .before .command-pair .ensures)
 
 sub-log : tie.Need-sub-identify-2
-sub-log c =
-    let e = c .before .before .before .before .before .command-pair .ensures in
-    omega (arith, call-pairs-le _ _ _ e, call-log-length _ _ _ e)
+sub-log c = call-tail-le _ _ _ (c .before .before .before .before .before .command-pair .ensures)
 
 add-t19 : tie.Need-add-t19
 add-t19 c =

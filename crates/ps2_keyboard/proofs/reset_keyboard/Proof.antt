@@ -3,8 +3,9 @@
 use borrow.Author.Needs.{needs}
 use native.Mathlib.Omega.{arith}
 use Rattle.exchange.proofs.Position.{call-used-le}
+use Rattle.exchange.proofs.Calls.{two-used-le-reads}
 use Rattle.ps2_command.specs.Search.{selfTestWithin}
-use Rattle.ps2_command.proofs.Accepted.{two-used-le-reads, accepted-then-reads, refused-then}
+use Rattle.ps2_command.proofs.Accepted.{accepted-then-reads, refused-then}
 use Rattle.ps2_keyboard.specs.Keyboard.{resetReads, resetKeyboard}
 use Rattle.ps2_keyboard.proofs.reset_keyboard.Statement.{statement}
 use Rattle.ps2_keyboard.proofs.reset_keyboard.Tie as tie

@@ -5,11 +5,11 @@ use native.Mathlib.Omega.{arith}
 use mathlib.Core.Path.{refl, ap}
 use Rattle.exchange.specs.Answer.{gives, andThen, onGiven}
 use Rattle.exchange.specs.Exchange.{done}
-use Rattle.exchange.proofs.Position.{call-used-le, call-pairs-le, call-log-length}
-use Rattle.exchange.proofs.Calls.{bind-done}
+use Rattle.exchange.proofs.Position.{call-used-le, call-pairs-le, call-tail-le}
+use Rattle.exchange.proofs.Calls.{bind-done, two-used-le, two-pairs-le}
 use Rattle.ps2_ports.specs.Refusals.{success}
 use Rattle.ps2_ports.proofs.Refusals.{bind-refused}
-use Rattle.ps2_command.proofs.Accepted.{two-used-le, two-pairs-le, accepted-then, refused-then}
+use Rattle.ps2_command.proofs.Accepted.{accepted-then, refused-then}
 use Rattle.ps2_keyboard.specs.Keyboard.{commandScancodeSet, getScancodeSet, setScancodeSet}
 use Rattle.ps2_keyboard.specs.Answers.{saidSet}
 use Rattle.ps2_keyboard.proofs.set_keyboard_scancode_set.Statement.{statement}
@@ -24,9 +24,7 @@ sub-script : tie.Need-sub-get-keyboard-scancode-set
 sub-script c = call-used-le _ _ _ (c .before .before .before .before .command-pair .ensures)
 
 sub-log : tie.Need-sub-get-keyboard-scancode-set-2
-sub-log c =
-    let e = c .before .before .before .before .before .command-pair .ensures in
-    omega (arith, call-pairs-le _ _ _ e, call-log-length _ _ _ e)
+sub-log c = call-tail-le _ _ _ (c .before .before .before .before .before .command-pair .ensures)
 
 add-both : tie.Need-add-both
 add-both c =

@@ -4,12 +4,11 @@ use borrow.Author.Needs.{needs}
 use native.Mathlib.Omega.{arith}
 use mathlib.Core.Path.{refl, ap}
 use Rattle.exchange.specs.Answer.{andThen, onGiven}
-use Rattle.exchange.proofs.Position.{call-used-le, call-pairs-le}
-use Rattle.exchange.proofs.Calls.{bind-yields}
+use Rattle.exchange.proofs.Position.{call-used-le, call-pairs-le, call-tail-le}
+use Rattle.exchange.proofs.Calls.{bind-yields, two-used-le, two-pairs-le}
 use Rattle.ps2_ports.proofs.Refusals.{bind-refused}
 use Rattle.ps2_ports.specs.Refusals.{saidDone}
 use Rattle.ps2_mouse.specs.Identity.{setRates, buttonRates, secondIdentity}
-use Rattle.ps2_mouse.proofs.Tail.{call-tail-le, next-used-le, next-pairs-le}
 use Rattle.ps2_mouse.proofs.button_identity.Statement.{statement}
 use Rattle.ps2_mouse.proofs.button_identity.Tie as tie
 
@@ -21,26 +20,20 @@ mul-at c =
 sub-second-identity : tie.Need-sub-second-identity
 sub-second-identity c = call-used-le _ _ _ (c .before .before .before .before .set-rates .ensures)
 
-part-second-identity-start : tie.Need-part-second-identity-start
-part-second-identity-start c = sub-second-identity c
-
 sub-second-identity-2 : tie.Need-sub-second-identity-2
 sub-second-identity-2 c = call-tail-le _ _ _ (c .before .before .before .before .before .set-rates .ensures)
-
-part-second-identity-start-2 : tie.Need-part-second-identity-start-2
-part-second-identity-start-2 c = sub-second-identity-2 c
 
 add-t20 : tie.Need-add-t20
 add-t20 c =
     let m = c .before .before .before in
     let a = m .before .before .before .before .before .before .before in
-    omega (arith, next-used-le _ _ _ (a .set-rates .ensures) _ _ (m .second-identity .ensures), a .before .before .before .before .good)
+    omega (arith, two-used-le _ _ _ _ (a .set-rates .ensures) refl (m .second-identity .ensures), a .before .before .before .before .good)
 
 add-t24 : tie.Need-add-t24
 add-t24 c =
     let m = c .before .before .before .before in
     let a = m .before .before .before .before .before .before .before in
-    omega (arith, next-pairs-le _ _ _ (a .set-rates .ensures) _ _ refl (m .second-identity .ensures), a .before .before .before .before .good)
+    omega (arith, two-pairs-le _ _ _ _ (a .set-rates .ensures) refl (m .second-identity .ensures), a .before .before .before .before .good)
 
 returns : tie.Need-returns
 unfolding andThen
@@ -68,10 +61,10 @@ button-identity-spec =
     (λ c. search needs)
     mul-at
     sub-second-identity
-    part-second-identity-start
+    sub-second-identity
     (λ c. search needs)
     sub-second-identity-2
-    part-second-identity-start-2
+    sub-second-identity-2
     (λ c. search needs)
     (λ c κs. search needs)
     add-t20

@@ -4,12 +4,11 @@ use borrow.Author.Needs.{needs}
 use mathlib.Core.Path.{refl, ap}
 use native.Mathlib.Omega.{arith}
 use Rattle.exchange.specs.Answer.{andThen, onGiven}
-use Rattle.exchange.proofs.Position.{call-used-le, call-pairs-le}
-use Rattle.exchange.proofs.Calls.{bind-yields}
+use Rattle.exchange.proofs.Position.{call-used-le, call-pairs-le, call-tail-le}
+use Rattle.exchange.proofs.Calls.{bind-yields, two-used-le, two-pairs-le}
 use Rattle.ps2_ports.proofs.Refusals.{bind-refused}
 use Rattle.ps2_command.specs.Command.{saidCommand}
 use Rattle.ps2_mouse.specs.Mouse.{mouseCommand, commandToMouse}
-use Rattle.ps2_mouse.proofs.Tail.{call-tail-le, next-used-le, next-pairs-le}
 use Rattle.ps2_mouse.proofs.command_with_data.Statement.{statement}
 use Rattle.ps2_mouse.proofs.command_with_data.Tie as tie
 
@@ -21,26 +20,20 @@ mul-at c =
 sub-command-to-mouse : tie.Need-sub-command-to-mouse
 sub-command-to-mouse c = call-used-le _ _ _ (c .before .before .before .before .command-to-mouse .ensures)
 
-part-command-to-mouse-start : tie.Need-part-command-to-mouse-start
-part-command-to-mouse-start c = sub-command-to-mouse c
-
 sub-command-to-mouse-2 : tie.Need-sub-command-to-mouse-2
 sub-command-to-mouse-2 c = call-tail-le _ _ _ (c .before .before .before .before .before .command-to-mouse .ensures)
-
-part-command-to-mouse-start-2 : tie.Need-part-command-to-mouse-start-2
-part-command-to-mouse-start-2 c = sub-command-to-mouse-2 c
 
 add-t18 : tie.Need-add-t18
 add-t18 c =
     let m = c .before .before .before in
     let a = m .before .before .before .before .before .before .before in
-    omega (arith, next-used-le _ _ _ (a .command-to-mouse .ensures) _ _ (m .command-to-mouse2 .ensures), a .before .before .before .before .good)
+    omega (arith, two-used-le _ _ _ _ (a .command-to-mouse .ensures) refl (m .command-to-mouse2 .ensures), a .before .before .before .before .good)
 
 add-t22 : tie.Need-add-t22
 add-t22 c =
     let m = c .before .before .before .before in
     let a = m .before .before .before .before .before .before .before in
-    omega (arith, next-pairs-le _ _ _ (a .command-to-mouse .ensures) _ _ refl (m .command-to-mouse2 .ensures), a .before .before .before .before .good)
+    omega (arith, two-pairs-le _ _ _ _ (a .command-to-mouse .ensures) refl (m .command-to-mouse2 .ensures), a .before .before .before .before .good)
 
 returns : tie.Need-returns
 unfolding andThen
@@ -68,10 +61,10 @@ command-with-data-spec =
     (λ c. search needs)
     mul-at
     sub-command-to-mouse
-    part-command-to-mouse-start
+    sub-command-to-mouse
     (λ c. search needs)
     sub-command-to-mouse-2
-    part-command-to-mouse-start-2
+    sub-command-to-mouse-2
     (λ c. search needs)
     (λ c κs. search needs)
     add-t18

@@ -3,13 +3,12 @@
 use borrow.Author.Needs.{needs}
 use native.Mathlib.Omega.{arith}
 use mathlib.Core.Path.{refl, ap, _∙_}
-use Rattle.exchange.proofs.Position.{call-used-le, call-pairs-le}
-use Rattle.exchange.proofs.Calls.{bind-yields, bind-done}
+use Rattle.exchange.proofs.Position.{call-used-le, call-pairs-le, call-tail-le}
+use Rattle.exchange.proofs.Calls.{bind-yields, bind-done, two-used-le, two-pairs-le}
 use Rattle.ps2_mouse.specs.declared.IdAnswer.{IdAnswer}
 use Rattle.ps2_mouse.specs.Mouse.{mouseId}
 use Rattle.ps2_mouse.specs.Identity.{afterFirst}
 use Rattle.ps2_mouse.specs.Answers.{saidId}
-use Rattle.ps2_mouse.proofs.Tail.{call-tail-le, next-used-le, next-pairs-le}
 use Rattle.ps2_mouse.proofs.Forgives.{bind-forgiven}
 use Rattle.ps2_mouse.proofs.first_identity.Statement.{statement}
 use Rattle.ps2_mouse.proofs.first_identity.Tie as tie
@@ -22,26 +21,20 @@ mul-at c =
 sub-button-identity : tie.Need-sub-button-identity
 sub-button-identity c = call-used-le _ _ _ (c .before .before .before .before .before .before .before .mouse-id .ensures)
 
-part-button-identity-start : tie.Need-part-button-identity-start
-part-button-identity-start c = sub-button-identity c
-
 sub-button-identity-2 : tie.Need-sub-button-identity-2
 sub-button-identity-2 c = call-tail-le _ _ _ (c .before .before .before .before .before .before .before .before .mouse-id .ensures)
-
-part-button-identity-start-2 : tie.Need-part-button-identity-start-2
-part-button-identity-start-2 c = sub-button-identity-2 c
 
 add-t19 : tie.Need-add-t19
 add-t19 c =
     let m = c .before .before .before in
     let a = m .before .before .before .before .before .before .before .before .before .before in
-    omega (arith, next-used-le _ _ _ (a .mouse-id .ensures) _ _ (m .button-identity .ensures), a .before .before .before .before .good)
+    omega (arith, two-used-le _ _ _ _ (a .mouse-id .ensures) refl (m .button-identity .ensures), a .before .before .before .before .good)
 
 add-t23 : tie.Need-add-t23
 add-t23 c =
     let m = c .before .before .before .before in
     let a = m .before .before .before .before .before .before .before .before .before .before in
-    omega (arith, next-pairs-le _ _ _ (a .mouse-id .ensures) _ _ refl (m .button-identity .ensures), a .before .before .before .before .good)
+    omega (arith, two-pairs-le _ _ _ _ (a .mouse-id .ensures) refl (m .button-identity .ensures), a .before .before .before .before .good)
 
 -- 0
 returns : tie.Need-returns
@@ -87,10 +80,10 @@ first-identity-spec =
     (λ c. search needs)
     mul-at
     sub-button-identity
-    part-button-identity-start
+    sub-button-identity
     (λ c. search needs)
     sub-button-identity-2
-    part-button-identity-start-2
+    sub-button-identity-2
     (λ c. search needs)
     (λ c κs. search needs)
     add-t19

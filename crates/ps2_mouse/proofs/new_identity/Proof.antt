@@ -4,14 +4,13 @@ use borrow.Author.Needs.{needs}
 use native.Mathlib.Omega.{arith}
 use mathlib.Core.Path.{refl, ap}
 use Rattle.exchange.specs.Answer.{andThen, onGiven}
-use Rattle.exchange.proofs.Position.{call-used-le, call-pairs-le}
-use Rattle.exchange.proofs.Calls.{bind-yields}
+use Rattle.exchange.proofs.Position.{call-used-le, call-pairs-le, call-tail-le}
+use Rattle.exchange.proofs.Calls.{bind-yields, two-used-le, two-pairs-le}
 use Rattle.ps2_ports.proofs.Refusals.{bind-refused}
 use Rattle.exchange.specs.Exchange.{bind}
 use Rattle.ps2_command.specs.Command.{saidCommand}
 use Rattle.ps2_mouse.specs.Mouse.{disablePacketStreaming, mouseId}
 use Rattle.ps2_mouse.specs.Identity.{setRates, wheelRates, afterFirst, newIdentity}
-use Rattle.ps2_mouse.proofs.Tail.{call-tail-le, next-used-le, next-pairs-le}
 use Rattle.ps2_mouse.proofs.new_identity.Statement.{statement}
 use Rattle.ps2_mouse.proofs.new_identity.Tie as tie
 
@@ -23,26 +22,20 @@ mul-at c =
 sub-wheel-identity : tie.Need-sub-wheel-identity
 sub-wheel-identity c = call-used-le _ _ _ (c .before .before .before .before .disable-mouse-packet-streaming .ensures)
 
-part-wheel-identity-start : tie.Need-part-wheel-identity-start
-part-wheel-identity-start c = sub-wheel-identity c
-
 sub-wheel-identity-2 : tie.Need-sub-wheel-identity-2
 sub-wheel-identity-2 c = call-tail-le _ _ _ (c .before .before .before .before .before .disable-mouse-packet-streaming .ensures)
-
-part-wheel-identity-start-2 : tie.Need-part-wheel-identity-start-2
-part-wheel-identity-start-2 c = sub-wheel-identity-2 c
 
 add-t16 : tie.Need-add-t16
 add-t16 c =
     let m = c .before .before .before in
     let a = m .before .before .before .before .before .before .before in
-    omega (arith, next-used-le _ _ _ (a .disable-mouse-packet-streaming .ensures) _ _ (m .wheel-identity .ensures), a .before .before .before .before .good)
+    omega (arith, two-used-le _ _ _ _ (a .disable-mouse-packet-streaming .ensures) refl (m .wheel-identity .ensures), a .before .before .before .before .good)
 
 add-t20 : tie.Need-add-t20
 add-t20 c =
     let m = c .before .before .before .before in
     let a = m .before .before .before .before .before .before .before in
-    omega (arith, next-pairs-le _ _ _ (a .disable-mouse-packet-streaming .ensures) _ _ refl (m .wheel-identity .ensures), a .before .before .before .before .good)
+    omega (arith, two-pairs-le _ _ _ _ (a .disable-mouse-packet-streaming .ensures) refl (m .wheel-identity .ensures), a .before .before .before .before .good)
 
 returns : tie.Need-returns
 unfolding newIdentity andThen
@@ -70,10 +63,10 @@ new-identity-spec =
     (λ c. search needs)
     mul-at
     sub-wheel-identity
-    part-wheel-identity-start
+    sub-wheel-identity
     (λ c. search needs)
     sub-wheel-identity-2
-    part-wheel-identity-start-2
+    sub-wheel-identity-2
     (λ c. search needs)
     (λ c κs. search needs)
     add-t16

@@ -21,9 +21,6 @@ use Rattle.ps2_mouse.proofs.poll_mouse_id.Tie as tie
 sub-read-data : tie.Need-sub-read-data
 sub-read-data c = reads-used-le (c .before .before .before .before .is-output-buffer-full .ensures)
 
-part-read-data-start : tie.Need-part-read-data-start
-part-read-data-start c = sub-read-data c
-
 add-both : tie.Need-add-both
 add-both c =
     let s = c .before .before .before .before .before .before .before in
@@ -66,7 +63,7 @@ poll-mouse-id-spec =
     (λ c κs. search needs)
     (λ c. search needs)
     sub-read-data
-    part-read-data-start
+    sub-read-data
     (λ c. search needs)
     (λ c κs. search needs)
     add-both

@@ -17,9 +17,6 @@ use Rattle.ps2_mouse.proofs.read_self_test_and_id.Tie as tie
 sub-flush-output-buffer : tie.Need-sub-flush-output-buffer
 sub-flush-output-buffer c = reads-used-le (c .before .before .read-self-test-result .ensures)
 
-part-flush-output-buffer-start : tie.Need-part-flush-output-buffer-start
-part-flush-output-buffer-start c = sub-flush-output-buffer c
-
 add-t10 : tie.Need-add-t10
 add-t10 c =
     let t = c .before .before .before .before .before in
@@ -45,7 +42,7 @@ read-self-test-and-id-spec =
     (λ c κs. search needs)
     (λ c. search needs)
     sub-flush-output-buffer
-    part-flush-output-buffer-start
+    sub-flush-output-buffer
     (λ c. search needs)
     (λ c κs. search needs)
     add-t10

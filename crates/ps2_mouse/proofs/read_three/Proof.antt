@@ -27,9 +27,6 @@ from-start b1 = read p60 (after1 b1)
 sub-read-data : tie.Need-sub-read-data
 sub-read-data c = reads-used-le (c .before .before .before .read-data .ensures)
 
-part-read-data-start : tie.Need-part-read-data-start
-part-read-data-start c = sub-read-data c
-
 add-two : tie.Need-add-two
 add-two c =
     let d1 = c .before .before .before .before .before .before in
@@ -40,9 +37,6 @@ sub-read-data-2 c =
     let d2 = c .before .before .before .before in
     let d1 = d2 .before .before .before .before .before in
     part-used-le (d1 .before .before .args .script .now) _ (reads-used-le (d1 .read-data .ensures)) (d2 .read-data2 .ensures)
-
-part-read-data-start-2 : tie.Need-part-read-data-start-2
-part-read-data-start-2 c = sub-read-data-2 c
 
 add-three : tie.Need-add-three
 add-three c =
@@ -90,13 +84,13 @@ read-three-spec =
     (λ c κs. search needs)
     (λ c. search needs)
     sub-read-data
-    part-read-data-start
+    sub-read-data
     (λ c. search needs)
     (λ c κs. search needs)
     add-two
     (λ c. search needs)
     sub-read-data-2
-    part-read-data-start-2
+    sub-read-data-2
     (λ c. search needs)
     (λ c κs. search needs)
     add-three

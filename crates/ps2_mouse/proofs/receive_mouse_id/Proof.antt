@@ -33,9 +33,6 @@ loop-holds c = read-to-start _ _
 sub-poll-mouse-id : tie.Need-sub-poll-mouse-id Inv-loop μ-loop
 sub-poll-mouse-id c = read-to-used-le (c .before .loop .inv)
 
-part-poll-mouse-id-start : tie.Need-part-poll-mouse-id-start Inv-loop μ-loop
-part-poll-mouse-id-start c = sub-poll-mouse-id c
-
 add-used : tie.Need-add-used Inv-loop μ-loop
 add-used c =
     let a = c .before .before .before .before in
@@ -62,7 +59,7 @@ receive-mouse-id-spec =
     μ-loop
     loop-holds
     sub-poll-mouse-id
-    part-poll-mouse-id-start
+    sub-poll-mouse-id
     (λ c. search needs)
     (λ c κs. search needs)
     add-used

@@ -7,7 +7,7 @@ use Rattle.exchange.specs.Answer.{gives}
 use Rattle.ps2_mouse.specs.Mouse.{mouseId}
 use Rattle.ps2_mouse.specs.Identity.{readOr, secondIdentity}
 use Rattle.ps2_mouse.specs.Answers.{saidId}
-use Rattle.ps2_mouse.proofs.Told.{bind-told}
+use Rattle.exchange.proofs.Told.{bind-told}
 use Rattle.ps2_mouse.proofs.Forgives.{bind-forgiven}
 use Rattle.ps2_mouse.proofs.second_identity.Statement.{statement}
 use Rattle.ps2_mouse.proofs.second_identity.Tie as tie

@@ -33,14 +33,8 @@ mul-at c = omega (arith, c .before .loop .inv .1 .pairs-le, c .before .loop .inv
 sub-set-mouse-sampling-rate : tie.Need-sub-set-mouse-sampling-rate Inv-loop μ-loop
 sub-set-mouse-sampling-rate c = c .before .loop .inv .1 .used-le
 
-part-set-mouse-sampling-rate-start : tie.Need-part-set-mouse-sampling-rate-start Inv-loop μ-loop
-part-set-mouse-sampling-rate-start c = sub-set-mouse-sampling-rate c
-
 sub-set-mouse-sampling-rate-2 : tie.Need-sub-set-mouse-sampling-rate-2 Inv-loop μ-loop
 sub-set-mouse-sampling-rate-2 c = c .before .before .loop .inv .1 .pairs-le
-
-part-set-mouse-sampling-rate-start-2 : tie.Need-part-set-mouse-sampling-rate-start-2 Inv-loop μ-loop
-part-set-mouse-sampling-rate-start-2 c = sub-set-mouse-sampling-rate-2 c
 
 array-copy-out-set-mouse-sampling-rate : tie.Need-array-copy-out-set-mouse-sampling-rate Inv-loop μ-loop
 array-copy-out-set-mouse-sampling-rate c = omega (arith, c .before .before .before .loop .inv .0)
@@ -98,10 +92,10 @@ set-rates-spec =
     loop-holds
     mul-at
     sub-set-mouse-sampling-rate
-    part-set-mouse-sampling-rate-start
+    sub-set-mouse-sampling-rate
     (λ c. search needs)
     sub-set-mouse-sampling-rate-2
-    part-set-mouse-sampling-rate-start-2
+    sub-set-mouse-sampling-rate-2
     (λ c. search needs)
     array-copy-out-set-mouse-sampling-rate
     (λ c κs. search needs)

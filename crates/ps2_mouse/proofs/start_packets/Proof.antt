@@ -7,8 +7,8 @@ use Rattle.ps2_command.specs.declared.CommandAnswer.{CommandAnswer}
 use Rattle.ps2_command.specs.Command.{saidCommand}
 use Rattle.ps2_mouse.specs.Mouse.{enablePacketStreaming}
 use Rattle.ps2_mouse.specs.Identity.{succeeded}
-use Rattle.ps2_mouse.proofs.Record.{record-after}
-use Rattle.ps2_mouse.proofs.Told.{bind-told}
+use Rattle.exchange.proofs.Told.{bind-told}
+use Rattle.exchange.proofs.Left.{record-after}
 use Rattle.ps2_mouse.proofs.start_packets.Statement.{statement}
 use Rattle.ps2_mouse.proofs.start_packets.Tie as tie
 

@@ -4,14 +4,13 @@ use borrow.Author.Needs.{needs}
 use native.Mathlib.Omega.{arith}
 use mathlib.Core.Path.{refl, ap}
 use Rattle.exchange.specs.Answer.{andThen, onGiven}
-use Rattle.exchange.proofs.Position.{call-used-le, call-pairs-le}
-use Rattle.exchange.proofs.Calls.{bind-yields}
+use Rattle.exchange.proofs.Position.{call-used-le, call-pairs-le, call-tail-le}
+use Rattle.exchange.proofs.Calls.{bind-yields, two-used-le, two-pairs-le}
 use Rattle.ps2_ports.proofs.Refusals.{bind-refused}
 use Rattle.exchange.specs.Exchange.{bind}
 use Rattle.ps2_ports.specs.Refusals.{saidDone}
 use Rattle.ps2_mouse.specs.Mouse.{mouseId}
 use Rattle.ps2_mouse.specs.Identity.{setRates, wheelRates, afterFirst}
-use Rattle.ps2_mouse.proofs.Tail.{call-tail-le, next-used-le, next-pairs-le}
 use Rattle.ps2_mouse.proofs.wheel_identity.Statement.{statement}
 use Rattle.ps2_mouse.proofs.wheel_identity.Tie as tie
 
@@ -23,26 +22,20 @@ mul-at c =
 sub-first-identity : tie.Need-sub-first-identity
 sub-first-identity c = call-used-le _ _ _ (c .before .before .before .before .set-rates .ensures)
 
-part-first-identity-start : tie.Need-part-first-identity-start
-part-first-identity-start c = sub-first-identity c
-
 sub-first-identity-2 : tie.Need-sub-first-identity-2
 sub-first-identity-2 c = call-tail-le _ _ _ (c .before .before .before .before .before .set-rates .ensures)
-
-part-first-identity-start-2 : tie.Need-part-first-identity-start-2
-part-first-identity-start-2 c = sub-first-identity-2 c
 
 add-t20 : tie.Need-add-t20
 add-t20 c =
     let m = c .before .before .before in
     let a = m .before .before .before .before .before .before .before in
-    omega (arith, next-used-le _ _ _ (a .set-rates .ensures) _ _ (m .first-identity .ensures), a .before .before .before .before .good)
+    omega (arith, two-used-le _ _ _ _ (a .set-rates .ensures) refl (m .first-identity .ensures), a .before .before .before .before .good)
 
 add-t24 : tie.Need-add-t24
 add-t24 c =
     let m = c .before .before .before .before in
     let a = m .before .before .before .before .before .before .before in
-    omega (arith, next-pairs-le _ _ _ (a .set-rates .ensures) _ _ refl (m .first-identity .ensures), a .before .before .before .before .good)
+    omega (arith, two-pairs-le _ _ _ _ (a .set-rates .ensures) refl (m .first-identity .ensures), a .before .before .before .before .good)
 
 returns : tie.Need-returns
 unfolding andThen
@@ -70,10 +63,10 @@ wheel-identity-spec =
     (λ c. search needs)
     mul-at
     sub-first-identity
-    part-first-identity-start
+    sub-first-identity
     (λ c. search needs)
     sub-first-identity-2
-    part-first-identity-start-2
+    sub-first-identity-2
     (λ c. search needs)
     (λ c κs. search needs)
     add-t20

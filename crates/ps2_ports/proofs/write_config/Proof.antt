@@ -4,7 +4,7 @@ use borrow.Author.Needs.{needs}
 use mathlib.Core.Path.{refl, ap}
 use Rattle.exchange.specs.Exchange.{bind}
 use Rattle.exchange.specs.Answer.{onGiven}
-use Rattle.exchange.proofs.Position.{writes-pairs-le, writes-log-length}
+use Rattle.exchange.proofs.Position.{writes-pairs-le, writes-tail-le}
 use Rattle.exchange.proofs.Calls.{writes-yields}
 use Rattle.ps2_bytes.specs.declared.command.HostToControllerCommand.the-variants.{WriteToInternalRAMByte0}
 use Rattle.ps2_bytes.specs.declared.writable.WritableData.{WritableData}
@@ -27,14 +27,7 @@ mul-at c =
     omega (arith, writes-pairs-le write-command, c .before .before .before .before .before .before .before .good)
 
 sub-write-data : tie.Need-sub-write-data
-sub-write-data c =
-    let write-command = c .before .before .before .before .write-command .ensures in
-    omega (arith, writes-pairs-le write-command, writes-log-length write-command)
-
-part-write-data-start : tie.Need-part-write-data-start
-part-write-data-start c =
-    let write-command = c .before .before .before .before .write-command .ensures in
-    omega (arith, writes-pairs-le write-command, writes-log-length write-command)
+sub-write-data c = writes-tail-le (c .before .before .before .before .write-command .ensures)
 
 returns-2 : tie.Need-returns-2
 unfolding writeConfig writePort bind
@@ -59,7 +52,7 @@ write-config-spec =
     returns
     mul-at
     sub-write-data
-    part-write-data-start
+    sub-write-data
     (λ c. search needs)
     (λ c κs. search needs)
     add-t15

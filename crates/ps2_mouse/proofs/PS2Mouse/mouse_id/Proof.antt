@@ -20,9 +20,6 @@ use Rattle.ps2_mouse.proofs.PS2Mouse.mouse_id.Tie as tie
 sub-receive-mouse-id : tie.Need-sub-receive-mouse-id
 sub-receive-mouse-id c = call-used-le _ _ _ (c .before .before .before .before .command-to-mouse .ensures)
 
-part-receive-mouse-id-start : tie.Need-part-receive-mouse-id-start
-part-receive-mouse-id-start c = sub-receive-mouse-id c
-
 add-t16 : tie.Need-add-t16
 add-t16 c =
     let a = c .before .before .before .before .before .before .before in
@@ -48,7 +45,7 @@ mouse-id-spec =
     (λ c κs. search needs)
     (λ c. search needs)
     sub-receive-mouse-id
-    part-receive-mouse-id-start
+    sub-receive-mouse-id
     (λ c. search needs)
     (λ c κs. search needs)
     add-t16

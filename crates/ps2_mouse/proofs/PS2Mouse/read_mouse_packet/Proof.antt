@@ -18,9 +18,6 @@ use Rattle.ps2_mouse.proofs.PS2Mouse.read_mouse_packet.Tie as tie
 sub-read-data : tie.Need-sub-read-data
 sub-read-data c = reads-used-le (c .before .before .before .before .before .read-three .ensures)
 
-part-read-data-start : tie.Need-part-read-data-start
-part-read-data-start c = sub-read-data c
-
 add-both : tie.Need-add-both
 add-both c =
     let t = c .before .before .before .before .before .before .before .before in
@@ -28,9 +25,6 @@ add-both c =
 
 sub-read-data-2 : tie.Need-sub-read-data-2
 sub-read-data-2 c = reads-used-le (c .before .before .before .before .before .read-three .ensures)
-
-part-read-data-start-2 : tie.Need-part-read-data-start-2
-part-read-data-start-2 c = sub-read-data-2 c
 
 add-both-2 : tie.Need-add-both-2
 add-both-2 c =
@@ -104,7 +98,7 @@ read-mouse-packet-spec =
     (λ c κs. search needs)
     (λ c. search needs)
     sub-read-data
-    part-read-data-start
+    sub-read-data
     (λ c. search needs)
     (λ c κs. search needs)
     add-both
@@ -113,7 +107,7 @@ read-mouse-packet-spec =
     (λ c. search needs)
     (λ c. search needs)
     sub-read-data-2
-    part-read-data-start-2
+    sub-read-data-2
     (λ c. search needs)
     (λ c κs. search needs)
     add-both-2

@@ -18,9 +18,6 @@ use Rattle.ps2_mouse.proofs.PS2Mouse.reset.Tie as tie
 sub-read-self-test-and-id : tie.Need-sub-read-self-test-and-id
 sub-read-self-test-and-id c = call-used-le _ _ _ (c .before .before .before .before .command-to-mouse .ensures)
 
-part-read-self-test-and-id-start : tie.Need-part-read-self-test-and-id-start
-part-read-self-test-and-id-start c = sub-read-self-test-and-id c
-
 add-t16 : tie.Need-add-t16
 add-t16 c =
     let a = c .before .before .before .before .before .before .before in
@@ -46,7 +43,7 @@ reset-spec =
     (λ c κs. search needs)
     (λ c. search needs)
     sub-read-self-test-and-id
-    part-read-self-test-and-id-start
+    sub-read-self-test-and-id
     (λ c. search needs)
     (λ c κs. search needs)
     add-t16

@@ -3,12 +3,12 @@
 use borrow.Author.Needs.{needs}
 use native.Mathlib.Omega.{arith}
 use mathlib.Core.Path.{refl, ap}
-use Rattle.exchange.proofs.Position.{call-used-le, call-pairs-le}
-use Rattle.exchange.proofs.Calls.{bind-yields}
+use Rattle.exchange.proofs.Position.{call-used-le, call-pairs-le, call-tail-le}
+use Rattle.exchange.proofs.Calls.{bind-yields, two-used-le, two-pairs-le}
+use Rattle.exchange.proofs.Left.{record-after, record-told}
 use Rattle.ps2_mouse.specs.Identity.{newIdentity, startPackets, setMouseId}
 use Rattle.ps2_mouse.specs.Answers.{saidId}
-use Rattle.ps2_mouse.proofs.Tail.{call-tail-le, next-used-le, next-pairs-le}
-use Rattle.ps2_mouse.proofs.Record.{record-after, record-told, set-refused}
+use Rattle.ps2_mouse.proofs.Record.{set-refused}
 use Rattle.ps2_mouse.proofs.PS2Mouse.set_mouse_id.Statement.{statement}
 use Rattle.ps2_mouse.proofs.PS2Mouse.set_mouse_id.Tie as tie
 
@@ -20,26 +20,20 @@ mul-at c =
 sub-start-packets : tie.Need-sub-start-packets
 sub-start-packets c = call-used-le _ _ _ (c .before .before .before .before .before .new-identity .ensures)
 
-part-start-packets-start : tie.Need-part-start-packets-start
-part-start-packets-start c = sub-start-packets c
-
 sub-start-packets-2 : tie.Need-sub-start-packets-2
 sub-start-packets-2 c = call-tail-le _ _ _ (c .before .before .before .before .before .before .new-identity .ensures)
-
-part-start-packets-start-2 : tie.Need-part-start-packets-start-2
-part-start-packets-start-2 c = sub-start-packets-2 c
 
 add-t19 : tie.Need-add-t19
 add-t19 c =
     let m = c .before .before .before .before in
     let a = m .before .before .before .before .before .before .before .before in
-    omega (arith, next-used-le _ _ _ (a .new-identity .ensures) _ _ (m .start-packets .ensures .0), a .before .before .before .before .good)
+    omega (arith, two-used-le _ _ _ _ (a .new-identity .ensures) refl (m .start-packets .ensures .0), a .before .before .before .before .good)
 
 add-t23 : tie.Need-add-t23
 add-t23 c =
     let m = c .before .before .before .before .before in
     let a = m .before .before .before .before .before .before .before .before in
-    omega (arith, next-pairs-le _ _ _ (a .new-identity .ensures) _ _ refl (m .start-packets .ensures .0), a .before .before .before .before .good)
+    omega (arith, two-pairs-le _ _ _ _ (a .new-identity .ensures) refl (m .start-packets .ensures .0), a .before .before .before .before .good)
 
 returns : tie.Need-returns
 unfolding setMouseId
@@ -67,10 +61,10 @@ set-mouse-id-spec =
     (λ c. search needs)
     mul-at
     sub-start-packets
-    part-start-packets-start
+    sub-start-packets
     (λ c. search needs)
     sub-start-packets-2
-    part-start-packets-start-2
+    sub-start-packets-2
     (λ c. search needs)
     (λ c κs. search needs)
     add-t19

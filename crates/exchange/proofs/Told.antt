@@ -3,14 +3,8 @@
 use Prim.Native.Nat.{ℕ}
 use mathlib.Core.List.{List}
 use mathlib.Core.Path.{_≡_, refl}
-use Rattle.exchange.specs.Exchange.{Exchange, done, bind, End, yields, noScript, noLog, played, play}
+use Rattle.exchange.specs.Exchange.{Exchange, done, bind, End, yields, noScript, noLog, toldEnd, played, play}
 use Rattle.exchange.proofs.Calls.{bind-done, bind-no-script, bind-no-log}
-
--- an end, with what it yields told by f
-abbrev pub toldEnd : {A B : Type 0} → (A → B) → End A → End B
-toldEnd f (yields a) = yields (f a)
-toldEnd f noScript = noScript
-toldEnd f noLog = noLog
 
 module _ {A B : Type 0} (t : Exchange A) (f : A → B) (s l : List ℕ) {u w : ℕ} {l′ : List ℕ} where
   told : (e : End A) → played e u w l′ ≡ play t s l → played (toldEnd f e) u w l′ ≡ play (bind t (λ a. done (f a))) s l
