@@ -2,18 +2,17 @@
 -- Assumes nothing.
 use Prim.Native.Nat.{ℕ}
 use mathlib.Core.Bool.{Bool}
-use Rattle.exchange.specs.Exchange.{End, yields, noScript, noLog}
-use Rattle.exchange.specs.Answer.{Answer, gives, refuses}
+use Rattle.exchange.specs.Exchange.{End, yields, toldEnd}
+use Rattle.exchange.specs.Answer.{Answer, gives}
 use Rattle.exchange.specs.Left.{Left, left}
 use Rattle.exchange.specs.Repeat.{Turn, again, foundEnd}
 use Rattle.ps2_bytes.specs.declared.packet.MousePacket.{MousePacket}
 use Rattle.ps2_bytes.specs.declared.response.MouseId.{MouseId}
 use Rattle.ps2_bytes.specs.declared.response.MouseId.the-variants.{Zero}
 use Rattle.ps2_ports.specs.declared.Completion.{Completion}
-use Rattle.ps2_ports.specs.declared.Completion.the-variants as Completion
 use Rattle.ps2_ports.specs.declared.Refusal.{Refusal}
 use Rattle.ps2_ports.specs.declared.Refusal.the-variants.{ScriptUsedUp, LogFull, Failed}
-use Rattle.ps2_ports.specs.Refusals.{Success, success, numberOf, refused}
+use Rattle.ps2_ports.specs.Refusals.{Success, refused, saidDone}
 use Rattle.ps2_mouse.specs.declared.PS2Mouse.{PS2Mouse}
 use Rattle.ps2_mouse.specs.declared.FirstBytes.{FirstBytes}
 use Rattle.ps2_mouse.specs.declared.BytesAnswer.{BytesAnswer}
@@ -54,10 +53,7 @@ saidPacket (PacketAnswer.Refused r) = refused r
 
 -- An answer that comes with the record as it is left. A used-up script and a full log say nothing of the record; `recordAfter` does.
 abbrev pub saidMouse : Completion → PS2Mouse → End (Left PS2Mouse Success)
-saidMouse Completion.Done mouse = yields (left (gives success) mouse)
-saidMouse (Completion.Refused ScriptUsedUp) mouse = noScript
-saidMouse (Completion.Refused LogFull) mouse = noLog
-saidMouse (Completion.Refused (Failed f)) mouse = yields (left (refuses (numberOf f)) mouse)
+saidMouse c mouse = toldEnd (λ a. left a mouse) (saidDone c)
 
 -- "A failed first identity is forgiven", and "a failure leaves the old one": a failure, that is; "2 and 3 are .. forgiven by nothing".
 abbrev pub forgivenAs : MouseId → Refusal → IdAnswer
