@@ -8,8 +8,7 @@ use Rattle.exchange.proofs.Sequence.{bind-assoc, done-bind}
 use Rattle.ps2_keyboard.specs.Keyboard.{resetKeyboard}
 use Rattle.ps2_mouse.specs.Mouse.{resetMouse}
 use Rattle.ps2_init.specs.declared.PS2Controller.{PS2Controller}
-use Rattle.ps2_init.specs.Init.{resetDevices}
-use Rattle.ps2_init.specs.Answers.{withDevices}
+use Rattle.ps2_init.specs.Init.{resetDevices, withDevices}
 
 module _ {A : Type 0} (f : PS2Controller → Exchange A) where
   mouse-then : (keyboard : Bool) → bind (bind (succeeds resetMouse) (λ mouse. done (withDevices keyboard mouse))) f

@@ -1,20 +1,17 @@
 -- What the answers of the initialisation's code say of the ends of plays.
 -- Assumes nothing.
-use mathlib.Core.Bool.{Bool, true}
+use mathlib.Core.Bool.{Bool}
 use Prim.Native.Nat.{ℕ}
-use Rattle.exchange.specs.Exchange.{Exchange, done, bind, End, yields, noScript, noLog}
-use Rattle.exchange.specs.Answer.{Answer, gives, refuses, andThen}
+use Rattle.exchange.specs.Exchange.{End, yields, noScript, noLog, toldEnd}
+use Rattle.exchange.specs.Answer.{Answer, gives}
 use Rattle.exchange.specs.Left.{Left, left}
 use Rattle.ps2_bytes.specs.declared.command.HostToControllerCommand.{HostToControllerCommand}
 use Rattle.ps2_bytes.specs.declared.command.HostToControllerCommand.the-variants.{EnablePort1, EnablePort2}
-use Rattle.ps2_bytes.specs.declared.configuration.ControllerConfigurationByte.{ControllerConfigurationByte}
 use Rattle.ps2_bytes.specs.Configuration.{port1Interrupt, port2Interrupt, port1ClockDisabled, port2ClockDisabled}
 use Rattle.ps2_ports.specs.declared.Completion.{Completion}
-use Rattle.ps2_ports.specs.declared.Completion.the-variants as Completion
 use Rattle.ps2_ports.specs.declared.Refusal.{Refusal}
 use Rattle.ps2_ports.specs.declared.Refusal.the-variants as Refusal
-use Rattle.ps2_ports.specs.Refusals.{Success, success, numberOf, refused}
-use Rattle.ps2_ports.specs.Ports.{readConfig}
+use Rattle.ps2_ports.specs.Refusals.{Success, refused, saidDone}
 use Rattle.ps2_init.specs.declared.PS2Controller.{PS2Controller}
 use Rattle.ps2_init.specs.declared.DevicePort.{DevicePort}
 use Rattle.ps2_init.specs.declared.DevicePort.the-variants.{Port1, Port2}
@@ -24,7 +21,7 @@ use Rattle.ps2_init.specs.declared.Trial.{Trial}
 use Rattle.ps2_init.specs.declared.WorkingPorts.{WorkingPorts}
 use Rattle.ps2_init.specs.declared.PortsAnswer.{PortsAnswer}
 use Rattle.ps2_init.specs.declared.SetUpAnswer.{SetUpAnswer}
-use Rattle.ps2_init.specs.Init.{testWith, Ports, testPorts, enablePorts, resetDevices}
+use Rattle.ps2_init.specs.Init.{Ports}
 
 -- ---- steps whose failure is forgiven
 
@@ -65,31 +62,10 @@ saidPorts (PortsAnswer.Refused r) = refused r
 
 -- ---- the controller
 
--- "Then 20 and one read", which gives the controller as it is by then.
-abbrev pub readLast : PS2Controller → Exchange (Answer PS2Controller)
-readLast controller = andThen readConfig (λ _. done (gives controller))
-
--- The controller after the resets, by which of the two devices passed.
-abbrev pub withDevices : Bool → Bool → PS2Controller
-withDevices keyboard mouse = record { initialized = true; «keyboard_attached» = keyboard; «mouse_attached» = mouse }
-
--- The last steps of `setUp`: from the enabling of the ports on, from the tests of the ports on, and from the controller's test on.
-abbrev pub enabled : ControllerConfigurationByte → Ports → Exchange (Answer PS2Controller)
-enabled config ports = andThen (enablePorts ports config) (λ _. bind resetDevices readLast)
-
-abbrev pub portsTested : ControllerConfigurationByte → Bool → Exchange (Answer PS2Controller)
-portsTested config mouse = andThen (testPorts mouse) (enabled config)
-
-abbrev pub tested : ControllerConfigurationByte → Bool → Exchange (Answer PS2Controller)
-tested config mouse = andThen (testWith config) (λ _. portsTested config mouse)
-
 abbrev pub saidSetUp : SetUpAnswer → End (Answer PS2Controller)
 saidSetUp (SetUpAnswer.Ready c) = yields (gives c)
 saidSetUp (SetUpAnswer.Refused r) = refused r
 
 -- An answer that comes with the record as it is left. A used-up script and a full log say nothing of the record; `recordAfter` does.
 abbrev pub saidInit : Completion → PS2Controller → End (Left PS2Controller Success)
-saidInit Completion.Done c = yields (left (gives success) c)
-saidInit (Completion.Refused Refusal.ScriptUsedUp) c = noScript
-saidInit (Completion.Refused Refusal.LogFull) c = noLog
-saidInit (Completion.Refused (Refusal.Failed f)) c = yields (left (refuses (numberOf f)) c)
+saidInit answer c = toldEnd (λ a. left a c) (saidDone answer)

@@ -80,20 +80,28 @@ enablePorts ports c =
     (λ c. andThen (enablePort EnablePort2 port2ClockDisabled port2Interrupt (ports .second) c) (λ c. writeConfig c))
 
 -- "Reset keyboard, then mouse (always tried); a passed reset makes its 'attached' true, a failed one only makes it false."
-unfoldable pub resetDevices : Exchange PS2Controller
-resetDevices =
-    bind (succeeds resetKeyboard)
-    (λ keyboard. bind (succeeds resetMouse)
-    (λ mouse. done (record { initialized = true; «keyboard_attached» = keyboard; «mouse_attached» = mouse })))
+abbrev pub withDevices : Bool → Bool → PS2Controller
+withDevices keyboard mouse = record { initialized = true; «keyboard_attached» = keyboard; «mouse_attached» = mouse }
 
--- All of them; "Then 20 and one read". What it gives is the controller as it is then.
+unfoldable pub resetDevices : Exchange PS2Controller
+resetDevices = bind (succeeds resetKeyboard) (λ keyboard. bind (succeeds resetMouse) (λ mouse. done (withDevices keyboard mouse)))
+
+-- "Then 20 and one read". What it gives is the controller as it is then.
+abbrev pub readLast : PS2Controller → Exchange (Answer PS2Controller)
+readLast controller = andThen readConfig (λ _. done (gives controller))
+
+-- All of them, said from the last on: from the enabling of the ports, from their tests, from the controller's test, and from the start.
+abbrev pub enabled : ControllerConfigurationByte → Ports → Exchange (Answer PS2Controller)
+enabled config ports = andThen (enablePorts ports config) (λ _. bind resetDevices readLast)
+
+abbrev pub portsTested : ControllerConfigurationByte → Bool → Exchange (Answer PS2Controller)
+portsTested config mouse = andThen (testPorts mouse) (enabled config)
+
+abbrev pub tested : ControllerConfigurationByte → Bool → Exchange (Answer PS2Controller)
+tested config mouse = andThen (testWith config) (λ _. portsTested config mouse)
+
 unfoldable pub setUp : Exchange (Answer PS2Controller)
-setUp =
-    andThen disableDevices
-    (λ asRead. andThen (testWith (quieted asRead))
-    (λ _. andThen (testPorts (hasMouse asRead))
-    (λ ports. andThen (enablePorts ports (quieted asRead))
-    (λ _. bind resetDevices (λ controller. andThen readConfig (λ _. done (gives controller)))))))
+setUp = andThen disableDevices (λ asRead. tested (quieted asRead) (hasMouse asRead))
 
 -- ---- on the controller's record
 

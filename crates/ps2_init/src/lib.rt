@@ -10,8 +10,8 @@ ghost use Rattle.ps2_ports.specs.Ports.{writeCommand, flushOutputBuffer, readCo
 ghost use Rattle.ps2_ports.specs.Refusals.{saidDone};
 ghost use Rattle.ps2_polling.specs.Polling.{testController};
 ghost use Rattle.ps2_mouse.specs.Mouse.{resetMouse};
-ghost use Rattle.ps2_init.specs.Init.{quieted as quietedRule, running as runningRule, disableDevices, testWith, testSecond, atLeastOne, testPorts, enablePort, enablePorts, resetDevices, setUp, initialize, keyboardRef, mouseRef};
-ghost use Rattle.ps2_init.specs.Answers.{lackRefusal, saidTrial, enableOf, clockOf, interruptOf, portsOf, saidPorts, readLast, withDevices, enabled, portsTested, tested, saidSetUp, saidInit};
+ghost use Rattle.ps2_init.specs.Init.{quieted as quietedRule, running as runningRule, disableDevices, testWith, testSecond, atLeastOne, testPorts, enablePort, enablePorts, withDevices, resetDevices, readLast, enabled, portsTested, tested, setUp, initialize, keyboardRef, mouseRef};
+ghost use Rattle.ps2_init.specs.Answers.{lackRefusal, saidTrial, enableOf, clockOf, interruptOf, portsOf, saidPorts, saidSetUp, saidInit};
 use ps2_bytes::ControllerConfigurationByte;
 use ps2_bytes::HostToControllerCommand;
 use ps2_keyboard::reset_keyboard;

@@ -11,7 +11,7 @@ use Rattle.ps2_init.proofs.Trials.{succeeds-tried, bind-lacked}
 use Rattle.exchange.specs.Exchange.{bind}
 use Rattle.ps2_keyboard.specs.Keyboard.{resetKeyboard}
 use Rattle.ps2_mouse.specs.Mouse.{resetMouse}
-use Rattle.ps2_init.specs.Answers.{readLast, withDevices}
+use Rattle.ps2_init.specs.Init.{readLast, withDevices}
 use Rattle.ps2_init.proofs.Resets.{resets-then}
 use Rattle.ps2_init.proofs.reset_devices.Statement.{statement}
 use Rattle.ps2_init.proofs.reset_devices.Tie as tie

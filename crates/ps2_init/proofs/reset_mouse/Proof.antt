@@ -9,7 +9,7 @@ use Rattle.exchange.specs.Refuses.{succeeds}
 use Rattle.ps2_init.specs.Answers.{saidTrial}
 use Rattle.ps2_init.proofs.Trials.{succeeds-tried, bind-lacked}
 use Rattle.ps2_mouse.specs.Mouse.{resetMouse}
-use Rattle.ps2_init.specs.Answers.{readLast, withDevices}
+use Rattle.ps2_init.specs.Init.{readLast, withDevices}
 use Rattle.ps2_init.proofs.reset_mouse.Statement.{statement}
 use Rattle.ps2_init.proofs.reset_mouse.Tie as tie
 
