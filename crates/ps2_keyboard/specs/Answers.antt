@@ -1,6 +1,5 @@
 -- What the answers of the keyboard's code say of the end of a play.
 -- Assumes nothing.
-use mathlib.Core.Bool.{Bool}
 use Prim.Native.Nat.{ℕ}
 use Rattle.bits.specs.Table.{decode}
 use Rattle.exchange.specs.Exchange.{End, yields}
@@ -11,7 +10,6 @@ use Rattle.ps2_ports.specs.Refusals.{refused}
 use Rattle.ps2_keyboard.specs.declared.SetAnswer.{SetAnswer}
 use Rattle.ps2_keyboard.specs.declared.TypeAnswer.{TypeAnswer}
 use Rattle.ps2_keyboard.specs.declared.SecondByte.{SecondByte}
-use Rattle.ps2_keyboard.specs.declared.FullAnswer.{FullAnswer}
 use Rattle.ps2_keyboard.specs.Keyboard.{secondBytes}
 
 -- The scancode set that the keyboard tells, or a refusal.
@@ -23,11 +21,6 @@ saidSet (SetAnswer.Refused r) = refused r
 abbrev pub saidType : TypeAnswer → End (Answer KeyboardType)
 saidType (TypeAnswer.Recognised t) = yields (gives t)
 saidType (TypeAnswer.Refused r) = refused r
-
--- Whether there is a byte to read, or a refusal.
-abbrev pub saidFull : FullAnswer → End (Answer Bool)
-saidFull (FullAnswer.Full b) = yields (gives b)
-saidFull (FullAnswer.Refused r) = refused r
 
 -- The second byte of a keyboard's identity, after AB: 41 or C1 translated, 83 plain.
 abbrev pub secondByteRead : ℕ → SecondByte

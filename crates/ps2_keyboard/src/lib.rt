@@ -3,12 +3,12 @@ ghost use mathlib.Core.Path.{_≡_};
 ghost use Rattle.exchange.specs.Exchange.{play, played, yields, Reads};
 ghost use Rattle.exchange.specs.Answer.{Answer, andThen};
 ghost use Rattle.ps2_ports.specs.Refusals.{saidDone};
-ghost use Rattle.ps2_ports.specs.Ports.{saidByte};
+ghost use Rattle.ps2_ports.specs.Ports.{saidByte, saidFull};
 ghost use Rattle.ps2_bytes.specs.declared.response.KeyboardType.{KeyboardType};
 ghost use Rattle.ps2_command.specs.Command.{saidCommand};
 ghost use Rattle.ps2_keyboard.specs.Keyboard.{commandToKeyboard, resetKeyboard, setKeyboardLed, getScancodeSet, setScancodeSet, typeSearch, keyboardDetect, readScancode, keyboardOutputBufferFull};
 ghost use Rattle.ps2_keyboard.specs.Parts.{setSearch, enabledAfter, identification};
-ghost use Rattle.ps2_keyboard.specs.Answers.{saidSet, saidType, saidFull, secondByteRead};
+ghost use Rattle.ps2_keyboard.specs.Answers.{saidSet, saidType, secondByteRead};
 use ps2_bytes::HostToDevice;
 use ps2_bytes::HostToKeyboardCommand;
 use ps2_bytes::HostToKeyboardCommandOrData;
@@ -27,6 +27,8 @@ use ps2_ports::ByteRead;
 use ps2_ports::Completed;
 use ps2_ports::Completion;
 use ps2_ports::Failure;
+use ps2_ports::FullAnswer;
+use ps2_ports::FullRead;
 use ps2_ports::Refusal;
 use ps2_ports::StatusAnswer;
 use ps2_ports::read_data;
@@ -81,17 +83,6 @@ pub struct Detected {
 pub enum SecondByte {
     Listed(KeyboardType),
     Unlisted,
-}
-
-// Whether there is a byte to read.
-pub enum FullAnswer {
-    Full(bool),
-    Refused(Refusal),
-}
-
-pub struct FullRead {
-    pub answer: FullAnswer,
-    pub used: usize,
 }
 
 // A byte for the keyboard, by the command rule.

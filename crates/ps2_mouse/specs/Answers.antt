@@ -1,7 +1,6 @@
 -- The record of a new mouse, and what the code's answers say of the ends of plays.
 -- Assumes nothing.
 use Prim.Native.Nat.{ℕ}
-use mathlib.Core.Bool.{Bool}
 use Rattle.exchange.specs.Exchange.{End, yields, toldEnd}
 use Rattle.exchange.specs.Answer.{Answer, gives}
 use Rattle.exchange.specs.Left.{Left, left}
@@ -16,7 +15,6 @@ use Rattle.ps2_ports.specs.Refusals.{Success, refused, saidDone}
 use Rattle.ps2_mouse.specs.declared.PS2Mouse.{PS2Mouse}
 use Rattle.ps2_mouse.specs.declared.FirstBytes.{FirstBytes}
 use Rattle.ps2_mouse.specs.declared.BytesAnswer.{BytesAnswer}
-use Rattle.ps2_mouse.specs.declared.FullAnswer.{FullAnswer}
 use Rattle.ps2_mouse.specs.declared.IdAnswer.{IdAnswer}
 use Rattle.ps2_mouse.specs.declared.IdPoll.{IdPoll}
 use Rattle.ps2_mouse.specs.declared.PacketAnswer.{PacketAnswer}
@@ -26,10 +24,6 @@ abbrev pub freshMouse : PS2Mouse
 freshMouse = record { id = Zero }
 
 -- ---- answers
-
-abbrev pub saidFull : FullAnswer → End (Answer Bool)
-saidFull (FullAnswer.Full full) = yields (gives full)
-saidFull (FullAnswer.Refused r) = refused r
 
 abbrev pub saidId : IdAnswer → End (Answer MouseId)
 saidId (IdAnswer.Id id) = yields (gives id)

@@ -7,14 +7,14 @@ ghost use Rattle.exchange.specs.Answer.{Answer, gives, refuses, andThen, refusi
 ghost use Rattle.exchange.specs.Left.{recordAfter};
 ghost use Rattle.exchange.specs.Repeat.{repeat};
 ghost use Rattle.ps2_bytes.specs.Responses.{mouseIds};
-ghost use Rattle.ps2_ports.specs.Ports.{flushOutputBuffer};
+ghost use Rattle.ps2_ports.specs.Ports.{flushOutputBuffer, saidFull};
 ghost use Rattle.ps2_ports.specs.Refusals.{numberOf, saidDone};
 ghost use Rattle.ps2_polling.specs.Polling.{pollLimit};
 ghost use Rattle.ps2_command.specs.Command.{Accepted, saidCommand};
 ghost use Rattle.ps2_command.specs.Search.{pollWhen, listedTurn, selfTestWithin};
 ghost use Rattle.ps2_mouse.specs.Mouse.{commandToMouse, mouseCommand, resetReads, resetMouse, setSamplingRate, setResolution, disablePacketStreaming, enablePacketStreaming, mouseByteWaits, mouseId as mouseIdRule, mouseOutputBufferFull, threeBytes, readMousePacket};
 ghost use Rattle.ps2_mouse.specs.Identity.{setRates, wheelRates, buttonRates, secondIdentity, afterFirst, newIdentity, startPackets, setMouseId};
-ghost use Rattle.ps2_mouse.specs.Answers.{freshMouse, forgivenAs, saidFull, saidId, saidIdPoll, firstBytes, saidBytes, saidPacket, saidMouse};
+ghost use Rattle.ps2_mouse.specs.Answers.{freshMouse, forgivenAs, saidId, saidIdPoll, firstBytes, saidBytes, saidPacket, saidMouse};
 use ps2_bytes::HostToDevice;
 use ps2_bytes::HostToMouseCommand;
 use ps2_bytes::HostToMouseCommandOrData;
@@ -36,6 +36,8 @@ use ps2_ports::Completed;
 use ps2_ports::CompletedRead;
 use ps2_ports::Completion;
 use ps2_ports::Failure;
+use ps2_ports::FullAnswer;
+use ps2_ports::FullRead;
 use ps2_ports::Refusal;
 use ps2_ports::StatusAnswer;
 use ps2_ports::flush_output_buffer;
@@ -51,17 +53,6 @@ const RESET_READS: u32 = 196605;
 // The mouse as its record says it is. A mouse's packets go by its identity.
 pub struct PS2Mouse {
     pub id: MouseId,
-}
-
-// Whether the mouse has a byte to read.
-pub enum FullAnswer {
-    Full(bool),
-    Refused(Refusal),
-}
-
-pub struct FullRead {
-    pub answer: FullAnswer,
-    pub used: usize,
 }
 
 // What a mouse says that it is.

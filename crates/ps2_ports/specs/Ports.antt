@@ -1,5 +1,6 @@
 -- The registers of the controller, as operations on its ports, and what the code's answers say of their ends. Data is port 60; status and commands are port 64.
 -- Assumes nothing.
+use mathlib.Core.Bool.{Bool}
 use Prim.Native.Nat.{ℕ}
 use Rattle.exchange.specs.Exchange.{Port, p60, p64, Exchange, done, read, write, End, yields}
 use Rattle.exchange.specs.Answer.{Answer, gives}
@@ -14,6 +15,7 @@ use Rattle.ps2_ports.specs.Refusals.{Success, success, refused}
 use Rattle.ps2_ports.specs.declared.ByteAnswer.{ByteAnswer}
 use Rattle.ps2_ports.specs.declared.StatusAnswer.{StatusAnswer}
 use Rattle.ps2_ports.specs.declared.ConfigAnswer.{ConfigAnswer}
+use Rattle.ps2_ports.specs.declared.FullAnswer.{FullAnswer}
 
 -- One byte from a port; one byte to a port.
 unfoldable pub readPort : Port → Exchange (Answer ℕ)
@@ -58,3 +60,7 @@ saidStatus (StatusAnswer.Refused r) = refused r
 abbrev pub saidConfig : ConfigAnswer → End (Answer ControllerConfigurationByte)
 saidConfig (ConfigAnswer.Config c) = yields (gives c)
 saidConfig (ConfigAnswer.Refused r) = refused r
+
+abbrev pub saidFull : FullAnswer → End (Answer Bool)
+saidFull (FullAnswer.Full full) = yields (gives full)
+saidFull (FullAnswer.Refused r) = refused r

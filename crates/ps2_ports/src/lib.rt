@@ -63,6 +63,12 @@ pub enum ConfigAnswer {
     Refused(Refusal),
 }
 
+// Whether a device has a byte to read.
+pub enum FullAnswer {
+    Full(bool),
+    Refused(Refusal),
+}
+
 // An answer with its counts: `used` script bytes, `pairs` written to the log. An operation that cannot read or cannot write lacks that count.
 pub struct ByteRead {
     pub answer: ByteAnswer,
@@ -71,6 +77,11 @@ pub struct ByteRead {
 
 pub struct StatusRead {
     pub answer: StatusAnswer,
+    pub used: usize,
+}
+
+pub struct FullRead {
+    pub answer: FullAnswer,
     pub used: usize,
 }
 

@@ -8,12 +8,11 @@ use Rattle.exchange.specs.Answer.{andThen}
 use Rattle.exchange.proofs.Position.{reads-used-le}
 use Rattle.exchange.proofs.Calls.{part-used-le, reads-done, reads-yields}
 use Rattle.ps2_bytes.specs.Responses.{mouseIds}
-use Rattle.ps2_ports.specs.Ports.{readStatus}
+use Rattle.ps2_ports.specs.Ports.{readStatus, saidFull}
 use Rattle.ps2_ports.proofs.Refusals.{onAnswer, reads-refused-turn}
 use Rattle.ps2_polling.proofs.Polls.{read-turn}
 use Rattle.ps2_command.specs.Search.{pollWhen, listedTurn}
 use Rattle.ps2_mouse.specs.Mouse.{mouseOutputBufferFull}
-use Rattle.ps2_mouse.specs.Answers.{saidFull}
 use Rattle.ps2_mouse.proofs.Polls.{onFull}
 use Rattle.ps2_mouse.proofs.poll_mouse_id.Statement.{statement}
 use Rattle.ps2_mouse.proofs.poll_mouse_id.Tie as tie
