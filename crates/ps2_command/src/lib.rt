@@ -9,13 +9,13 @@ use ps2_bytes::DeviceToHostResponse;
 use ps2_bytes::HostToControllerCommand;
 use ps2_bytes::HostToDevice;
 use ps2_polling::ResponseAnswer;
+use ps2_polling::Waiting;
 use ps2_polling::polling_send_receive;
-use ps2_ports::ByteAnswer;
+use ps2_polling::read_test_result;
 use ps2_ports::CompletedRead;
 use ps2_ports::Completion;
 use ps2_ports::Failure;
 use ps2_ports::Refusal;
-use ps2_ports::read_data;
 use ps2_ports::write_command;
 
 // The attempts that a command has.
@@ -148,28 +148,13 @@ pub fn command_to_port2(script: &[u8], log: &mut [u8], value: HostToDevice) -> C
 pub fn read_self_test_result(script: &[u8], reads: u32) -> CompletedRead
     ensures { λ r. ⌜ Reads (selfTestWithin reads) (now (script .entry)) (saidDone (r .answer)) (r .used) ⌝ }
 {
-    let mut used: usize = 0;
-    let mut left = reads;
-    let answer = loop {
-        if left == 0 {
-            break Completion::Refused(Refusal::Failed(Failure::ResetFailed));
-        }
-        let d = read_data(&script[used..]);
-        used += d.used;
-        let read = d.answer;
-        match read {
-            ByteAnswer::Byte(b) => {
-                if b == SELF_TEST_PASSED {
-                    break Completion::Done;
-                }
-            }
-            ByteAnswer::Refused(e) => {
-                break Completion::Refused(e);
-            }
-        }
-        left -= 1;
-    };
-    CompletedRead { answer, used }
+    read_test_result(
+        script,
+        Waiting::DataReads,
+        SELF_TEST_PASSED,
+        reads,
+        Failure::ResetFailed,
+    )
 }
 
 // A refusal from inside an operation that has a failure of its own; a used-up script and a full log are replaced by nothing.

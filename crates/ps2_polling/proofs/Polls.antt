@@ -1,23 +1,20 @@
 -- One turn of a polling, from what the code's one read or one poll answers.
 -- Assumes nothing.
 use mathlib.Core.Bool.{Bool, true, false, cond}
-use Prim.Native.Nat.{ℕ, _<_}
+use Prim.Native.Nat.{ℕ}
 use lib.Dec.{eqb}
 use mathlib.Core.List.{List}
 use mathlib.Core.Path.{_≡_, refl, sym, ap, _∙_, fun-ext}
 use Rattle.bits.specs.Bits.{bit}
-use Rattle.bits.specs.Table.{decode}
-use Rattle.bits.proofs.Every.{agree-bool}
 use Rattle.bits.proofs.Table.{decode-map}
-use Rattle.exchange.specs.Exchange.{p60, p64, Exchange, done, read, bind, End, yields, Reads}
+use Rattle.exchange.specs.Exchange.{p60, p64, Exchange, done, read, bind, End, yields, toldEnd, Reads}
 use Rattle.exchange.specs.Answer.{Answer, gives, refuses}
 use Rattle.exchange.specs.Repeat.{Turn, found, again, foundEnd}
-use Rattle.exchange.proofs.Calls.{bind-no-log, reads-no-script, reads-done}
+use Rattle.exchange.proofs.Calls.{reads-done}
+use Rattle.exchange.proofs.Told.{bind-told}
 use Rattle.ps2_bytes.specs.declared.response.DeviceToHostResponse.{DeviceToHostResponse}
 use Rattle.ps2_bytes.specs.declared.response.ResponseByte.{ResponseByte}
-use Rattle.ps2_bytes.specs.declared.response.PortTestByte.{PortTestByte}
-use Rattle.ps2_bytes.specs.declared.response.PortTestResult.the-variants.{Passed, ClockLineStuckLow, ClockLineStuckHigh, DataLineStuckLow, DataLineStuckHigh}
-use Rattle.ps2_bytes.specs.Responses.{portTestRead, portTestResultByte, responses, responseRead}
+use Rattle.ps2_bytes.specs.Responses.{responses, responseRead}
 use Rattle.ps2_bytes.specs.Status.{outputBufferFull}
 use Rattle.ps2_ports.specs.Refusals.{success, refused}
 use Rattle.ps2_ports.specs.Ports.{readPort, readData, saidByte}
@@ -25,8 +22,9 @@ use Rattle.ps2_ports.specs.declared.ByteAnswer.{ByteAnswer}
 use Rattle.ps2_ports.specs.declared.Refusal.{Refusal}
 use Rattle.ps2_ports.specs.declared.Refusal.the-variants.{ScriptUsedUp, LogFull, Failed}
 use Rattle.ps2_ports.proofs.Refusals.{onAnswer, reads-refused-turn}
-use Rattle.ps2_polling.specs.Polling.{dataTurn, poll, pollData, responseTurn, passedTurn, saidPolled}
+use Rattle.ps2_polling.specs.Polling.{dataTurn, poll, pollData, turnOf, responseTurn, passedTurn, saidPolled}
 use Rattle.ps2_polling.specs.declared.Polled.{Polled}
+use Rattle.ps2_polling.specs.declared.Waiting.{Waiting}
 
 -- ---- a poll, by the byte that the poll by itself brings
 
@@ -46,6 +44,11 @@ module _ {A : Type 0} (worth other : ℕ → Turn A) where
   unfolding poll bind
   poll-judged = ap (read p64) (fun-ext (λ status. judged-data (bit outputBufferFull status)))
 
+  turn-judged : (w : Waiting) → bind (turnOf w (λ b. found (gives b))) (λ r. done (judged r)) ≡ turnOf w worth
+  unfolding bind
+  turn-judged Waiting.Polls = poll-judged
+  turn-judged Waiting.DataReads = refl
+
 module _ {A : Type 0} (worth : ℕ → Turn (Answer A)) where
   -- ---- a read of data
 
@@ -61,7 +64,7 @@ module _ {A : Type 0} (worth : ℕ → Turn (Answer A)) where
   pub read-turn : {a a₂ : ByteAnswer} → a ≡ a₂ → (s : List ℕ) {u : ℕ} → Reads readData s (saidByte a) u → Reads (dataTurn worth) s (byteEnd a₂) u
   read-turn {a} q s r = rw q at (read-ended s a r)
 
-  -- ---- a poll
+  -- ---- a turn of a wait
 
   abbrev pub pollEnd : Polled → End (Turn (Answer A))
   pollEnd (Polled.Data b) = yields (worth b)
@@ -72,15 +75,25 @@ module _ {A : Type 0} (worth : ℕ → Turn (Answer A)) where
   abbrev passed : Turn (Answer ℕ) → Turn (Answer A)
   passed = judged worth (λ n. found (refuses n))
 
-  poll-ended : (s : List ℕ) (a : Polled) {u : ℕ} → Reads pollData s (saidPolled a) u → Reads (bind pollData (λ r. done (passed r))) s (pollEnd a) u
-  poll-ended s (Polled.Data b) r = reads-done pollData (λ r. done (passed r)) s r refl refl
-  poll-ended s Polled.Nothing r = reads-done pollData (λ r. done (passed r)) s r refl refl
-  poll-ended s (Polled.Refused ScriptUsedUp) r = reads-no-script pollData (λ r. done (passed r)) s r refl
-  poll-ended s (Polled.Refused LogFull) r = record { with-any = λ l. bind-no-log pollData (λ r. done (passed r)) s l (r .with-any l) refl }
-  poll-ended s (Polled.Refused (Failed f)) r = reads-done pollData (λ r. done (passed r)) s r refl refl
+  passed-told : (a : Polled) → toldEnd (λ r. passed r) (saidPolled a) ≡ pollEnd a
+  passed-told (Polled.Data b) = refl
+  passed-told Polled.Nothing = refl
+  passed-told (Polled.Refused ScriptUsedUp) = refl
+  passed-told (Polled.Refused LogFull) = refl
+  passed-told (Polled.Refused (Failed f)) = refl
+
+  turn-ended : (w : Waiting) (s : List ℕ) (a : Polled) {u : ℕ} → Reads (turnOf w (λ b. found (gives b))) s (saidPolled a) u → Reads (turnOf w worth) s (pollEnd a) u
+  turn-ended w s a r =
+      record {
+        with-any =
+            λ l. rw (passed-told a, turn-judged worth (λ n. found (refuses n)) w) at (bind-told (turnOf w (λ b. found (gives b))) (λ r. passed r) s l (r .with-any l) refl);
+      }
+
+  pub taken-turn : (w : Waiting) {a a₂ : Polled} → a ≡ a₂ → (s : List ℕ) {u : ℕ} → Reads (turnOf w (λ b. found (gives b))) s (saidPolled a) u → Reads (turnOf w worth) s (pollEnd a₂) u
+  taken-turn w {a} q s r = rw q at (turn-ended w s a r)
 
   pub poll-turn : {a a₂ : Polled} → a ≡ a₂ → (s : List ℕ) {u : ℕ} → Reads pollData s (saidPolled a) u → Reads (poll worth) s (pollEnd a₂) u
-  poll-turn {a} q s r = rw q at (rw (poll-judged worth (λ n. found (refuses n))) at (poll-ended s a r))
+  poll-turn q s r = taken-turn Waiting.Polls q s r
 
 -- ---- a device's response
 
@@ -98,16 +111,3 @@ passed-yes good b q = rw q
 
 pub passed-no : (good b : ℕ) → eqb b good ≡ false → passedTurn good b ≡ again
 passed-no good b q = rw q
-
-abbrev pub passing : PortTestByte → Bool
-passing (PortTestByte.Listed Passed) = true
-passing (PortTestByte.Listed ClockLineStuckLow) = false
-passing (PortTestByte.Listed ClockLineStuckHigh) = false
-passing (PortTestByte.Listed DataLineStuckLow) = false
-passing (PortTestByte.Listed DataLineStuckHigh) = false
-passing PortTestByte.Unlisted = false
-
--- of the bytes that a port test can answer, 00 alone says that the port passed
-pub passing-zero : (b : ℕ) → b < 256 → passing (portTestRead b) ≡ eqb b (portTestResultByte Passed)
-unfolding decode
-passing-zero = agree-bool (λ b. passing (portTestRead b)) (λ b. eqb b (portTestResultByte Passed)) 256 tt

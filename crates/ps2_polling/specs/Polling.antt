@@ -19,6 +19,7 @@ use Rattle.ps2_bytes.specs.Writable.{toDevice}
 use Rattle.ps2_ports.specs.Refusals.{Success, success, refused}
 use Rattle.ps2_ports.specs.Ports.{writeCommand}
 use Rattle.ps2_polling.specs.declared.Polled.{Polled}
+use Rattle.ps2_polling.specs.declared.Waiting.{Waiting}
 use Rattle.ps2_polling.specs.declared.ResponseAnswer.{ResponseAnswer}
 
 -- Document 01's limits: 255 status reads of a sending; 65,535 polls of a receiving, and data reads of the controller's test.
@@ -46,6 +47,11 @@ poll worth = read p64 (λ status. cond (bit outputBufferFull status) (dataTurn w
 -- The poll by itself: whatever byte it brings ends it.
 abbrev pub pollData : Exchange (Turn (Answer ℕ))
 pollData = poll (λ b. found (gives b))
+
+-- A turn of a wait, by how the byte is waited for.
+abbrev pub turnOf : {A : Type 0} → Waiting → (ℕ → Turn A) → Exchange (Turn A)
+turnOf Waiting.Polls worth = poll worth
+turnOf Waiting.DataReads worth = dataTurn worth
 
 -- "Receiving: did one of 65,535 polls bring 00, AA, EE, FA, FC, FD, FE or FF? 5"
 abbrev pub responseTurn : ℕ → Turn (Answer DeviceToHostResponse)

@@ -1,17 +1,14 @@
 // Sending to and receiving from a device by polling, and the controller's tests.
 ghost use mathlib.Core.Path.{_≡_};
-ghost use lib.Dec.{eqb};
 ghost use Rattle.exchange.specs.Exchange.{play, played, Reads};
-ghost use Rattle.ps2_bytes.specs.Responses.{portTestResultByte};
+ghost use Rattle.exchange.specs.Answer.{gives, refuses};
+ghost use Rattle.exchange.specs.Repeat.{found, repeat};
 ghost use Rattle.ps2_bytes.specs.declared.command.HostToControllerCommand.the-variants.{TestPort1, TestPort2};
-ghost use Rattle.ps2_bytes.specs.declared.response.PortTestResult.the-variants.{Passed};
-ghost use Rattle.ps2_ports.specs.Refusals.{saidDone};
-ghost use Rattle.ps2_polling.specs.Polling.{pollingSend, pollData, pollingReceive, pollingSendReceive, controllerTestResult, testController, portTestResult, testPort, saidPolled, saidResponse};
+ghost use Rattle.ps2_ports.specs.Refusals.{numberOf, saidDone};
+ghost use Rattle.ps2_polling.specs.Polling.{pollingSend, pollData, turnOf, passedTurn, pollingReceive, pollingSendReceive, controllerTestResult, testController, portTestResult, testPort, saidPolled, saidResponse};
 use ps2_bytes::DeviceToHostResponse;
 use ps2_bytes::HostToControllerCommand;
 use ps2_bytes::HostToDevice;
-use ps2_bytes::PortTestByte;
-use ps2_bytes::PortTestResult;
 use ps2_bytes::ResponseByte;
 use ps2_bytes::WritableData;
 use ps2_ports::ByteAnswer;
@@ -30,7 +27,10 @@ use ps2_ports::write_data;
 const SEND_TRIES: u8 = 255;
 
 // The most polls of a receiving or a port test, and data reads of the controller's test.
-const POLL_LIMIT: u16 = 65535;
+const POLL_LIMIT: u32 = 65535;
+
+// A port's answer to its test where it passed.
+const PORT_TEST_PASSED: u8 = 0x00;
 
 // The controller's answer to its test where it passed.
 const CONTROLLER_TEST_PASSED: u8 = 0x55;
@@ -45,6 +45,12 @@ pub enum Polled {
 pub struct Poll {
     pub answer: Polled,
     pub used: usize,
+}
+
+// How a byte is waited for: by polls, or by data reads that do not ask the status.
+pub enum Waiting {
+    Polls,
+    DataReads,
 }
 
 // What a device answered.
@@ -128,22 +134,54 @@ fn test_port(script: &[u8], log: &mut [u8], command: HostToControllerCommand) ->
     }
 }
 
-// Polls until a port test's answer says that the port passed; any other byte uses up its poll.
+// Polls until a port test's answer says that the port passed.
 pub fn match_port_test_result(script: &[u8]) -> CompletedRead
     ensures { λ r. ⌜ Reads portTestResult (now (script .entry)) (saidDone (r .answer)) (r .used) ⌝ }
 {
+    read_test_result(
+        script,
+        Waiting::Polls,
+        PORT_TEST_PASSED,
+        POLL_LIMIT,
+        Failure::PortTestFailed,
+    )
+}
+
+// Reads data, without asking the status, until the controller says that it passed its test.
+pub fn read_controller_test_result(script: &[u8]) -> CompletedRead
+    ensures { λ r. ⌜ Reads controllerTestResult (now (script .entry)) (saidDone (r .answer)) (r .used) ⌝ }
+{
+    read_test_result(
+        script,
+        Waiting::DataReads,
+        CONTROLLER_TEST_PASSED,
+        POLL_LIMIT,
+        Failure::ControllerTestFailed,
+    )
+}
+
+// Waits for the byte that says that a test was passed; any other uses up its turn.
+pub fn read_test_result(
+    script: &[u8],
+    waiting: Waiting,
+    passed: u8,
+    turns: u32,
+    failure: Failure,
+) -> CompletedRead
+    ensures { λ r. ⌜ Reads (repeat turns (refuses (numberOf failure)) (turnOf waiting (passedTurn passed))) (now (script .entry)) (saidDone (r .answer)) (r .used) ⌝ }
+{
     let mut used: usize = 0;
-    let mut polls = POLL_LIMIT;
+    let mut left = turns;
     let answer = loop {
-        if polls == 0 {
-            break Completion::Refused(Refusal::Failed(Failure::PortTestFailed));
+        if left == 0 {
+            break Completion::Refused(Refusal::Failed(failure));
         }
-        let p = poll_data(&script[used..]);
-        used += p.used;
-        let polled = p.answer;
-        match polled {
+        let t = take_turn(&script[used..], waiting);
+        used += t.used;
+        let taken = t.answer;
+        match taken {
             Polled::Data(b) => {
-                if port_passed(b) {
+                if b == passed {
                     break Completion::Done;
                 }
             }
@@ -152,53 +190,33 @@ pub fn match_port_test_result(script: &[u8]) -> CompletedRead
                 break Completion::Refused(e);
             }
         }
-        polls -= 1;
+        left -= 1;
     };
     CompletedRead { answer, used }
 }
 
-// Whether a byte is the answer of a port that passed its test.
-fn port_passed(byte: u8) -> bool
-    ensures { λ r. ⌜ r ≡ eqb byte (portTestResultByte Passed) ⌝ }
+// One turn of a wait.
+fn take_turn(script: &[u8], waiting: Waiting) -> Poll
+    ensures { λ r. ⌜ Reads (turnOf waiting (λ b. found (gives b))) (now (script .entry)) (saidPolled (r .answer)) (r .used) ⌝ }
 {
-    match PortTestResult::from_byte(byte) {
-        PortTestByte::Listed(result) => match result {
-            PortTestResult::Passed => true,
-            PortTestResult::ClockLineStuckLow => false,
-            PortTestResult::ClockLineStuckHigh => false,
-            PortTestResult::DataLineStuckLow => false,
-            PortTestResult::DataLineStuckHigh => false,
-        },
-        PortTestByte::Unlisted => false,
+    match waiting {
+        Waiting::Polls => poll_data(script),
+        Waiting::DataReads => {
+            let d = read_data(script);
+            let used = d.used;
+            let read = d.answer;
+            match read {
+                ByteAnswer::Byte(b) => Poll {
+                    answer: Polled::Data(b),
+                    used,
+                },
+                ByteAnswer::Refused(e) => Poll {
+                    answer: Polled::Refused(e),
+                    used,
+                },
+            }
+        }
     }
-}
-
-// Reads data, without asking the status, until the controller says that it passed its test.
-pub fn read_controller_test_result(script: &[u8]) -> CompletedRead
-    ensures { λ r. ⌜ Reads controllerTestResult (now (script .entry)) (saidDone (r .answer)) (r .used) ⌝ }
-{
-    let mut used: usize = 0;
-    let mut reads = POLL_LIMIT;
-    let answer = loop {
-        if reads == 0 {
-            break Completion::Refused(Refusal::Failed(Failure::ControllerTestFailed));
-        }
-        let d = read_data(&script[used..]);
-        used += d.used;
-        let read = d.answer;
-        match read {
-            ByteAnswer::Byte(b) => {
-                if b == CONTROLLER_TEST_PASSED {
-                    break Completion::Done;
-                }
-            }
-            ByteAnswer::Refused(e) => {
-                break Completion::Refused(e);
-            }
-        }
-        reads -= 1;
-    };
-    CompletedRead { answer, used }
 }
 
 // One attempt: sends a byte, then receives the response.

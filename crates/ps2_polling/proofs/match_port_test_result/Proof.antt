@@ -1,92 +1,12 @@
--- `match_port_test_result` meets its contract: the invariant is how far the definition's repetition has come; a poll is one turn of it. Assumes nothing.
-use native.Mathlib.Omega.{arith}
+-- `match_port_test_result` meets its contract: a wait with its own byte, turns and refusal. Assumes nothing.
 use borrow.Author.Needs.{needs}
-use Prim.Native.Nat.{ℕ}
-use mathlib.Core.Logic.{⊎-elim}
-use mathlib.Core.Path.{refl, sym, ap, _∙_}
-use Rattle.exchange.specs.Exchange.{yields}
-use Rattle.exchange.specs.Position.{ReadTo}
-use Rattle.exchange.proofs.Calls.{part-used-le}
-use Rattle.exchange.proofs.Reading.{read-to-start, read-to-used-le, read-to-over, read-to-again, read-to-found, read-to-end}
-use Rattle.exchange.specs.Answer.{Answer, refuses}
-use Rattle.exchange.specs.Repeat.{Turn, repeat}
-use Rattle.ps2_bytes.specs.Responses.{portTestResultByte}
-use Rattle.ps2_bytes.specs.declared.response.PortTestResult.the-variants.{Passed}
-use Rattle.ps2_ports.specs.Refusals.{Success, refused}
-use Rattle.ps2_polling.specs.Polling.{poll, passedTurn, portTestResult}
-use Rattle.ps2_polling.proofs.Polls.{poll-turn, passed-yes, passed-no}
+use Rattle.ps2_polling.specs.Polling.{portTestResult}
 use Rattle.ps2_polling.proofs.match_port_test_result.Statement.{statement}
 use Rattle.ps2_polling.proofs.match_port_test_result.Tie as tie
 
-abbrev worth : ℕ → Turn (Answer Success)
-worth = passedTurn (portTestResultByte Passed)
-
-abbrev Inv-loop : tie.InvT-loop
-Inv-loop script used₀ polls₀ used polls = ReadTo portTestResult script (repeat polls (refuses 9) (poll worth)) used
-
-abbrev μ-loop : tie.MeasureT-loop
-μ-loop script used₀ polls₀ used polls = polls
-
-loop-holds : tie.Need-loop-holds Inv-loop μ-loop
+returns : tie.Need-returns
 unfolding portTestResult
-loop-holds c = read-to-start _ _
-
-sub-poll-data : tie.Need-sub-poll-data Inv-loop μ-loop
-sub-poll-data c = read-to-used-le (c .before .loop .inv)
-
-part-poll-data-start : tie.Need-part-poll-data-start Inv-loop μ-loop
-part-poll-data-start c = read-to-used-le (c .before .loop .inv)
-
-add-used : tie.Need-add-used Inv-loop μ-loop
-add-used c =
-    let script = c .before .before .before .before .before .before .args .script in
-    let at = c .before .before .before .before .loop .inv in
-    omega (arith, part-used-le (script .now) _ (read-to-used-le at) (c .before .poll-data .ensures), c .before .before .before .before .before .before .good)
-
-loop-again : tie.Need-loop-again Inv-loop μ-loop
-loop-again c =
-    let at = (c .before .before .before .before .before .loop .inv) in
-    let r = c .before .before .poll-data .ensures in
-    ⊎-elim
-    (λ w. read-to-again _ _ _ at (poll-turn worth (w .1 .given .1) _ r) _ (omega arith) (ap yields (passed-no (portTestResultByte Passed) (w .1 .given .0 .0) (sym (w .3 .ensures) ∙ w .4 .left))))
-    (λ w. read-to-again _ _ _ at (poll-turn worth (w .1 .given .1) _ r) _ (omega arith) refl)
-    (c .match .came)
-
-returns : tie.Need-returns Inv-loop μ-loop
-returns c = read-to-over _ _ _ (c .before .loop .inv) (omega arith)
-
-returns-2 : tie.Need-returns-2 Inv-loop μ-loop
-returns-2 c =
-    let at = c .before .before .before .before .before .before .before .before .before .loop .inv in
-    let polled = c .before .before .before .polled .given in
-    let poll-data = c .before .before .before .before .before .before .poll-data .ensures in
-    read-to-found _ _ _ at (poll-turn worth (polled .1) _ poll-data) (omega arith) (ap yields (passed-yes (portTestResultByte Passed) (polled .0 .0) (sym (c .before .port-passed .ensures) ∙ c .if2 .taken)))
-
-returns-3 : tie.Need-returns-3 Inv-loop μ-loop
-returns-3 c =
-    let at = c .before .before .before .before .before .before .before .loop .inv in
-    let poll-data = c .before .before .before .before .poll-data .ensures in
-    read-to-end _ _ _ at (poll-turn worth (c .before .polled2 .given .1) _ poll-data) (refused (c .before .polled2 .given .0 .0)) (omega arith) refl
+returns c = c .read-test-result .ensures
 
 pub match-port-test-result-spec : {M : Type 1} → statement M
-match-port-test-result-spec =
-    tie.close
-    (tie.spec
-    Inv-loop
-    μ-loop
-    loop-holds
-    sub-poll-data
-    part-poll-data-start
-    (λ c. search needs)
-    (λ c κs. search needs)
-    add-used
-    (λ c. search needs)
-    (λ c κs. search needs)
-    (λ c. search needs)
-    (λ c. search needs)
-    (λ c. search needs)
-    (λ c. search needs)
-    loop-again
-    returns
-    returns-2
-    returns-3)
+match-port-test-result-spec = tie.close (tie.spec (λ c κs. search needs) returns)

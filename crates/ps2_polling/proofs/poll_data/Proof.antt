@@ -30,9 +30,6 @@ seen status x full p q = ap (λ (b : Bool). cond b (dataTurn (λ b. found (gives
 sub-read-data : tie.Need-sub-read-data
 sub-read-data c = reads-used-le (c .before .before .before .before .before .status-register .ensures)
 
-part-read-data-start : tie.Need-part-read-data-start
-part-read-data-start c = reads-used-le (c .before .before .before .before .before .status-register .ensures)
-
 add-both : tie.Need-add-both
 add-both c =
     let script = c .before .before .before .before .before .before .before .before .before .before .args .script in
@@ -82,7 +79,7 @@ poll-data-spec =
     (λ c. search needs)
     (λ c κs. search needs)
     sub-read-data
-    part-read-data-start
+    sub-read-data
     (λ c. search needs)
     (λ c κs. search needs)
     add-both

@@ -28,9 +28,6 @@ loop-holds c = read-to-start _ _
 sub-poll-data : tie.Need-sub-poll-data Inv-loop μ-loop
 sub-poll-data c = read-to-used-le (c .before .loop .inv)
 
-part-poll-data-start : tie.Need-part-poll-data-start Inv-loop μ-loop
-part-poll-data-start c = read-to-used-le (c .before .loop .inv)
-
 add-used : tie.Need-add-used Inv-loop μ-loop
 add-used c =
     let script = c .before .before .before .before .before .before .args .script in
@@ -71,7 +68,7 @@ polling-receive-spec =
     μ-loop
     loop-holds
     sub-poll-data
-    part-poll-data-start
+    sub-poll-data
     (λ c. search needs)
     (λ c κs. search needs)
     add-used

@@ -63,9 +63,6 @@ loop-holds c = (refl, reached-start _ _ _)
 sub-status-register : tie.Need-sub-status-register Inv-loop μ-loop
 sub-status-register c = c .before .loop .inv .1 .used-le
 
-part-status-register-start : tie.Need-part-status-register-start Inv-loop μ-loop
-part-status-register-start c = c .before .loop .inv .1 .used-le
-
 add-used : tie.Need-add-used Inv-loop μ-loop
 add-used c =
     let script = c .before .before .before .before .before .before .before .args .script in
@@ -109,7 +106,7 @@ polling-send-spec =
     μ-loop
     loop-holds
     sub-status-register
-    part-status-register-start
+    sub-status-register
     (λ c. search needs)
     (λ c κs. search needs)
     add-used

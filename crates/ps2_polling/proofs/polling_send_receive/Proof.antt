@@ -14,9 +14,6 @@ use Rattle.ps2_polling.proofs.polling_send_receive.Tie as tie
 sub-polling-receive : tie.Need-sub-polling-receive
 sub-polling-receive c = call-used-le _ _ _ (c .before .before .before .before .polling-send .ensures)
 
-part-polling-receive-start : tie.Need-part-polling-receive-start
-part-polling-receive-start c = call-used-le _ _ _ (c .before .before .before .before .polling-send .ensures)
-
 add-t15 : tie.Need-add-t15
 add-t15 c =
     let script = c .before .before .before .before .before .before .before .before .before .before .before .args .script in
@@ -43,7 +40,7 @@ polling-send-receive-spec =
     (λ c κs. search needs)
     (λ c. search needs)
     sub-polling-receive
-    part-polling-receive-start
+    sub-polling-receive
     (λ c. search needs)
     (λ c κs. search needs)
     add-t15
