@@ -1,24 +1,45 @@
--- A failure that is forgiven: it leaves the old identity. A used-up script and a full log are not.
+-- What follows an identity that was asked for after some rates: by what it came to, and where it failed, which is forgiven. A used-up script and a full log are not.
 -- Assumes nothing.
 use Prim.Native.Nat.{ℕ}
 use mathlib.Core.List.{List}
-use mathlib.Core.Path.{_≡_}
-use Rattle.exchange.specs.Exchange.{Exchange, done, bind, End, played, play}
-use Rattle.exchange.specs.Answer.{Answer, gives, refuses}
+use mathlib.Core.Path.{_≡_, refl, sym, ap, _∙_}
+use Rattle.exchange.specs.Exchange.{Exchange, done, bind, End, toldEnd, Played, played, play}
+use Rattle.exchange.specs.Answer.{Answer, gives, refuses, onGiven, andThen}
 use Rattle.exchange.proofs.Calls.{bind-done, bind-no-script, bind-no-log}
+use Rattle.exchange.proofs.Grouping.{andThen-assoc}
+use Rattle.exchange.proofs.Sequence.{bind-assoc}
+use Rattle.ps2_bytes.specs.declared.data.MouseSampleRate.{MouseSampleRate}
 use Rattle.ps2_bytes.specs.declared.response.MouseId.{MouseId}
 use Rattle.ps2_ports.specs.declared.Refusal.{Refusal}
 use Rattle.ps2_ports.specs.declared.Refusal.the-variants.{ScriptUsedUp, LogFull, Failed}
-use Rattle.ps2_ports.specs.Refusals.{numberOf, refused}
+use Rattle.ps2_ports.specs.Refusals.{Success, numberOf, refused}
 use Rattle.ps2_mouse.specs.declared.IdAnswer.{IdAnswer}
+use Rattle.ps2_mouse.specs.Mouse.{mouseId}
+use Rattle.ps2_mouse.specs.Identity.{setRates, identityAfter}
 use Rattle.ps2_mouse.specs.Answers.{saidId, forgivenAs}
 
-module _ (t : Exchange (Answer MouseId)) (g : Answer MouseId → Exchange (Answer MouseId)) (old : MouseId) (leaves : (n : ℕ) → g (refuses n) ≡ done (gives old))
-    (s l : List ℕ) {e : End (Answer MouseId)} {u w : ℕ} {l′ : List ℕ} (r : played e u w l′ ≡ play t s l) where
-  forgives : (x : Refusal) → e ≡ refused x → played (saidId (forgivenAs old x)) u w l′ ≡ play (bind t g) s l
-  forgives ScriptUsedUp q = bind-no-script t g s l r q
-  forgives LogFull q = bind-no-log t g s l r q
-  forgives (Failed f) q = bind-done t g s l r q (leaves (numberOf f))
+module _ (rates : List MouseSampleRate) (g : Answer MouseId → Exchange (Answer MouseId)) where
+  -- the asking and what follows it, grouped as the definitions have it
+  asked-then : bind mouseId (λ id. bind (done (gives id)) (onGiven g)) ≡ bind mouseId g
+  unfolding bind
+  asked-then = refl
 
-  pub bind-forgiven : (x : Refusal) → e ≡ refused x → {y : IdAnswer} → y ≡ forgivenAs old x → played (saidId y) u w l′ ≡ play (bind t g) s l
-  bind-forgiven x q p = rw p (forgives x q)
+  identity-then : bind (identityAfter rates) (onGiven g) ≡ andThen (setRates rates) (λ _. bind mouseId g)
+  unfolding identityAfter andThen
+  identity-then =
+      andThen-assoc (setRates rates) (λ _. bind mouseId (λ id. done (gives id))) g
+      ∙ ap (λ (k : Exchange (Answer MouseId)). andThen (setRates rates) (λ (_ : Success). k)) (bind-assoc mouseId (λ id. done (gives id)) (onGiven g) ∙ asked-then)
+
+  pub grouped : (s l : List ℕ) {o : Played (Answer MouseId)} → o ≡ play (bind (identityAfter rates) (onGiven g)) s l → o ≡ play (andThen (setRates rates) (λ _. bind mouseId g)) s l
+  grouped s l q = rw identity-then at q
+
+  module _ (old : MouseId) (leaves : (n : ℕ) → g (refuses n) ≡ done (gives old)) (s l : List ℕ) {e : End (Answer (Answer MouseId))} {u w : ℕ} {l′ : List ℕ}
+      (r : played e u w l′ ≡ play (identityAfter rates) s l) where
+    forgives : (x : Refusal) → e ≡ toldEnd gives (refused x) → played (saidId (forgivenAs old x)) u w l′ ≡ play (bind (identityAfter rates) (onGiven g)) s l
+    forgives ScriptUsedUp q = bind-no-script (identityAfter rates) (onGiven g) s l r q
+    forgives LogFull q = bind-no-log (identityAfter rates) (onGiven g) s l r q
+    forgives (Failed f) q = bind-done (identityAfter rates) (onGiven g) s l r q (leaves (numberOf f))
+
+    pub bind-forgiven : (x : Refusal) → e ≡ toldEnd gives (refused x) → {y : IdAnswer} → y ≡ forgivenAs old x
+        → played (saidId y) u w l′ ≡ play (bind (identityAfter rates) (onGiven g)) s l
+    bind-forgiven x q p = rw p (forgives x q)

@@ -15,6 +15,7 @@ use Rattle.ps2_ports.specs.Refusals.{Success, refused, saidDone}
 use Rattle.ps2_mouse.specs.declared.PS2Mouse.{PS2Mouse}
 use Rattle.ps2_mouse.specs.declared.FirstBytes.{FirstBytes}
 use Rattle.ps2_mouse.specs.declared.BytesAnswer.{BytesAnswer}
+use Rattle.ps2_mouse.specs.declared.AskedAnswer.{AskedAnswer}
 use Rattle.ps2_mouse.specs.declared.IdAnswer.{IdAnswer}
 use Rattle.ps2_mouse.specs.declared.IdPoll.{IdPoll}
 use Rattle.ps2_mouse.specs.declared.PacketAnswer.{PacketAnswer}
@@ -28,6 +29,11 @@ freshMouse = record { id = Zero }
 abbrev pub saidId : IdAnswer → End (Answer MouseId)
 saidId (IdAnswer.Id id) = yields (gives id)
 saidId (IdAnswer.Refused r) = refused r
+
+-- What F2 came to is a value here, unless the script or the log ended.
+abbrev pub saidAsked : AskedAnswer → End (Answer (Answer MouseId))
+saidAsked (AskedAnswer.Answered a) = toldEnd gives (saidId a)
+saidAsked (AskedAnswer.Refused r) = refused r
 
 abbrev pub saidIdPoll : IdPoll → End (Turn (Answer MouseId))
 saidIdPoll (IdPoll.Settled a) = foundEnd (saidId a)

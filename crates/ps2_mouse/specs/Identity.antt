@@ -18,6 +18,10 @@ unfoldable pub setRates : List MouseSampleRate → Exchange (Answer Success)
 setRates [] = done (gives success)
 setRates (rate ∷ rates) = andThen (setSamplingRate rate) (λ _. setRates rates)
 
+-- Rates, and then the identity: what the mouse answered to F2, unless a rate was refused.
+unfoldable pub identityAfter : List MouseSampleRate → Exchange (Answer (Answer MouseId))
+identityAfter rates = andThen (setRates rates) (λ _. bind mouseId (λ id. done (gives id)))
+
 -- "rates 200, 100, 80", which ask for identity 3; "rates 200, 200, 80", which ask for 4.
 abbrev pub wheelRates : List MouseSampleRate
 wheelRates = _200 ∷ _100 ∷ _80 ∷ []

@@ -13,8 +13,8 @@ ghost use Rattle.ps2_polling.specs.Polling.{pollLimit};
 ghost use Rattle.ps2_command.specs.Command.{Accepted, saidCommand};
 ghost use Rattle.ps2_command.specs.Search.{pollWhen, listedTurn, selfTestWithin};
 ghost use Rattle.ps2_mouse.specs.Mouse.{commandToMouse, mouseCommand, resetReads, resetMouse, setSamplingRate, setResolution, disablePacketStreaming, enablePacketStreaming, mouseByteWaits, mouseId as mouseIdRule, mouseOutputBufferFull, threeBytes, readMousePacket};
-ghost use Rattle.ps2_mouse.specs.Identity.{setRates, wheelRates, buttonRates, secondIdentity, afterFirst, newIdentity, startPackets, setMouseId};
-ghost use Rattle.ps2_mouse.specs.Answers.{freshMouse, forgivenAs, saidId, saidIdPoll, firstBytes, saidBytes, saidPacket, saidMouse};
+ghost use Rattle.ps2_mouse.specs.Identity.{setRates, identityAfter, wheelRates, buttonRates, secondIdentity, afterFirst, newIdentity, startPackets, setMouseId};
+ghost use Rattle.ps2_mouse.specs.Answers.{freshMouse, forgivenAs, saidId, saidAsked, saidIdPoll, firstBytes, saidBytes, saidPacket, saidMouse};
 use ps2_bytes::HostToDevice;
 use ps2_bytes::HostToMouseCommand;
 use ps2_bytes::HostToMouseCommandOrData;
@@ -68,6 +68,18 @@ struct IdRead {
 
 pub struct Identified {
     pub answer: IdAnswer,
+    pub used: usize,
+    pub pairs: usize,
+}
+
+// What a mouse answered that was asked for its identity after some rates, or why a rate was not set.
+enum AskedAnswer {
+    Answered(IdAnswer),
+    Refused(Refusal),
+}
+
+struct Asked {
+    pub answer: AskedAnswer,
     pub used: usize,
     pub pairs: usize,
 }
@@ -580,11 +592,11 @@ fn new_identity(script: &[u8], log: &mut [u8], old: MouseId) -> Identified
     }
 }
 
-// The rates that ask a mouse with a wheel to take on identity 3, and what follows them.
+// The rates that ask a mouse with a wheel to take on identity 3, and what follows its answer; a failure to read it is forgiven.
 fn wheel_identity(script: &[u8], log: &mut [u8], old: MouseId) -> Identified
     ensures { λ r. ⌜ played (saidId (r .answer)) (r .used) (r .pairs) (now (log .exit)) ≡ play (andThen (setRates wheelRates) (λ _. bind mouseIdRule (λ first. afterFirst old first))) (now (script .entry)) (now (log .entry)) ⌝ }
 {
-    let s = set_rates(
+    let a = identity_after(
         script,
         log,
         [
@@ -593,21 +605,40 @@ fn wheel_identity(script: &[u8], log: &mut [u8], old: MouseId) -> Identified
             MouseSampleRate::_80,
         ],
     );
-    let used = s.used;
-    let pairs = s.pairs;
-    let set = s.answer;
-    match set {
-        Completion::Done => {
-            let at = 2 * pairs;
-            let f = first_identity(&script[used..], &mut log[at..], old);
-            let answer = f.answer;
-            Identified {
-                answer,
-                used: used + f.used,
-                pairs: pairs + f.pairs,
-            }
-        }
-        Completion::Refused(e) => Identified {
+    let used = a.used;
+    let pairs = a.pairs;
+    let asked = a.answer;
+    match asked {
+        AskedAnswer::Answered(first) => match first {
+            IdAnswer::Id(id) => match id {
+                MouseId::Zero => Identified {
+                    answer: IdAnswer::Id(old),
+                    used,
+                    pairs,
+                },
+                MouseId::Three => {
+                    let at = 2 * pairs;
+                    let b = button_identity(&script[used..], &mut log[at..], old);
+                    let answer = b.answer;
+                    Identified {
+                        answer,
+                        used: used + b.used,
+                        pairs: pairs + b.pairs,
+                    }
+                }
+                MouseId::Four => Identified {
+                    answer: IdAnswer::Refused(Refusal::Failed(Failure::FirstIdentityFour)),
+                    used,
+                    pairs,
+                },
+            },
+            IdAnswer::Refused(e) => Identified {
+                answer: forgiven(e, old),
+                used,
+                pairs,
+            },
+        },
+        AskedAnswer::Refused(e) => Identified {
             answer: IdAnswer::Refused(e),
             used,
             pairs,
@@ -615,50 +646,11 @@ fn wheel_identity(script: &[u8], log: &mut [u8], old: MouseId) -> Identified
     }
 }
 
-// The first identity; a failure to read it is forgiven.
-fn first_identity(script: &[u8], log: &mut [u8], old: MouseId) -> Identified
-    ensures { λ r. ⌜ played (saidId (r .answer)) (r .used) (r .pairs) (now (log .exit)) ≡ play (bind mouseIdRule (λ first. afterFirst old first)) (now (script .entry)) (now (log .entry)) ⌝ }
-{
-    let m = PS2Mouse::mouse_id(script, log);
-    let used = m.used;
-    let pairs = m.pairs;
-    let first = m.answer;
-    match first {
-        IdAnswer::Id(id) => match id {
-            MouseId::Zero => Identified {
-                answer: IdAnswer::Id(old),
-                used,
-                pairs,
-            },
-            MouseId::Three => {
-                let at = 2 * pairs;
-                let b = button_identity(&script[used..], &mut log[at..], old);
-                let answer = b.answer;
-                Identified {
-                    answer,
-                    used: used + b.used,
-                    pairs: pairs + b.pairs,
-                }
-            }
-            MouseId::Four => Identified {
-                answer: IdAnswer::Refused(Refusal::Failed(Failure::FirstIdentityFour)),
-                used,
-                pairs,
-            },
-        },
-        IdAnswer::Refused(e) => Identified {
-            answer: forgiven(e, old),
-            used,
-            pairs,
-        },
-    }
-}
-
-// The rates that ask a mouse with five buttons to take on identity 4, and what it then says that it is.
+// The rates that ask a mouse with five buttons to take on identity 4, and what it then says that it is; a failure to read it leaves the old one.
 fn button_identity(script: &[u8], log: &mut [u8], old: MouseId) -> Identified
     ensures { λ r. ⌜ played (saidId (r .answer)) (r .used) (r .pairs) (now (log .exit)) ≡ play (andThen (setRates buttonRates) (λ _. secondIdentity old)) (now (script .entry)) (now (log .entry)) ⌝ }
 {
-    let s = set_rates(
+    let a = identity_after(
         script,
         log,
         [
@@ -667,21 +659,23 @@ fn button_identity(script: &[u8], log: &mut [u8], old: MouseId) -> Identified
             MouseSampleRate::_80,
         ],
     );
-    let used = s.used;
-    let pairs = s.pairs;
-    let set = s.answer;
-    match set {
-        Completion::Done => {
-            let at = 2 * pairs;
-            let f = second_identity(&script[used..], &mut log[at..], old);
-            let answer = f.answer;
-            Identified {
-                answer,
-                used: used + f.used,
-                pairs: pairs + f.pairs,
-            }
-        }
-        Completion::Refused(e) => Identified {
+    let used = a.used;
+    let pairs = a.pairs;
+    let asked = a.answer;
+    match asked {
+        AskedAnswer::Answered(second) => match second {
+            IdAnswer::Id(id) => Identified {
+                answer: IdAnswer::Id(id),
+                used,
+                pairs,
+            },
+            IdAnswer::Refused(e) => Identified {
+                answer: forgiven(e, old),
+                used,
+                pairs,
+            },
+        },
+        AskedAnswer::Refused(e) => Identified {
             answer: IdAnswer::Refused(e),
             used,
             pairs,
@@ -689,22 +683,27 @@ fn button_identity(script: &[u8], log: &mut [u8], old: MouseId) -> Identified
     }
 }
 
-// The second identity; a failure to read it leaves the old one.
-fn second_identity(script: &[u8], log: &mut [u8], old: MouseId) -> Identified
-    ensures { λ r. ⌜ played (saidId (r .answer)) (r .used) (r .pairs) (now (log .exit)) ≡ play (secondIdentity old) (now (script .entry)) (now (log .entry)) ⌝ }
+// Sets rates, and then asks the mouse for its identity; what the asking came to is for the caller to judge.
+fn identity_after(script: &[u8], log: &mut [u8], rates: [MouseSampleRate; 3]) -> Asked
+    ensures { λ r. ⌜ played (saidAsked (r .answer)) (r .used) (r .pairs) (now (log .exit)) ≡ play (identityAfter rates) (now (script .entry)) (now (log .entry)) ⌝ }
 {
-    let m = PS2Mouse::mouse_id(script, log);
-    let used = m.used;
-    let pairs = m.pairs;
-    let second = m.answer;
-    match second {
-        IdAnswer::Id(id) => Identified {
-            answer: IdAnswer::Id(id),
-            used,
-            pairs,
-        },
-        IdAnswer::Refused(e) => Identified {
-            answer: forgiven(e, old),
+    let s = set_rates(script, log, rates);
+    let used = s.used;
+    let pairs = s.pairs;
+    let set = s.answer;
+    match set {
+        Completion::Done => {
+            let at = 2 * pairs;
+            let m = PS2Mouse::mouse_id(&script[used..], &mut log[at..]);
+            let answer = m.answer;
+            Asked {
+                answer: AskedAnswer::Answered(answer),
+                used: used + m.used,
+                pairs: pairs + m.pairs,
+            }
+        }
+        Completion::Refused(e) => Asked {
+            answer: AskedAnswer::Refused(e),
             used,
             pairs,
         },

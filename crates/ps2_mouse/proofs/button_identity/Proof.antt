@@ -1,57 +1,47 @@
--- `ps2_mouse::button_identity` meets its contract: the second identity is asked for where the rates ended.
+-- `ps2_mouse::button_identity` meets its contract: the identity that was read, or the old one.
 -- Assumes nothing.
 use borrow.Author.Needs.{needs}
-use native.Mathlib.Omega.{arith}
-use mathlib.Core.Path.{refl, ap}
-use Rattle.exchange.specs.Answer.{andThen, onGiven}
-use Rattle.exchange.proofs.Position.{call-used-le, call-pairs-le, call-tail-le}
-use Rattle.exchange.proofs.Calls.{bind-yields, two-used-le, two-pairs-le}
+use mathlib.Core.Path.{refl, ap, _∙_}
+use Rattle.exchange.specs.Exchange.{done}
+use Rattle.exchange.specs.Answer.{gives, onGiven}
+use Rattle.exchange.proofs.Calls.{bind-done}
 use Rattle.ps2_ports.proofs.Refusals.{bind-refused}
-use Rattle.ps2_ports.specs.Refusals.{saidDone}
-use Rattle.ps2_mouse.specs.Identity.{setRates, buttonRates, secondIdentity}
+use Rattle.ps2_mouse.specs.declared.AskedAnswer.{AskedAnswer}
+use Rattle.ps2_mouse.specs.Identity.{identityAfter, buttonRates, readOr, secondIdentity}
+use Rattle.ps2_mouse.specs.Answers.{saidAsked}
+use Rattle.ps2_mouse.proofs.Forgives.{grouped, bind-forgiven}
 use Rattle.ps2_mouse.proofs.button_identity.Statement.{statement}
 use Rattle.ps2_mouse.proofs.button_identity.Tie as tie
 
-mul-at : tie.Need-mul-at
-mul-at c =
-    let a = c .before .before .before .before in
-    omega (arith, call-pairs-le _ _ _ (a .set-rates .ensures), a .before .before .before .before .good)
-
-sub-second-identity : tie.Need-sub-second-identity
-sub-second-identity c = call-used-le _ _ _ (c .before .before .before .before .set-rates .ensures)
-
-sub-second-identity-2 : tie.Need-sub-second-identity-2
-sub-second-identity-2 c = call-tail-le _ _ _ (c .before .before .before .before .before .set-rates .ensures)
-
-add-t20 : tie.Need-add-t20
-add-t20 c =
-    let m = c .before .before .before in
-    let a = m .before .before .before .before .before .before .before in
-    omega (arith, two-used-le _ _ _ _ (a .set-rates .ensures) refl (m .second-identity .ensures), a .before .before .before .before .good)
-
-add-t24 : tie.Need-add-t24
-add-t24 c =
-    let m = c .before .before .before .before in
-    let a = m .before .before .before .before .before .before .before in
-    omega (arith, two-pairs-le _ _ _ _ (a .set-rates .ensures) refl (m .second-identity .ensures), a .before .before .before .before .good)
-
 returns : tie.Need-returns
-unfolding andThen
+unfolding secondIdentity
 returns c =
-    let m = c .before .before .before .before in
-    let t = m .before .before .before in
-    let a = t .before .before .before .before in
+    let f = c .before in
+    let q = f .before .before .before in
+    let a = q .before .before .before .before in
     let old = a .before .before .before .before .args .old in
-    bind-yields (setRates buttonRates) (onGiven (λ _. secondIdentity old)) _ _ (a .set-rates .ensures)
-    (ap saidDone (t .enum-told .given .1)) refl (m .second-identity .ensures)
+    grouped buttonRates (λ second. done (gives (readOr old second))) _ _
+    (bind-done (identityAfter buttonRates) (onGiven (λ second. done (gives (readOr old second)))) _ _ (a .identity-after .ensures) (ap saidAsked (q .asked .given .1 ∙ ap AskedAnswer.Answered (f .second .given .1))) refl)
 
 returns-2 : tie.Need-returns-2
-unfolding andThen
+unfolding secondIdentity
 returns-2 c =
-    let a = c .before .before .before .before .before in
+    let f = c .before .before in
+    let q = f .before .before .before in
+    let a = q .before .before .before .before in
     let old = a .before .before .before .before .args .old in
-    bind-refused (setRates buttonRates) (λ _. secondIdentity old) _ _ (a .set-rates .ensures)
-    (c .before .set .given .0 .0) (ap saidDone (c .before .set .given .1))
+    grouped buttonRates (λ second. done (gives (readOr old second))) _ _
+    (bind-forgiven buttonRates (λ second. done (gives (readOr old second))) old (λ n. refl) _ _ (a .identity-after .ensures)
+    (f .second2 .given .0 .0) (ap saidAsked (q .asked .given .1 ∙ ap AskedAnswer.Answered (f .second2 .given .1))) (c .forgiven .ensures))
+
+returns-3 : tie.Need-returns-3
+unfolding secondIdentity
+returns-3 c =
+    let q = c .before in
+    let a = q .before .before .before .before in
+    let old = a .before .before .before .before .args .old in
+    grouped buttonRates (λ second. done (gives (readOr old second))) _ _
+    (bind-refused (identityAfter buttonRates) (λ second. done (gives (readOr old second))) _ _ (a .identity-after .ensures) (q .asked2 .given .0 .0) (ap saidAsked (q .asked2 .given .1)))
 
 pub button-identity-spec : {M : Type 1} → statement M
 button-identity-spec =
@@ -59,18 +49,13 @@ button-identity-spec =
     (tie.spec
     (λ c κs. search needs)
     (λ c. search needs)
-    mul-at
-    sub-second-identity
-    sub-second-identity
     (λ c. search needs)
-    sub-second-identity-2
-    sub-second-identity-2
     (λ c. search needs)
     (λ c κs. search needs)
-    add-t20
-    add-t24
     (λ c. search needs)
     (λ c. search needs)
     returns
     (λ c. search needs)
-    returns-2)
+    returns-2
+    (λ c. search needs)
+    returns-3)

@@ -1,59 +1,95 @@
--- `ps2_mouse::wheel_identity` meets its contract: the first identity is asked for where the rates ended.
+-- `ps2_mouse::wheel_identity` meets its contract: each identity, and each refusal, is followed by its own.
 -- Assumes nothing.
 use borrow.Author.Needs.{needs}
 use native.Mathlib.Omega.{arith}
-use mathlib.Core.Path.{refl, ap}
-use Rattle.exchange.specs.Answer.{andThen, onGiven}
+use mathlib.Core.Path.{refl, ap, _∙_}
+use Rattle.exchange.specs.Answer.{onGiven}
 use Rattle.exchange.proofs.Position.{call-used-le, call-pairs-le, call-tail-le}
-use Rattle.exchange.proofs.Calls.{bind-yields, two-used-le, two-pairs-le}
+use Rattle.exchange.proofs.Calls.{bind-yields, bind-done, two-used-le, two-pairs-le}
 use Rattle.ps2_ports.proofs.Refusals.{bind-refused}
-use Rattle.exchange.specs.Exchange.{bind}
-use Rattle.ps2_ports.specs.Refusals.{saidDone}
-use Rattle.ps2_mouse.specs.Mouse.{mouseId}
-use Rattle.ps2_mouse.specs.Identity.{setRates, wheelRates, afterFirst}
+use Rattle.ps2_mouse.specs.declared.AskedAnswer.{AskedAnswer}
+use Rattle.ps2_mouse.specs.declared.IdAnswer.{IdAnswer}
+use Rattle.ps2_mouse.specs.Identity.{identityAfter, wheelRates, afterFirst}
+use Rattle.ps2_mouse.specs.Answers.{saidAsked}
+use Rattle.ps2_mouse.proofs.Forgives.{grouped, bind-forgiven}
 use Rattle.ps2_mouse.proofs.wheel_identity.Statement.{statement}
 use Rattle.ps2_mouse.proofs.wheel_identity.Tie as tie
 
 mul-at : tie.Need-mul-at
 mul-at c =
-    let a = c .before .before .before .before in
-    omega (arith, call-pairs-le _ _ _ (a .set-rates .ensures), a .before .before .before .before .good)
+    let a = c .before .before .before .before .before .before .before .before .before .before in
+    omega (arith, call-pairs-le _ _ _ (a .identity-after .ensures), a .before .before .before .before .good)
 
-sub-first-identity : tie.Need-sub-first-identity
-sub-first-identity c = call-used-le _ _ _ (c .before .before .before .before .set-rates .ensures)
+sub-button-identity : tie.Need-sub-button-identity
+sub-button-identity c = call-used-le _ _ _ (c .before .before .before .before .before .before .before .before .before .before .identity-after .ensures)
 
-sub-first-identity-2 : tie.Need-sub-first-identity-2
-sub-first-identity-2 c = call-tail-le _ _ _ (c .before .before .before .before .before .set-rates .ensures)
+sub-button-identity-2 : tie.Need-sub-button-identity-2
+sub-button-identity-2 c = call-tail-le _ _ _ (c .before .before .before .before .before .before .before .before .before .before .before .identity-after .ensures)
 
-add-t20 : tie.Need-add-t20
-add-t20 c =
+add-t26 : tie.Need-add-t26
+add-t26 c =
     let m = c .before .before .before in
-    let a = m .before .before .before .before .before .before .before in
-    omega (arith, two-used-le _ _ _ _ (a .set-rates .ensures) refl (m .first-identity .ensures), a .before .before .before .before .good)
+    let a = m .before .before .before .before .before .before .before .before .before .before .before .before .before in
+    omega (arith, two-used-le _ _ _ _ (a .identity-after .ensures) refl (m .button-identity .ensures), a .before .before .before .before .good)
 
-add-t24 : tie.Need-add-t24
-add-t24 c =
+add-t30 : tie.Need-add-t30
+add-t30 c =
     let m = c .before .before .before .before in
-    let a = m .before .before .before .before .before .before .before in
-    omega (arith, two-pairs-le _ _ _ _ (a .set-rates .ensures) refl (m .first-identity .ensures), a .before .before .before .before .good)
+    let a = m .before .before .before .before .before .before .before .before .before .before .before .before .before in
+    omega (arith, two-pairs-le _ _ _ _ (a .identity-after .ensures) refl (m .button-identity .ensures), a .before .before .before .before .good)
 
+-- 0
 returns : tie.Need-returns
-unfolding andThen
 returns c =
+    let f = c .before .before .before in
+    let q = f .before .before .before in
+    let a = q .before .before .before .before in
+    let old = a .before .before .before .before .args .old in
+    grouped wheelRates (λ first. afterFirst old first) _ _
+    (bind-done (identityAfter wheelRates) (onGiven (λ first. afterFirst old first)) _ _ (a .identity-after .ensures)
+    (ap saidAsked (q .asked .given .1 ∙ ap AskedAnswer.Answered (f .first .given .1 ∙ ap IdAnswer.Id (c .enum-told .given .1)))) refl)
+
+-- 3
+returns-2 : tie.Need-returns-2
+returns-2 c =
     let m = c .before .before .before .before in
     let t = m .before .before .before in
-    let a = t .before .before .before .before in
+    let f = t .before .before .before in
+    let q = f .before .before .before in
+    let a = q .before .before .before .before in
     let old = a .before .before .before .before .args .old in
-    bind-yields (setRates wheelRates) (onGiven (λ _. bind mouseId (λ first. afterFirst old first))) _ _ (a .set-rates .ensures)
-    (ap saidDone (t .enum-told .given .1)) refl (m .first-identity .ensures)
+    grouped wheelRates (λ first. afterFirst old first) _ _
+    (bind-yields (identityAfter wheelRates) (onGiven (λ first. afterFirst old first)) _ _ (a .identity-after .ensures)
+    (ap saidAsked (q .asked .given .1 ∙ ap AskedAnswer.Answered (f .first .given .1 ∙ ap IdAnswer.Id (t .enum-told2 .given .1)))) refl (m .button-identity .ensures))
 
-returns-2 : tie.Need-returns-2
-unfolding andThen
-returns-2 c =
-    let a = c .before .before .before .before .before in
+-- 4
+returns-3 : tie.Need-returns-3
+returns-3 c =
+    let f = c .before .before .before in
+    let q = f .before .before .before in
+    let a = q .before .before .before .before in
     let old = a .before .before .before .before .args .old in
-    bind-refused (setRates wheelRates) (λ _. bind mouseId (λ first. afterFirst old first)) _ _ (a .set-rates .ensures)
-    (c .before .set .given .0 .0) (ap saidDone (c .before .set .given .1))
+    grouped wheelRates (λ first. afterFirst old first) _ _
+    (bind-done (identityAfter wheelRates) (onGiven (λ first. afterFirst old first)) _ _ (a .identity-after .ensures)
+    (ap saidAsked (q .asked .given .1 ∙ ap AskedAnswer.Answered (f .first .given .1 ∙ ap IdAnswer.Id (c .enum-told3 .given .1)))) refl)
+
+returns-4 : tie.Need-returns-4
+returns-4 c =
+    let f = c .before .before in
+    let q = f .before .before .before in
+    let a = q .before .before .before .before in
+    let old = a .before .before .before .before .args .old in
+    grouped wheelRates (λ first. afterFirst old first) _ _
+    (bind-forgiven wheelRates (λ first. afterFirst old first) old (λ n. refl) _ _ (a .identity-after .ensures)
+    (f .first2 .given .0 .0) (ap saidAsked (q .asked .given .1 ∙ ap AskedAnswer.Answered (f .first2 .given .1))) (c .forgiven .ensures))
+
+returns-5 : tie.Need-returns-5
+returns-5 c =
+    let q = c .before in
+    let a = q .before .before .before .before in
+    let old = a .before .before .before .before .args .old in
+    grouped wheelRates (λ first. afterFirst old first) _ _
+    (bind-refused (identityAfter wheelRates) (λ first. afterFirst old first) _ _ (a .identity-after .ensures) (q .asked2 .given .0 .0) (ap saidAsked (q .asked2 .given .1)))
 
 pub wheel-identity-spec : {M : Type 1} → statement M
 wheel-identity-spec =
@@ -61,18 +97,30 @@ wheel-identity-spec =
     (tie.spec
     (λ c κs. search needs)
     (λ c. search needs)
-    mul-at
-    sub-first-identity
-    sub-first-identity
     (λ c. search needs)
-    sub-first-identity-2
-    sub-first-identity-2
+    (λ c. search needs)
+    (λ c. search needs)
+    mul-at
+    sub-button-identity
+    sub-button-identity
+    (λ c. search needs)
+    sub-button-identity-2
+    sub-button-identity-2
     (λ c. search needs)
     (λ c κs. search needs)
-    add-t20
-    add-t24
+    add-t26
+    add-t30
+    (λ c. search needs)
+    (λ c. search needs)
+    (λ c κs. search needs)
     (λ c. search needs)
     (λ c. search needs)
     returns
     (λ c. search needs)
-    returns-2)
+    returns-2
+    (λ c. search needs)
+    returns-3
+    (λ c. search needs)
+    returns-4
+    (λ c. search needs)
+    returns-5)

@@ -1,0 +1,77 @@
+-- `ps2_mouse::identity_after` meets its contract: the identity is asked for where the rates ended.
+-- Assumes nothing.
+use borrow.Author.Needs.{needs}
+use native.Mathlib.Omega.{arith}
+use mathlib.Core.Path.{refl, ap}
+use Rattle.exchange.specs.Exchange.{done, bind}
+use Rattle.exchange.specs.Answer.{gives, andThen, onGiven}
+use Rattle.exchange.proofs.Position.{call-used-le, call-pairs-le, call-tail-le}
+use Rattle.exchange.proofs.Calls.{bind-yields, two-used-le, two-pairs-le}
+use Rattle.exchange.proofs.Told.{bind-told}
+use Rattle.ps2_ports.proofs.Refusals.{bind-refused}
+use Rattle.ps2_ports.specs.Refusals.{saidDone}
+use Rattle.ps2_mouse.specs.Mouse.{mouseId}
+use Rattle.ps2_mouse.specs.Identity.{setRates, identityAfter}
+use Rattle.ps2_mouse.proofs.identity_after.Statement.{statement}
+use Rattle.ps2_mouse.proofs.identity_after.Tie as tie
+
+mul-at : tie.Need-mul-at
+mul-at c =
+    let a = c .before .before .before .before in
+    omega (arith, call-pairs-le _ _ _ (a .set-rates .ensures), a .before .before .before .before .good)
+
+sub-mouse-id : tie.Need-sub-mouse-id
+sub-mouse-id c = call-used-le _ _ _ (c .before .before .before .before .set-rates .ensures)
+
+sub-mouse-id-2 : tie.Need-sub-mouse-id-2
+sub-mouse-id-2 c = call-tail-le _ _ _ (c .before .before .before .before .before .set-rates .ensures)
+
+add-t16 : tie.Need-add-t16
+add-t16 c =
+    let m = c .before .before .before in
+    let a = m .before .before .before .before .before .before .before in
+    omega (arith, two-used-le _ _ _ _ (a .set-rates .ensures) refl (m .mouse-id .ensures), a .before .before .before .before .good)
+
+add-t20 : tie.Need-add-t20
+add-t20 c =
+    let m = c .before .before .before .before in
+    let a = m .before .before .before .before .before .before .before in
+    omega (arith, two-pairs-le _ _ _ _ (a .set-rates .ensures) refl (m .mouse-id .ensures), a .before .before .before .before .good)
+
+returns : tie.Need-returns
+unfolding identityAfter andThen
+returns c =
+    let m = c .before .before .before .before in
+    let t = m .before .before .before in
+    let a = t .before .before .before .before in
+    bind-yields (setRates (a .before .before .before .before .args .rates)) (onGiven (λ _. bind mouseId (λ id. done (gives id)))) _ _ (a .set-rates .ensures)
+    (ap saidDone (t .enum-told .given .1)) refl (bind-told mouseId (λ id. gives id) _ _ (m .mouse-id .ensures) refl)
+
+returns-2 : tie.Need-returns-2
+unfolding identityAfter andThen
+returns-2 c =
+    let a = c .before .before .before .before .before in
+    bind-refused (setRates (a .before .before .before .before .args .rates)) (λ _. bind mouseId (λ id. done (gives id))) _ _ (a .set-rates .ensures)
+    (c .before .set .given .0 .0) (ap saidDone (c .before .set .given .1))
+
+pub identity-after-spec : {M : Type 1} → statement M
+identity-after-spec =
+    tie.close
+    (tie.spec
+    (λ c κs. search needs)
+    (λ c. search needs)
+    mul-at
+    sub-mouse-id
+    sub-mouse-id
+    (λ c. search needs)
+    sub-mouse-id-2
+    sub-mouse-id-2
+    (λ c. search needs)
+    (λ c κs. search needs)
+    add-t16
+    add-t20
+    (λ c. search needs)
+    (λ c. search needs)
+    returns
+    (λ c. search needs)
+    returns-2)
