@@ -4,9 +4,9 @@ ghost use Rattle.exchange.specs.Exchange.{play, played, yields, toldEnd, done, 
 ghost use Rattle.exchange.specs.Answer.{andThen};
 ghost use Rattle.exchange.specs.Left.{recordAfter};
 ghost use Rattle.exchange.specs.Refuses.{given, succeeds};
-ghost use Rattle.ps2_bytes.specs.declared.command.HostToControllerCommand.the-variants.{DisablePort1, DisablePort2, EnablePort2};
+ghost use Rattle.ps2_bytes.specs.declared.command.HostToControllerCommand.the-variants.{EnablePort2};
 ghost use Rattle.ps2_bytes.specs.Configuration.{port2Interrupt, port2ClockDisabled};
-ghost use Rattle.ps2_ports.specs.Ports.{writeCommand, flushOutputBuffer, readConfig, writeConfig, saidConfig};
+ghost use Rattle.ps2_ports.specs.Ports.{flushOutputBuffer, readConfig, writeConfig, saidConfig};
 ghost use Rattle.ps2_ports.specs.Refusals.{saidDone};
 ghost use Rattle.ps2_polling.specs.Polling.{testController};
 ghost use Rattle.ps2_mouse.specs.Mouse.{resetMouse};
@@ -202,51 +202,40 @@ fn set_up(script: &[u8], log: &mut [u8]) -> SetUp
 fn disable_devices(script: &[u8], log: &mut [u8]) -> ConfigRead
     ensures { λ r. ⌜ played (saidConfig (r .answer)) (r .used) (r .pairs) (now (log .exit)) ≡ play disableDevices (now (script .entry)) (now (log .entry)) ⌝ }
 {
-    let w = write_command(log, HostToControllerCommand::DisablePort1);
-    let pairs = w.pairs;
-    let written = w.answer;
-    match written {
-        Completion::Done => {
-            let at = 2 * pairs;
-            let d = disable_port2(script, &mut log[at..]);
-            let answer = d.answer;
-            ConfigRead {
-                answer,
-                used: d.used,
-                pairs: pairs + d.pairs,
-            }
+    let first = write_command(log, HostToControllerCommand::DisablePort1);
+    let one = first.pairs;
+    let port1 = first.answer;
+    match port1 {
+        Completion::Done => {}
+        Completion::Refused(e) => {
+            return ConfigRead {
+                answer: ConfigAnswer::Refused(e),
+                used: 0,
+                pairs: one,
+            };
         }
-        Completion::Refused(e) => ConfigRead {
-            answer: ConfigAnswer::Refused(e),
-            used: 0,
-            pairs,
-        },
     }
-}
-
-// Disables the second port, and reads the configuration.
-fn disable_port2(script: &[u8], log: &mut [u8]) -> ConfigRead
-    ensures { λ r. ⌜ played (saidConfig (r .answer)) (r .used) (r .pairs) (now (log .exit)) ≡ play (andThen (writeCommand DisablePort2) (λ _. andThen flushOutputBuffer (λ _. readConfig))) (now (script .entry)) (now (log .entry)) ⌝ }
-{
-    let w = write_command(log, HostToControllerCommand::DisablePort2);
-    let pairs = w.pairs;
-    let written = w.answer;
-    match written {
-        Completion::Done => {
-            let at = 2 * pairs;
-            let f = flush_and_read_config(script, &mut log[at..]);
-            let answer = f.answer;
-            ConfigRead {
-                answer,
-                used: f.used,
-                pairs: pairs + f.pairs,
-            }
+    let at = 2 * one;
+    let second = write_command(&mut log[at..], HostToControllerCommand::DisablePort2);
+    let both = one + second.pairs;
+    let port2 = second.answer;
+    match port2 {
+        Completion::Done => {}
+        Completion::Refused(e) => {
+            return ConfigRead {
+                answer: ConfigAnswer::Refused(e),
+                used: 0,
+                pairs: both,
+            };
         }
-        Completion::Refused(e) => ConfigRead {
-            answer: ConfigAnswer::Refused(e),
-            used: 0,
-            pairs,
-        },
+    }
+    let from = 2 * both;
+    let c = flush_and_read_config(script, &mut log[from..]);
+    let answer = c.answer;
+    ConfigRead {
+        answer,
+        used: c.used,
+        pairs: both + c.pairs,
     }
 }
 
