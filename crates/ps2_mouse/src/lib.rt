@@ -369,12 +369,14 @@ impl PS2Mouse {
         let used = s.used;
         let read = s.answer;
         match read {
-            StatusAnswer::Status(status) => FullRead {
-                answer: FullAnswer::Full(
-                    status.output_buffer_full() && status.mouse_output_buffer_full(),
-                ),
-                used,
-            },
+            StatusAnswer::Status(status) => {
+                let waits = status.output_buffer_full();
+                let of_mouse = status.mouse_output_buffer_full();
+                FullRead {
+                    answer: FullAnswer::Full(waits && of_mouse),
+                    used,
+                }
+            }
             StatusAnswer::Refused(e) => FullRead {
                 answer: FullAnswer::Refused(e),
                 used,

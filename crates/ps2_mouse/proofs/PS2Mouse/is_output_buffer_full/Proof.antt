@@ -20,12 +20,12 @@ returns c =
     let t = c .before .before in
     let s = t .before .before in
     reads-done readStatus (onGiven (λ status. done (gives (mouseByteWaits (status .bits))))) _ (s .before .before .status-register .ensures) (ap saidStatus (s .read .given .1))
-    (ap (λ (b : Bool). done (gives (b && bit secondPortOutputFull (s .read .given .0 .0 .bits)))) (sym (t .output-buffer-full .ensures) ∙ c .before .if1 .taken) ∙ ap (λ (b : Bool). done (gives b)) (sym (c .mouse-output-buffer-full .ensures)))
+    (ap (λ (b : Bool). done (gives (b && bit secondPortOutputFull (s .read .given .0 .0 .bits)))) (sym (t .output-buffer-full .ensures) ∙ c .if1 .taken) ∙ ap (λ (b : Bool). done (gives b)) (sym (c .before .mouse-output-buffer-full .ensures)))
 
 returns-2 : tie.Need-returns-2
 unfolding mouseOutputBufferFull andThen
 returns-2 c =
-    let t = c .before in
+    let t = c .before .before in
     let s = t .before .before in
     reads-done readStatus (onGiven (λ status. done (gives (mouseByteWaits (status .bits))))) _ (s .before .before .status-register .ensures) (ap saidStatus (s .read .given .1))
     (ap (λ (b : Bool). done (gives (b && bit secondPortOutputFull (s .read .given .0 .0 .bits)))) (sym (t .output-buffer-full .ensures) ∙ c .if1 .left) ∙ ap (λ (b : Bool). done (gives b)) (sym (c .if1 .left)))
