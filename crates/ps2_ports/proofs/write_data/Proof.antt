@@ -9,10 +9,4 @@ returns : tie.Need-returns
 returns c = rw (c .before .before .before .to-byte .ensures) at (c .before .before .write-port .ensures p60 refl)
 
 pub write-data-spec : {M : Type 1} → statement M
-write-data-spec =
-    tie.close
-    (tie.spec
-    (λ c κs. search needs)
-    (λ c κs. search needs)
-    (λ c. search needs)
-    returns)
+write-data-spec = tie.close (tie.spec (λ c κs. search needs) (λ c κs. search needs) (λ c. search needs) returns)
