@@ -47,16 +47,5 @@ pub command-to-port2-spec : {M : Type 1} → statement M
 command-to-port2-spec =
     tie.close
     (tie.spec
-    (λ c κs. search needs)
-    (λ c. search needs)
-    mul-at
-    sub-command
-    sub-command
-    (λ c. search needs)
-    (λ c κs. search needs)
-    add-t16
-    (λ c. search needs)
-    (λ c. search needs)
-    returns
-    (λ c. search needs)
-    returns-2)
+    (λ c κs. search needs) (λ c. search needs) mul-at sub-command sub-command (λ c. search needs) (λ c κs. search needs) add-t16 (λ c. search needs)
+    (λ c. search needs) returns (λ c. search needs) returns-2)

@@ -10,12 +10,4 @@ returns-3 : tie.Need-returns-3
 returns-3 c = sym (ap (λ e. replacedBy (c .before .before .args .failure) e) (c .enum-told3 .given .1))
 
 pub refusing-as-spec : {M : Type 1} → statement M
-refusing-as-spec =
-    tie.close
-    (tie.spec
-    (λ c. search needs)
-    (λ c. search needs)
-    (λ c. search needs)
-    (λ c. search needs)
-    (λ c. search needs)
-    returns-3)
+refusing-as-spec = tie.close (tie.spec (λ c. search needs) (λ c. search needs) (λ c. search needs) (λ c. search needs) (λ c. search needs) returns-3)

@@ -98,26 +98,6 @@ pub disable-devices-spec : {M : Type 1} → statement M
 disable-devices-spec =
     tie.close
     (tie.spec
-    (λ c κs. search needs)
-    (λ c. search needs)
-    (λ c. search needs)
-    (λ c. search needs)
-    returns
-    mul-at
-    sub-write-command
-    sub-write-command
-    (λ c. search needs)
-    (λ c κs. search needs)
-    add-both
-    (λ c. search needs)
-    (λ c. search needs)
-    (λ c. search needs)
-    returns-2
-    mul-from
-    sub-flush-and-read-config
-    sub-flush-and-read-config
-    (λ c. search needs)
-    (λ c κs. search needs)
-    add-t20
-    (λ c. search needs)
-    returns-3)
+    (λ c κs. search needs) (λ c. search needs) (λ c. search needs) (λ c. search needs) returns mul-at sub-write-command sub-write-command
+    (λ c. search needs) (λ c κs. search needs) add-both (λ c. search needs) (λ c. search needs) (λ c. search needs) returns-2 mul-from
+    sub-flush-and-read-config sub-flush-and-read-config (λ c. search needs) (λ c κs. search needs) add-t20 (λ c. search needs) returns-3)

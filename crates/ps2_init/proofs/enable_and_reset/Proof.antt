@@ -45,16 +45,5 @@ pub enable-and-reset-spec : {M : Type 1} → statement M
 enable-and-reset-spec =
     tie.close
     (tie.spec
-    (λ c κs. search needs)
-    (λ c. search needs)
-    mul-at
-    sub-reset-devices
-    sub-reset-devices
-    (λ c. search needs)
-    (λ c κs. search needs)
-    add-t16
-    (λ c. search needs)
-    (λ c. search needs)
-    returns
-    (λ c. search needs)
-    returns-2)
+    (λ c κs. search needs) (λ c. search needs) mul-at sub-reset-devices sub-reset-devices (λ c. search needs) (λ c κs. search needs) add-t16
+    (λ c. search needs) (λ c. search needs) returns (λ c. search needs) returns-2)

@@ -44,16 +44,5 @@ pub enable-ports-spec : {M : Type 1} → statement M
 enable-ports-spec =
     tie.close
     (tie.spec
-    (λ c κs. search needs)
-    (λ c. search needs)
-    mul-at
-    sub-enable-port2
-    sub-enable-port2
-    (λ c. search needs)
-    (λ c κs. search needs)
-    add-t17
-    (λ c. search needs)
-    (λ c. search needs)
-    returns
-    (λ c. search needs)
-    returns-2)
+    (λ c κs. search needs) (λ c. search needs) mul-at sub-enable-port2 sub-enable-port2 (λ c. search needs) (λ c κs. search needs) add-t17
+    (λ c. search needs) (λ c. search needs) returns (λ c. search needs) returns-2)

@@ -35,14 +35,5 @@ pub flush-and-read-config-spec : {M : Type 1} → statement M
 flush-and-read-config-spec =
     tie.close
     (tie.spec
-    (λ c κs. search needs)
-    (λ c. search needs)
-    sub-read-config
-    sub-read-config
-    (λ c. search needs)
-    (λ c κs. search needs)
-    add-t11
-    (λ c. search needs)
-    (λ c. search needs)
-    returns
-    returns-2)
+    (λ c κs. search needs) (λ c. search needs) sub-read-config sub-read-config (λ c. search needs) (λ c κs. search needs) add-t11 (λ c. search needs)
+    (λ c. search needs) returns returns-2)

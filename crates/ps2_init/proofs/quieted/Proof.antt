@@ -15,10 +15,4 @@ returns c =
     ap config (c .set-port1-scancode-translation-enabled .ensures ∙ ap (putBit port1Translation false) (b .set-port2-interrupt-enabled .ensures ∙ ap (putBit port2Interrupt false) (b .before .set-port1-interrupt-enabled .ensures)))
 
 pub quieted-spec : {M : Type 1} → statement M
-quieted-spec =
-    tie.close
-    (tie.spec
-    (λ c. search needs)
-    (λ c. search needs)
-    (λ c. search needs)
-    returns)
+quieted-spec = tie.close (tie.spec (λ c. search needs) (λ c. search needs) (λ c. search needs) returns)

@@ -60,22 +60,6 @@ pub reset-devices-spec : {M : Type 1} → statement M
 reset-devices-spec =
     tie.close
     (tie.spec
-    (λ c κs. search needs)
-    (λ c κs. search needs)
-    (λ c. search needs)
-    mul-at
-    sub-reset-mouse
-    sub-reset-mouse
-    (λ c. search needs)
-    sub-reset-mouse-2
-    sub-reset-mouse-2
-    (λ c. search needs)
-    (λ c κs. search needs)
-    add-t17
-    add-t21
-    (λ c. search needs)
-    (λ c κs. search needs)
-    (λ c. search needs)
-    returns
-    (λ c. search needs)
-    returns-2)
+    (λ c κs. search needs) (λ c κs. search needs) (λ c. search needs) mul-at sub-reset-mouse sub-reset-mouse (λ c. search needs) sub-reset-mouse-2
+    sub-reset-mouse-2 (λ c. search needs) (λ c κs. search needs) add-t17 add-t21 (λ c. search needs) (λ c κs. search needs) (λ c. search needs)
+    returns (λ c. search needs) returns-2)

@@ -57,22 +57,6 @@ pub reset-mouse-spec : {M : Type 1} → statement M
 reset-mouse-spec =
     tie.close
     (tie.spec
-    (λ c κs. search needs)
-    (λ c κs. search needs)
-    (λ c. search needs)
-    mul-at
-    sub-read-last
-    sub-read-last
-    (λ c. search needs)
-    sub-read-last-2
-    sub-read-last-2
-    (λ c. search needs)
-    (λ c κs. search needs)
-    add-t18
-    add-t22
-    (λ c. search needs)
-    (λ c κs. search needs)
-    (λ c. search needs)
-    returns
-    (λ c. search needs)
-    returns-2)
+    (λ c κs. search needs) (λ c κs. search needs) (λ c. search needs) mul-at sub-read-last sub-read-last (λ c. search needs) sub-read-last-2
+    sub-read-last-2 (λ c. search needs) (λ c κs. search needs) add-t18 add-t22 (λ c. search needs) (λ c κs. search needs) (λ c. search needs) returns
+    (λ c. search needs) returns-2)

@@ -55,22 +55,6 @@ pub set-up-spec : {M : Type 1} → statement M
 set-up-spec =
     tie.close
     (tie.spec
-    (λ c κs. search needs)
-    (λ c. search needs)
-    mul-at
-    sub-test-and-set-up
-    sub-test-and-set-up
-    (λ c. search needs)
-    sub-test-and-set-up-2
-    sub-test-and-set-up-2
-    (λ c. search needs)
-    (λ c κs. search needs)
-    (λ c κs. search needs)
-    (λ c κs. search needs)
-    add-t16
-    add-t20
-    (λ c. search needs)
-    (λ c. search needs)
-    returns
-    (λ c. search needs)
-    returns-2)
+    (λ c κs. search needs) (λ c. search needs) mul-at sub-test-and-set-up sub-test-and-set-up (λ c. search needs) sub-test-and-set-up-2
+    sub-test-and-set-up-2 (λ c. search needs) (λ c κs. search needs) (λ c κs. search needs) (λ c κs. search needs) add-t16 add-t20 (λ c. search needs)
+    (λ c. search needs) returns (λ c. search needs) returns-2)

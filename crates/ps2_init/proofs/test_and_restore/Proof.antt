@@ -44,16 +44,5 @@ pub test-and-restore-spec : {M : Type 1} → statement M
 test-and-restore-spec =
     tie.close
     (tie.spec
-    (λ c κs. search needs)
-    (λ c. search needs)
-    mul-at
-    sub-write-config
-    sub-write-config
-    (λ c. search needs)
-    (λ c κs. search needs)
-    add-t16
-    (λ c. search needs)
-    (λ c. search needs)
-    returns
-    (λ c. search needs)
-    returns-2)
+    (λ c κs. search needs) (λ c. search needs) mul-at sub-write-config sub-write-config (λ c. search needs) (λ c κs. search needs) add-t16
+    (λ c. search needs) (λ c. search needs) returns (λ c. search needs) returns-2)

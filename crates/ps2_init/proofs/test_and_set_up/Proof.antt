@@ -55,20 +55,6 @@ pub test-and-set-up-spec : {M : Type 1} → statement M
 test-and-set-up-spec =
     tie.close
     (tie.spec
-    (λ c κs. search needs)
-    (λ c. search needs)
-    mul-at
-    sub-test-ports-and-set-up
-    sub-test-ports-and-set-up
-    (λ c. search needs)
-    sub-test-ports-and-set-up-2
-    sub-test-ports-and-set-up-2
-    (λ c. search needs)
-    (λ c κs. search needs)
-    add-t17
-    add-t21
-    (λ c. search needs)
-    (λ c. search needs)
-    returns
-    (λ c. search needs)
-    returns-2)
+    (λ c κs. search needs) (λ c. search needs) mul-at sub-test-ports-and-set-up sub-test-ports-and-set-up (λ c. search needs)
+    sub-test-ports-and-set-up-2 sub-test-ports-and-set-up-2 (λ c. search needs) (λ c κs. search needs) add-t17 add-t21 (λ c. search needs)
+    (λ c. search needs) returns (λ c. search needs) returns-2)

@@ -61,22 +61,6 @@ pub test-ports-spec : {M : Type 1} → statement M
 test-ports-spec =
     tie.close
     (tie.spec
-    (λ c κs. search needs)
-    (λ c κs. search needs)
-    (λ c. search needs)
-    mul-at
-    sub-test-second
-    sub-test-second
-    (λ c. search needs)
-    sub-test-second-2
-    sub-test-second-2
-    (λ c. search needs)
-    (λ c κs. search needs)
-    add-t18
-    add-t22
-    (λ c. search needs)
-    (λ c κs. search needs)
-    (λ c. search needs)
-    returns
-    (λ c. search needs)
-    returns-2)
+    (λ c κs. search needs) (λ c κs. search needs) (λ c. search needs) mul-at sub-test-second sub-test-second (λ c. search needs) sub-test-second-2
+    sub-test-second-2 (λ c. search needs) (λ c κs. search needs) add-t18 add-t22 (λ c. search needs) (λ c κs. search needs) (λ c. search needs)
+    returns (λ c. search needs) returns-2)

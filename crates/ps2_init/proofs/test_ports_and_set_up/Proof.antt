@@ -55,20 +55,6 @@ pub test-ports-and-set-up-spec : {M : Type 1} → statement M
 test-ports-and-set-up-spec =
     tie.close
     (tie.spec
-    (λ c κs. search needs)
-    (λ c. search needs)
-    mul-at
-    sub-enable-and-reset
-    sub-enable-and-reset
-    (λ c. search needs)
-    sub-enable-and-reset-2
-    sub-enable-and-reset-2
-    (λ c. search needs)
-    (λ c κs. search needs)
-    add-t18
-    add-t22
-    (λ c. search needs)
-    (λ c. search needs)
-    returns
-    (λ c. search needs)
-    returns-2)
+    (λ c κs. search needs) (λ c. search needs) mul-at sub-enable-and-reset sub-enable-and-reset (λ c. search needs) sub-enable-and-reset-2
+    sub-enable-and-reset-2 (λ c. search needs) (λ c κs. search needs) add-t18 add-t22 (λ c. search needs) (λ c. search needs) returns
+    (λ c. search needs) returns-2)

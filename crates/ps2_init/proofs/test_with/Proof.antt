@@ -45,16 +45,5 @@ pub test-with-spec : {M : Type 1} → statement M
 test-with-spec =
     tie.close
     (tie.spec
-    (λ c κs. search needs)
-    (λ c. search needs)
-    mul-at
-    sub-test-and-restore
-    sub-test-and-restore
-    (λ c. search needs)
-    (λ c κs. search needs)
-    add-t15
-    (λ c. search needs)
-    (λ c. search needs)
-    returns
-    (λ c. search needs)
-    returns-2)
+    (λ c κs. search needs) (λ c. search needs) mul-at sub-test-and-restore sub-test-and-restore (λ c. search needs) (λ c κs. search needs) add-t15
+    (λ c. search needs) (λ c. search needs) returns (λ c. search needs) returns-2)

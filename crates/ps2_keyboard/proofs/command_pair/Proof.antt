@@ -47,20 +47,6 @@ pub command-pair-spec : {M : Type 1} → statement M
 command-pair-spec =
     tie.close
     (tie.spec
-    (λ c κs. search needs)
-    (λ c. search needs)
-    mul-at
-    sub-command-to-keyboard
-    sub-command-to-keyboard
-    (λ c. search needs)
-    sub-command-to-keyboard-2
-    sub-command-to-keyboard-2
-    (λ c. search needs)
-    (λ c κs. search needs)
-    add-t17
-    add-t21
-    (λ c. search needs)
-    (λ c. search needs)
-    returns
-    (λ c. search needs)
-    returns-2)
+    (λ c κs. search needs) (λ c. search needs) mul-at sub-command-to-keyboard sub-command-to-keyboard (λ c. search needs) sub-command-to-keyboard-2
+    sub-command-to-keyboard-2 (λ c. search needs) (λ c κs. search needs) add-t17 add-t21 (λ c. search needs) (λ c. search needs) returns
+    (λ c. search needs) returns-2)

@@ -36,15 +36,5 @@ pub get-keyboard-scancode-set-spec : {M : Type 1} → statement M
 get-keyboard-scancode-set-spec =
     tie.close
     (tie.spec
-    (λ c κs. search needs)
-    (λ c. search needs)
-    sub-poll-scancode-set
-    sub-poll-scancode-set
-    (λ c. search needs)
-    (λ c κs. search needs)
-    add-t18
-    (λ c. search needs)
-    (λ c. search needs)
-    returns
-    (λ c. search needs)
-    returns-2)
+    (λ c κs. search needs) (λ c. search needs) sub-poll-scancode-set sub-poll-scancode-set (λ c. search needs) (λ c κs. search needs) add-t18
+    (λ c. search needs) (λ c. search needs) returns (λ c. search needs) returns-2)

@@ -52,18 +52,5 @@ pub identify-spec : {M : Type 1} → statement M
 identify-spec =
     tie.close
     (tie.spec
-    (λ c κs. search needs)
-    (λ c. search needs)
-    (λ c. search needs)
-    (λ c. search needs)
-    returns
-    (λ c. search needs)
-    returns-2
-    (λ c. search needs)
-    sub-enable-scanning
-    sub-enable-scanning
-    (λ c. search needs)
-    (λ c κs. search needs)
-    add-t14
-    (λ c. search needs)
-    returns-3)
+    (λ c κs. search needs) (λ c. search needs) (λ c. search needs) (λ c. search needs) returns (λ c. search needs) returns-2 (λ c. search needs)
+    sub-enable-scanning sub-enable-scanning (λ c. search needs) (λ c κs. search needs) add-t14 (λ c. search needs) returns-3)

@@ -59,20 +59,5 @@ pub keyboard-detect-spec : {M : Type 1} → statement M
 keyboard-detect-spec =
     tie.close
     (tie.spec
-    (λ c κs. search needs)
-    (λ c. search needs)
-    mul-at
-    sub-script
-    sub-script
-    (λ c. search needs)
-    sub-log
-    sub-log
-    (λ c. search needs)
-    (λ c κs. search needs)
-    add-t19
-    add-t23
-    (λ c. search needs)
-    (λ c. search needs)
-    returns
-    (λ c. search needs)
-    returns-2)
+    (λ c κs. search needs) (λ c. search needs) mul-at sub-script sub-script (λ c. search needs) sub-log sub-log (λ c. search needs)
+    (λ c κs. search needs) add-t19 add-t23 (λ c. search needs) (λ c. search needs) returns (λ c. search needs) returns-2)

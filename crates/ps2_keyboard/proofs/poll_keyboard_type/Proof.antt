@@ -129,40 +129,8 @@ pub poll-keyboard-type-spec : {M : Type 1} → statement M
 poll-keyboard-type-spec =
     tie.close
     (tie.spec
-    Inv-loop
-    μ-loop
-    Inv-outer
-    μ-outer
-    outer-holds
-    sub-poll-data
-    sub-poll-data
-    (λ c. search needs)
-    (λ c κs. search needs)
-    add-used
-    (λ c. search needs)
-    loop-holds
-    sub-poll-data-2
-    sub-poll-data-2
-    (λ c. search needs)
-    (λ c κs. search needs)
-    add-used-2
-    (λ c. search needs)
-    (λ c κs. search needs)
-    (λ c. search needs)
-    (λ c. search needs)
-    (λ c. search needs)
-    (λ c. search needs)
-    (λ c. search needs)
-    (λ c. search needs)
-    loop-again
-    (λ c. search needs)
-    (λ c. search needs)
-    (λ c. search needs)
-    (λ c. search needs)
-    outer-again
-    returns
-    returns-2
-    returns-3
-    returns-4
-    returns-5
+    Inv-loop μ-loop Inv-outer μ-outer outer-holds sub-poll-data sub-poll-data (λ c. search needs) (λ c κs. search needs) add-used (λ c. search needs)
+    loop-holds sub-poll-data-2 sub-poll-data-2 (λ c. search needs) (λ c κs. search needs) add-used-2 (λ c. search needs) (λ c κs. search needs)
+    (λ c. search needs) (λ c. search needs) (λ c. search needs) (λ c. search needs) (λ c. search needs) (λ c. search needs) loop-again
+    (λ c. search needs) (λ c. search needs) (λ c. search needs) (λ c. search needs) outer-again returns returns-2 returns-3 returns-4 returns-5
     returns-6)

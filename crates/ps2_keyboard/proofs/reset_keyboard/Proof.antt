@@ -37,15 +37,5 @@ pub reset-keyboard-spec : {M : Type 1} → statement M
 reset-keyboard-spec =
     tie.close
     (tie.spec
-    (λ c κs. search needs)
-    (λ c. search needs)
-    sub-read-self-test-result
-    sub-read-self-test-result
-    (λ c. search needs)
-    (λ c κs. search needs)
-    add-t16
-    (λ c. search needs)
-    (λ c. search needs)
-    returns
-    (λ c. search needs)
-    returns-2)
+    (λ c κs. search needs) (λ c. search needs) sub-read-self-test-result sub-read-self-test-result (λ c. search needs) (λ c κs. search needs) add-t16
+    (λ c. search needs) (λ c. search needs) returns (λ c. search needs) returns-2)

@@ -12,8 +12,4 @@ unlisted c = sym (decode-missing _ _ (Unit {0}) secondBytes _ (c .match .rest))
 
 pub second-byte-spec : {M : Type 1} → statement M
 unfolding decode
-second-byte-spec =
-    tie.close
-    (tie.spec
-    (λ c. rw (c .match .keys1)) (λ c. rw (c .match .keys2)) (λ c. rw (c .match .keys3))
-    unlisted)
+second-byte-spec = tie.close (tie.spec (λ c. rw (c .match .keys1)) (λ c. rw (c .match .keys2)) (λ c. rw (c .match .keys3)) unlisted)

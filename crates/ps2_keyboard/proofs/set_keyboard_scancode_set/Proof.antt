@@ -65,24 +65,6 @@ pub set-keyboard-scancode-set-spec : {M : Type 1} → statement M
 set-keyboard-scancode-set-spec =
     tie.close
     (tie.spec
-    (λ c κs. search needs)
-    (λ c. search needs)
-    mul-at
-    sub-script
-    sub-script
-    (λ c. search needs)
-    sub-log
-    sub-log
-    (λ c. search needs)
-    (λ c κs. search needs)
-    add-both
-    add-all
-    (λ c. search needs)
-    (λ c. search needs)
-    (λ c. search needs)
-    (λ c. search needs)
-    returns
-    (λ c. search needs)
-    returns-2
-    (λ c. search needs)
-    returns-3)
+    (λ c κs. search needs) (λ c. search needs) mul-at sub-script sub-script (λ c. search needs) sub-log sub-log (λ c. search needs)
+    (λ c κs. search needs) add-both add-all (λ c. search needs) (λ c. search needs) (λ c. search needs) (λ c. search needs) returns
+    (λ c. search needs) returns-2 (λ c. search needs) returns-3)

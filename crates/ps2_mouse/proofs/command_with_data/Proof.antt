@@ -57,20 +57,6 @@ pub command-with-data-spec : {M : Type 1} → statement M
 command-with-data-spec =
     tie.close
     (tie.spec
-    (λ c κs. search needs)
-    (λ c. search needs)
-    mul-at
-    sub-command-to-mouse
-    sub-command-to-mouse
-    (λ c. search needs)
-    sub-command-to-mouse-2
-    sub-command-to-mouse-2
-    (λ c. search needs)
-    (λ c κs. search needs)
-    add-t18
-    add-t22
-    (λ c. search needs)
-    (λ c. search needs)
-    returns
-    (λ c. search needs)
-    returns-2)
+    (λ c κs. search needs) (λ c. search needs) mul-at sub-command-to-mouse sub-command-to-mouse (λ c. search needs) sub-command-to-mouse-2
+    sub-command-to-mouse-2 (λ c. search needs) (λ c κs. search needs) add-t18 add-t22 (λ c. search needs) (λ c. search needs) returns
+    (λ c. search needs) returns-2)

@@ -16,11 +16,4 @@ returns-2 c t s l left r =
     rw (c .refusing-as .ensures) (refusing-refused (a .before .before .args .failure) t s l r (a .accepted .given .0 .0) (ap saidCommand (a .accepted .given .1)))
 
 pub failing-as-spec : {M : Type 1} → statement M
-failing-as-spec =
-    tie.close
-    (tie.spec
-    (λ c. search needs)
-    (λ c. search needs)
-    (λ c. search needs)
-    returns
-    returns-2)
+failing-as-spec = tie.close (tie.spec (λ c. search needs) (λ c. search needs) (λ c. search needs) returns returns-2)

@@ -16,12 +16,4 @@ returns-3 : tie.Need-returns-3
 returns-3 c = sym (ap (forgivenAs _) (c .enum-told3 .given .1))
 
 pub forgiven-spec : {M : Type 1} → statement M
-forgiven-spec =
-    tie.close
-    (tie.spec
-    (λ c. search needs)
-    (λ c. search needs)
-    (λ c. search needs)
-    returns
-    returns-2
-    returns-3)
+forgiven-spec = tie.close (tie.spec (λ c. search needs) (λ c. search needs) (λ c. search needs) returns returns-2 returns-3)

@@ -58,20 +58,5 @@ pub identity-after-spec : {M : Type 1} → statement M
 identity-after-spec =
     tie.close
     (tie.spec
-    (λ c κs. search needs)
-    (λ c. search needs)
-    mul-at
-    sub-mouse-id
-    sub-mouse-id
-    (λ c. search needs)
-    sub-mouse-id-2
-    sub-mouse-id-2
-    (λ c. search needs)
-    (λ c κs. search needs)
-    add-t16
-    add-t20
-    (λ c. search needs)
-    (λ c. search needs)
-    returns
-    (λ c. search needs)
-    returns-2)
+    (λ c κs. search needs) (λ c. search needs) mul-at sub-mouse-id sub-mouse-id (λ c. search needs) sub-mouse-id-2 sub-mouse-id-2 (λ c. search needs)
+    (λ c κs. search needs) add-t16 add-t20 (λ c. search needs) (λ c. search needs) returns (λ c. search needs) returns-2)

@@ -14,11 +14,4 @@ returns-2 : tie.Need-returns-2
 returns-2 c = sym (ap yields (identity-turn _ (c .before .before .from-byte .ensures) (c .enum-told .given .1)))
 
 pub listed-id-spec : {M : Type 1} → statement M
-listed-id-spec =
-    tie.close
-    (tie.spec
-    (λ c κs. search needs)
-    (λ c. search needs)
-    (λ c. search needs)
-    returns
-    returns-2)
+listed-id-spec = tie.close (tie.spec (λ c κs. search needs) (λ c. search needs) (λ c. search needs) returns returns-2)

@@ -59,20 +59,6 @@ pub new-identity-spec : {M : Type 1} → statement M
 new-identity-spec =
     tie.close
     (tie.spec
-    (λ c κs. search needs)
-    (λ c. search needs)
-    mul-at
-    sub-wheel-identity
-    sub-wheel-identity
-    (λ c. search needs)
-    sub-wheel-identity-2
-    sub-wheel-identity-2
-    (λ c. search needs)
-    (λ c κs. search needs)
-    add-t16
-    add-t20
-    (λ c. search needs)
-    (λ c. search needs)
-    returns
-    (λ c. search needs)
-    returns-2)
+    (λ c κs. search needs) (λ c. search needs) mul-at sub-wheel-identity sub-wheel-identity (λ c. search needs) sub-wheel-identity-2
+    sub-wheel-identity-2 (λ c. search needs) (λ c κs. search needs) add-t16 add-t20 (λ c. search needs) (λ c. search needs) returns
+    (λ c. search needs) returns-2)

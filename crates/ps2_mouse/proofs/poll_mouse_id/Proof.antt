@@ -59,18 +59,5 @@ pub poll-mouse-id-spec : {M : Type 1} → statement M
 poll-mouse-id-spec =
     tie.close
     (tie.spec
-    (λ c κs. search needs)
-    (λ c. search needs)
-    sub-read-data
-    sub-read-data
-    (λ c. search needs)
-    (λ c κs. search needs)
-    add-both
-    (λ c. search needs)
-    (λ c κs. search needs)
-    (λ c. search needs)
-    (λ c. search needs)
-    returns
-    returns-2
-    returns-3
-    returns-4)
+    (λ c κs. search needs) (λ c. search needs) sub-read-data sub-read-data (λ c. search needs) (λ c κs. search needs) add-both (λ c. search needs)
+    (λ c κs. search needs) (λ c. search needs) (λ c. search needs) returns returns-2 returns-3 returns-4)

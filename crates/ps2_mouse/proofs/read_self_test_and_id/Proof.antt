@@ -39,13 +39,5 @@ pub read-self-test-and-id-spec : {M : Type 1} → statement M
 read-self-test-and-id-spec =
     tie.close
     (tie.spec
-    (λ c κs. search needs)
-    (λ c. search needs)
-    sub-flush-output-buffer
-    sub-flush-output-buffer
-    (λ c. search needs)
-    (λ c κs. search needs)
-    add-t10
-    (λ c. search needs)
-    returns
-    returns-2)
+    (λ c κs. search needs) (λ c. search needs) sub-flush-output-buffer sub-flush-output-buffer (λ c. search needs) (λ c κs. search needs) add-t10
+    (λ c. search needs) returns returns-2)

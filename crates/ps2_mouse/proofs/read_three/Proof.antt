@@ -81,24 +81,6 @@ pub read-three-spec : {M : Type 1} → statement M
 read-three-spec =
     tie.close
     (tie.spec
-    (λ c κs. search needs)
-    (λ c. search needs)
-    sub-read-data
-    sub-read-data
-    (λ c. search needs)
-    (λ c κs. search needs)
-    add-two
-    (λ c. search needs)
-    sub-read-data-2
-    sub-read-data-2
-    (λ c. search needs)
-    (λ c κs. search needs)
-    add-three
-    (λ c. search needs)
-    (λ c. search needs)
-    (λ c. search needs)
-    (λ c. search needs)
-    returns
-    returns-2
-    returns-3
-    returns-4)
+    (λ c κs. search needs) (λ c. search needs) sub-read-data sub-read-data (λ c. search needs) (λ c κs. search needs) add-two (λ c. search needs)
+    sub-read-data-2 sub-read-data-2 (λ c. search needs) (λ c κs. search needs) add-three (λ c. search needs) (λ c. search needs) (λ c. search needs)
+    (λ c. search needs) returns returns-2 returns-3 returns-4)

@@ -55,18 +55,5 @@ pub receive-mouse-id-spec : {M : Type 1} → statement M
 receive-mouse-id-spec =
     tie.close
     (tie.spec
-    Inv-loop
-    μ-loop
-    loop-holds
-    sub-poll-mouse-id
-    sub-poll-mouse-id
-    (λ c. search needs)
-    (λ c κs. search needs)
-    add-used
-    (λ c. search needs)
-    (λ c. search needs)
-    (λ c. search needs)
-    (λ c. search needs)
-    loop-again
-    returns
-    returns-2)
+    Inv-loop μ-loop loop-holds sub-poll-mouse-id sub-poll-mouse-id (λ c. search needs) (λ c κs. search needs) add-used (λ c. search needs)
+    (λ c. search needs) (λ c. search needs) (λ c. search needs) loop-again returns returns-2)

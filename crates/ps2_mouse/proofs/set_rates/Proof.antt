@@ -87,26 +87,7 @@ pub set-rates-spec : {M : Type 1} → statement M
 set-rates-spec =
     tie.close
     (tie.spec
-    Inv-loop
-    μ-loop
-    loop-holds
-    mul-at
-    sub-set-mouse-sampling-rate
-    sub-set-mouse-sampling-rate
-    (λ c. search needs)
-    sub-set-mouse-sampling-rate-2
-    sub-set-mouse-sampling-rate-2
-    (λ c. search needs)
-    array-copy-out-set-mouse-sampling-rate
-    (λ c κs. search needs)
-    add-used
-    add-pairs
-    (λ c. search needs)
-    (λ c. search needs)
-    (λ c. search needs)
-    (λ c. search needs)
-    loop-again
-    (λ c. search needs)
-    returns
-    (λ c. search needs)
+    Inv-loop μ-loop loop-holds mul-at sub-set-mouse-sampling-rate sub-set-mouse-sampling-rate (λ c. search needs) sub-set-mouse-sampling-rate-2
+    sub-set-mouse-sampling-rate-2 (λ c. search needs) array-copy-out-set-mouse-sampling-rate (λ c κs. search needs) add-used add-pairs
+    (λ c. search needs) (λ c. search needs) (λ c. search needs) (λ c. search needs) loop-again (λ c. search needs) returns (λ c. search needs)
     returns-2)

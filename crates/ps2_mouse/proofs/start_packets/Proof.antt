@@ -50,17 +50,5 @@ pub start-packets-spec : {M : Type 1} → statement M
 start-packets-spec =
     tie.close
     (tie.spec
-    (λ c κs. search needs)
-    (λ c. search needs)
-    (λ c. search needs)
-    (λ c. search needs)
-    (λ c. search needs)
-    (λ c. search needs)
-    (λ c. search needs)
-    returns
-    (λ c. search needs)
-    returns-2
-    (λ c. search needs)
-    returns-3
-    (λ c. search needs)
-    returns-4)
+    (λ c κs. search needs) (λ c. search needs) (λ c. search needs) (λ c. search needs) (λ c. search needs) (λ c. search needs) (λ c. search needs)
+    returns (λ c. search needs) returns-2 (λ c. search needs) returns-3 (λ c. search needs) returns-4)

@@ -95,32 +95,7 @@ pub wheel-identity-spec : {M : Type 1} → statement M
 wheel-identity-spec =
     tie.close
     (tie.spec
-    (λ c κs. search needs)
-    (λ c. search needs)
-    (λ c. search needs)
-    (λ c. search needs)
-    (λ c. search needs)
-    mul-at
-    sub-button-identity
-    sub-button-identity
-    (λ c. search needs)
-    sub-button-identity-2
-    sub-button-identity-2
-    (λ c. search needs)
-    (λ c κs. search needs)
-    add-t26
-    add-t30
-    (λ c. search needs)
-    (λ c. search needs)
-    (λ c κs. search needs)
-    (λ c. search needs)
-    (λ c. search needs)
-    returns
-    (λ c. search needs)
-    returns-2
-    (λ c. search needs)
-    returns-3
-    (λ c. search needs)
-    returns-4
-    (λ c. search needs)
-    returns-5)
+    (λ c κs. search needs) (λ c. search needs) (λ c. search needs) (λ c. search needs) (λ c. search needs) mul-at sub-button-identity
+    sub-button-identity (λ c. search needs) sub-button-identity-2 sub-button-identity-2 (λ c. search needs) (λ c κs. search needs) add-t26 add-t30
+    (λ c. search needs) (λ c. search needs) (λ c κs. search needs) (λ c. search needs) (λ c. search needs) returns (λ c. search needs) returns-2
+    (λ c. search needs) returns-3 (λ c. search needs) returns-4 (λ c. search needs) returns-5)

@@ -75,18 +75,5 @@ pub poll-data-spec : {M : Type 1} → statement M
 poll-data-spec =
     tie.close
     (tie.spec
-    (λ c κs. search needs)
-    (λ c. search needs)
-    (λ c κs. search needs)
-    sub-read-data
-    sub-read-data
-    (λ c. search needs)
-    (λ c κs. search needs)
-    add-both
-    (λ c. search needs)
-    (λ c. search needs)
-    (λ c. search needs)
-    returns
-    returns-2
-    returns-3
-    returns-4)
+    (λ c κs. search needs) (λ c. search needs) (λ c κs. search needs) sub-read-data sub-read-data (λ c. search needs) (λ c κs. search needs) add-both
+    (λ c. search needs) (λ c. search needs) (λ c. search needs) returns returns-2 returns-3 returns-4)

@@ -102,24 +102,6 @@ pub polling-send-spec : {M : Type 1} → statement M
 polling-send-spec =
     tie.close
     (tie.spec
-    Inv-loop
-    μ-loop
-    loop-holds
-    sub-status-register
-    sub-status-register
-    (λ c. search needs)
-    (λ c κs. search needs)
-    add-used
-    (λ c. search needs)
-    (λ c κs. search needs)
-    (λ c κs. search needs)
-    (λ c. search needs)
-    (λ c. search needs)
-    (λ c. search needs)
-    loop-again
-    (λ c. search needs)
-    returns
-    (λ c. search needs)
-    returns-2
-    (λ c. search needs)
-    returns-3)
+    Inv-loop μ-loop loop-holds sub-status-register sub-status-register (λ c. search needs) (λ c κs. search needs) add-used (λ c. search needs)
+    (λ c κs. search needs) (λ c κs. search needs) (λ c. search needs) (λ c. search needs) (λ c. search needs) loop-again (λ c. search needs) returns
+    (λ c. search needs) returns-2 (λ c. search needs) returns-3)

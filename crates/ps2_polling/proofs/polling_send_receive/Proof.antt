@@ -37,15 +37,5 @@ pub polling-send-receive-spec : {M : Type 1} → statement M
 polling-send-receive-spec =
     tie.close
     (tie.spec
-    (λ c κs. search needs)
-    (λ c. search needs)
-    sub-polling-receive
-    sub-polling-receive
-    (λ c. search needs)
-    (λ c κs. search needs)
-    add-t15
-    (λ c. search needs)
-    (λ c. search needs)
-    returns
-    (λ c. search needs)
-    returns-2)
+    (λ c κs. search needs) (λ c. search needs) sub-polling-receive sub-polling-receive (λ c. search needs) (λ c κs. search needs) add-t15
+    (λ c. search needs) (λ c. search needs) returns (λ c. search needs) returns-2)

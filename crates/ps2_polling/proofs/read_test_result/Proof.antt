@@ -77,20 +77,5 @@ pub read-test-result-spec : {M : Type 1} → statement M
 read-test-result-spec =
     tie.close
     (tie.spec
-    Inv-loop
-    μ-loop
-    loop-holds
-    sub-take-turn
-    sub-take-turn
-    (λ c. search needs)
-    (λ c κs. search needs)
-    add-used
-    (λ c. search needs)
-    (λ c. search needs)
-    (λ c. search needs)
-    (λ c. search needs)
-    (λ c. search needs)
-    loop-again
-    returns
-    returns-2
-    returns-3)
+    Inv-loop μ-loop loop-holds sub-take-turn sub-take-turn (λ c. search needs) (λ c κs. search needs) add-used (λ c. search needs) (λ c. search needs)
+    (λ c. search needs) (λ c. search needs) (λ c. search needs) loop-again returns returns-2 returns-3)

@@ -24,11 +24,4 @@ returns-2 c =
     reads-refused readData (λ (b : ℕ). done (gives success)) _ read-data (c .before .read .given .0 .0) (ap saidByte (c .before .read .given .1))
 
 pub flush-output-buffer-spec : {M : Type 1} → statement M
-flush-output-buffer-spec =
-    tie.close
-    (tie.spec
-    (λ c κs. search needs)
-    (λ c. search needs)
-    (λ c. search needs)
-    returns
-    returns-2)
+flush-output-buffer-spec = tie.close (tie.spec (λ c κs. search needs) (λ c. search needs) (λ c. search needs) returns returns-2)

@@ -49,16 +49,5 @@ pub read-config-spec : {M : Type 1} → statement M
 read-config-spec =
     tie.close
     (tie.spec
-    (λ c κs. search needs)
-    (λ c. search needs)
-    (λ c. search needs)
-    (λ c. search needs)
-    returns
-    (λ c κs. search needs)
-    (λ c. search needs)
-    (λ c κs. search needs)
-    (λ c. search needs)
-    (λ c. search needs)
-    returns-2
-    (λ c. search needs)
-    returns-3)
+    (λ c κs. search needs) (λ c. search needs) (λ c. search needs) (λ c. search needs) returns (λ c κs. search needs) (λ c. search needs)
+    (λ c κs. search needs) (λ c. search needs) (λ c. search needs) returns-2 (λ c. search needs) returns-3)

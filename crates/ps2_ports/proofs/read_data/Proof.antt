@@ -8,8 +8,4 @@ returns : tie.Need-returns
 returns c = c .read-port .ensures p60
 
 pub read-data-spec : {M : Type 1} → statement M
-read-data-spec =
-    tie.close
-    (tie.spec
-    (λ c κs. search needs)
-    returns)
+read-data-spec = tie.close (tie.spec (λ c κs. search needs) returns)

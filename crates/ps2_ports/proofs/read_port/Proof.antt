@@ -15,9 +15,4 @@ unfolding readPort
 returns-2 c p = read-to-done (read-to-read (read-to-start (readPort p) _) (omega arith))
 
 pub read-port-spec : {M : Type 1} → statement M
-read-port-spec =
-    tie.close
-    (tie.spec
-    returns
-    (λ c. search needs)
-    returns-2)
+read-port-spec = tie.close (tie.spec returns (λ c. search needs) returns-2)

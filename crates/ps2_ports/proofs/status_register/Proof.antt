@@ -24,12 +24,4 @@ returns-2 c =
     reads-refused (readPort p64) (λ (b : ℕ). done (gives (record { bits = b }))) _ (read-port p64) (c .before .read2 .given .0 .0) (ap saidByte (c .before .read2 .given .1))
 
 pub status-register-spec : {M : Type 1} → statement M
-status-register-spec =
-    tie.close
-    (tie.spec
-    (λ c κs. search needs)
-    (λ c. search needs)
-    (λ c κs. search needs)
-    (λ c. search needs)
-    returns
-    returns-2)
+status-register-spec = tie.close (tie.spec (λ c κs. search needs) (λ c. search needs) (λ c κs. search needs) (λ c. search needs) returns returns-2)

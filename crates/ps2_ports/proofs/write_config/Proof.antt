@@ -45,16 +45,5 @@ pub write-config-spec : {M : Type 1} → statement M
 write-config-spec =
     tie.close
     (tie.spec
-    (λ c κs. search needs)
-    (λ c. search needs)
-    (λ c. search needs)
-    (λ c. search needs)
-    returns
-    mul-at
-    sub-write-data
-    sub-write-data
-    (λ c. search needs)
-    (λ c κs. search needs)
-    add-t15
-    (λ c. search needs)
-    returns-2)
+    (λ c κs. search needs) (λ c. search needs) (λ c. search needs) (λ c. search needs) returns mul-at sub-write-data sub-write-data
+    (λ c. search needs) (λ c κs. search needs) add-t15 (λ c. search needs) returns-2)

@@ -16,11 +16,4 @@ unfolding writePort
 returns-2 c p h = record { with-any = λ s. rw h (sym (write-last p _ _ s _ (omega arith))) }
 
 pub write-port-spec : {M : Type 1} → statement M
-write-port-spec =
-    tie.close
-    (tie.spec
-    returns
-    (λ c. search needs)
-    (λ c. search needs)
-    (λ c. search needs)
-    returns-2)
+write-port-spec = tie.close (tie.spec returns (λ c. search needs) (λ c. search needs) (λ c. search needs) returns-2)

@@ -29,12 +29,4 @@ returns-2 c =
     ∙ rw (← c .before .before .before .has .ensures, ← c .before .before .has2 .ensures, c .before .if1 .left)
 
 pub moved-spec : {M : Type 1} → statement M
-moved-spec =
-    tie.close
-    (tie.spec
-    has-requires
-    has-requires-2
-    to-2s-complement-requires
-    to-2s-complement-requires-2
-    returns
-    returns-2)
+moved-spec = tie.close (tie.spec has-requires has-requires-2 to-2s-complement-requires to-2s-complement-requires-2 returns returns-2)

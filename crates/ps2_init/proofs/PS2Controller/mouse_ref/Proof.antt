@@ -8,9 +8,4 @@ returns : tie.Need-returns
 returns c = rw (c .before .if1 .taken, c .new .ensures)
 
 pub mouse-ref-spec : {M : Type 1} → statement M
-mouse-ref-spec =
-    tie.close
-    (tie.spec
-    (λ c. search needs)
-    returns
-    (λ c. search needs))
+mouse-ref-spec = tie.close (tie.spec (λ c. search needs) returns (λ c. search needs))

@@ -10,9 +10,4 @@ unfolding commandToMouse
 returns c = c .before .before .command-to-port2 .ensures
 
 pub command-to-mouse-spec : {M : Type 1} → statement M
-command-to-mouse-spec =
-    tie.close
-    (tie.spec
-    (λ c κs. search needs)
-    (λ c. search needs)
-    returns)
+command-to-mouse-spec = tie.close (tie.spec (λ c κs. search needs) (λ c. search needs) returns)

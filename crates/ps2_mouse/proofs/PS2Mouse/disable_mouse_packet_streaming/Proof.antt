@@ -10,10 +10,4 @@ unfolding disablePacketStreaming
 returns c = c .failing-as .ensures _ _ _ _ (c .before .before .before .command-to-mouse .ensures)
 
 pub disable-mouse-packet-streaming-spec : {M : Type 1} → statement M
-disable-mouse-packet-streaming-spec =
-    tie.close
-    (tie.spec
-    (λ c κs. search needs)
-    (λ c κs. search needs)
-    (λ c. search needs)
-    returns)
+disable-mouse-packet-streaming-spec = tie.close (tie.spec (λ c κs. search needs) (λ c κs. search needs) (λ c. search needs) returns)

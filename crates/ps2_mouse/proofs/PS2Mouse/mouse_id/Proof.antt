@@ -42,15 +42,5 @@ pub mouse-id-spec : {M : Type 1} → statement M
 mouse-id-spec =
     tie.close
     (tie.spec
-    (λ c κs. search needs)
-    (λ c. search needs)
-    sub-receive-mouse-id
-    sub-receive-mouse-id
-    (λ c. search needs)
-    (λ c κs. search needs)
-    add-t16
-    (λ c. search needs)
-    (λ c. search needs)
-    returns
-    (λ c. search needs)
-    returns-2)
+    (λ c κs. search needs) (λ c. search needs) sub-receive-mouse-id sub-receive-mouse-id (λ c. search needs) (λ c κs. search needs) add-t16
+    (λ c. search needs) (λ c. search needs) returns (λ c. search needs) returns-2)

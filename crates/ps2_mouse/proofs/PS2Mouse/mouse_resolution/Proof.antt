@@ -10,10 +10,4 @@ unfolding setResolution
 returns c = c .failing-as .ensures _ _ _ _ (c .before .before .before .command-with-data .ensures)
 
 pub mouse-resolution-spec : {M : Type 1} → statement M
-mouse-resolution-spec =
-    tie.close
-    (tie.spec
-    (λ c κs. search needs)
-    (λ c κs. search needs)
-    (λ c. search needs)
-    returns)
+mouse-resolution-spec = tie.close (tie.spec (λ c κs. search needs) (λ c κs. search needs) (λ c. search needs) returns)

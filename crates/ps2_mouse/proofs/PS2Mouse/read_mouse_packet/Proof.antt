@@ -92,32 +92,7 @@ pub read-mouse-packet-spec : {M : Type 1} → statement M
 read-mouse-packet-spec =
     tie.close
     (tie.spec
-    (λ c κs. search needs)
-    (λ c. search needs)
-    (λ c. search needs)
-    (λ c κs. search needs)
-    (λ c. search needs)
-    sub-read-data
-    sub-read-data
-    (λ c. search needs)
-    (λ c κs. search needs)
-    add-both
-    (λ c. search needs)
-    (λ c κs. search needs)
-    (λ c. search needs)
-    (λ c. search needs)
-    sub-read-data-2
-    sub-read-data-2
-    (λ c. search needs)
-    (λ c κs. search needs)
-    add-both-2
-    (λ c. search needs)
-    (λ c κs. search needs)
-    (λ c. search needs)
-    (λ c. search needs)
-    returns
-    returns-2
-    returns-3
-    returns-4
-    returns-5
-    returns-6)
+    (λ c κs. search needs) (λ c. search needs) (λ c. search needs) (λ c κs. search needs) (λ c. search needs) sub-read-data sub-read-data
+    (λ c. search needs) (λ c κs. search needs) add-both (λ c. search needs) (λ c κs. search needs) (λ c. search needs) (λ c. search needs)
+    sub-read-data-2 sub-read-data-2 (λ c. search needs) (λ c κs. search needs) add-both-2 (λ c. search needs) (λ c κs. search needs)
+    (λ c. search needs) (λ c. search needs) returns returns-2 returns-3 returns-4 returns-5 returns-6)

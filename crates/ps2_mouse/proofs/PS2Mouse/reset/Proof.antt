@@ -40,15 +40,5 @@ pub reset-spec : {M : Type 1} → statement M
 reset-spec =
     tie.close
     (tie.spec
-    (λ c κs. search needs)
-    (λ c. search needs)
-    sub-read-self-test-and-id
-    sub-read-self-test-and-id
-    (λ c. search needs)
-    (λ c κs. search needs)
-    add-t16
-    (λ c. search needs)
-    (λ c. search needs)
-    returns
-    (λ c. search needs)
-    returns-2)
+    (λ c κs. search needs) (λ c. search needs) sub-read-self-test-and-id sub-read-self-test-and-id (λ c. search needs) (λ c κs. search needs) add-t16
+    (λ c. search needs) (λ c. search needs) returns (λ c. search needs) returns-2)

@@ -57,20 +57,5 @@ pub set-mouse-id-spec : {M : Type 1} → statement M
 set-mouse-id-spec =
     tie.close
     (tie.spec
-    (λ c κs. search needs)
-    (λ c. search needs)
-    mul-at
-    sub-start-packets
-    sub-start-packets
-    (λ c. search needs)
-    sub-start-packets-2
-    sub-start-packets-2
-    (λ c. search needs)
-    (λ c κs. search needs)
-    add-t19
-    add-t23
-    (λ c. search needs)
-    (λ c. search needs)
-    returns
-    (λ c. search needs)
-    returns-2)
+    (λ c κs. search needs) (λ c. search needs) mul-at sub-start-packets sub-start-packets (λ c. search needs) sub-start-packets-2 sub-start-packets-2
+    (λ c. search needs) (λ c κs. search needs) add-t19 add-t23 (λ c. search needs) (λ c. search needs) returns (λ c. search needs) returns-2)

@@ -10,10 +10,4 @@ unfolding setSamplingRate
 returns c = c .failing-as .ensures _ _ _ _ (c .before .before .before .command-with-data .ensures)
 
 pub set-mouse-sampling-rate-spec : {M : Type 1} → statement M
-set-mouse-sampling-rate-spec =
-    tie.close
-    (tie.spec
-    (λ c κs. search needs)
-    (λ c κs. search needs)
-    (λ c. search needs)
-    returns)
+set-mouse-sampling-rate-spec = tie.close (tie.spec (λ c κs. search needs) (λ c κs. search needs) (λ c. search needs) returns)

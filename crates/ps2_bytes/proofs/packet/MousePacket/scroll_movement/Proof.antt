@@ -33,11 +33,4 @@ pub scroll-movement-spec : {M : Type 1} → statement M
 scroll-movement-spec =
     tie.close
     (tie.spec
-    enum-told
-    enum-known-self
-    scroll-movement-requires
-    enum-known-self-2
-    scroll-movement-requires-2
-    returns
-    returns-2
-    returns-3)
+    enum-told enum-known-self scroll-movement-requires enum-known-self-2 scroll-movement-requires-2 returns returns-2 returns-3)

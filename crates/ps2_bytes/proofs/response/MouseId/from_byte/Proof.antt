@@ -11,8 +11,4 @@ unlisted c = sym (decode-missing _ _ (Unit {0}) mouseIds _ (c .match .rest))
 
 pub from-byte-spec : {M : Type 1} → statement M
 unfolding decode
-from-byte-spec =
-    tie.close
-    (tie.spec
-    (λ c. rw (c .match .keys1)) (λ c. rw (c .match .keys2)) (λ c. rw (c .match .keys3))
-    unlisted)
+from-byte-spec = tie.close (tie.spec (λ c. rw (c .match .keys1)) (λ c. rw (c .match .keys2)) (λ c. rw (c .match .keys3)) unlisted)
