@@ -452,11 +452,9 @@ fn read_self_test_and_id(script: &[u8]) -> CompletedRead
     match passed {
         Completion::Done => {
             let f = flush_output_buffer(&script[used..]);
+            let both = used + f.used;
             let answer = f.answer;
-            CompletedRead {
-                answer,
-                used: used + f.used,
-            }
+            CompletedRead { answer, used: both }
         }
         Completion::Refused(e) => CompletedRead {
             answer: Completion::Refused(e),

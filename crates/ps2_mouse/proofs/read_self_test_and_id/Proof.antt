@@ -17,8 +17,8 @@ use Rattle.ps2_mouse.proofs.read_self_test_and_id.Tie as tie
 sub-flush-output-buffer : tie.Need-sub-flush-output-buffer
 sub-flush-output-buffer c = reads-used-le (c .before .before .read-self-test-result .ensures)
 
-add-t10 : tie.Need-add-t10
-add-t10 c =
+add-both : tie.Need-add-both
+add-both c =
     let t = c .before .before .before .before .before in
     omega (arith, part-used-le (t .before .before .args .script .now) _ (reads-used-le (t .read-self-test-result .ensures)) (c .before .flush-output-buffer .ensures), t .before .before .good)
 
@@ -39,5 +39,5 @@ pub read-self-test-and-id-spec : {M : Type 1} → statement M
 read-self-test-and-id-spec =
     tie.close
     (tie.spec
-    (λ c κs. search needs) (λ c. search needs) sub-flush-output-buffer sub-flush-output-buffer (λ c. search needs) (λ c κs. search needs) add-t10
+    (λ c κs. search needs) (λ c. search needs) sub-flush-output-buffer sub-flush-output-buffer (λ c. search needs) (λ c κs. search needs) add-both
     (λ c. search needs) returns returns-2)
