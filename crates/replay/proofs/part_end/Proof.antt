@@ -1,0 +1,56 @@
+-- `replay::part_end` is safe and ends.
+-- Assumes nothing.
+use Prim.Native.Nat.{_-_}
+use borrow.Author.Needs.{needs}
+use lib.ListN.{length}
+use Rattle.replay.proofs.part_end.Statement.{statement}
+use Rattle.replay.proofs.part_end.Tie as tie
+
+abbrev Inv-loop : tie.InvT-loop
+Inv-loop line from i₀ i = Unit {0}
+
+abbrev μ-loop : tie.MeasureT-loop
+μ-loop line from i₀ i = length line - i
+
+loop-holds : tie.Need-loop-holds Inv-loop μ-loop
+loop-holds c = search needs
+
+shared-slice-read-if1 : tie.Need-shared-slice-read-if1 Inv-loop μ-loop
+shared-slice-read-if1 c = search needs
+
+returns : tie.Need-returns Inv-loop μ-loop
+returns c = search needs
+
+shared-slice-read-if2 : tie.Need-shared-slice-read-if2 Inv-loop μ-loop
+shared-slice-read-if2 c = search needs
+
+returns-2 : tie.Need-returns-2 Inv-loop μ-loop
+returns-2 c = search needs
+
+add-i : tie.Need-add-i Inv-loop μ-loop
+add-i c = search needs
+
+loop-less : tie.Need-loop-less Inv-loop μ-loop
+loop-less c = search needs
+
+loop-again : tie.Need-loop-again Inv-loop μ-loop
+loop-again c = search needs
+
+returns-3 : tie.Need-returns-3 Inv-loop μ-loop
+returns-3 c = search needs
+
+pub part-end-spec : {M : Type 1} → statement M
+part-end-spec =
+    tie.close
+    (tie.spec
+    Inv-loop
+    μ-loop
+    loop-holds
+    shared-slice-read-if1
+    returns
+    shared-slice-read-if2
+    returns-2
+    add-i
+    loop-less
+    loop-again
+    returns-3)
