@@ -41,13 +41,13 @@ use text::stands_at;
 use text::within;
 use text::word_end;
 
-// Puts a part of a script once more, behind what there is.
-fn put_part(script: &mut [u8], part: usize, part_end: usize, end: usize) -> usize {
+// Puts a part of the bytes once more, behind it or before it, and answers the place after what was put.
+fn put_part(bytes: &mut [u8], part: usize, part_end: usize, end: usize) -> usize {
     let mut to = end;
     let mut i = part;
     while i < part_end {
-        let byte = byte_at(script, i);
-        to = put(script, to, byte);
+        let byte = byte_at(bytes, i);
+        to = put(bytes, to, byte);
         i += 1;
     }
     to
@@ -340,21 +340,9 @@ fn read_more(input: &mut [u8], filled: usize) -> usize {
     filled
 }
 
-// Moves the bytes from a place on to the start, and answers how many they are.
-fn keep_rest(input: &mut [u8], from: usize, filled: usize) -> usize {
-    let mut end = 0;
-    let mut i = from;
-    while i < filled {
-        let byte = byte_at(input, i);
-        end = put(input, end, byte);
-        i += 1;
-    }
-    end
-}
-
 // Reads on. Where nothing comes, what is there is the last line, which need not end.
 fn read_on(input: &mut [u8], p: Progress) -> Progress {
-    let kept = keep_rest(input, p.start, p.filled);
+    let kept = put_part(input, p.start, p.filled, 0);
     let filled = read_more(input, kept);
     Progress {
         line: 0,

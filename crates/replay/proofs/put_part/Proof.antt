@@ -8,10 +8,10 @@ use Rattle.replay.proofs.put_part.Statement.{statement}
 use Rattle.replay.proofs.put_part.Tie as tie
 
 abbrev Inv-loop : tie.InvT-loop
-Inv-loop script₀ part part-end end to₀ i₀ script to i = length script ≡ length script₀
+Inv-loop bytes₀ part part-end end to₀ i₀ bytes to i = length bytes ≡ length bytes₀
 
 abbrev μ-loop : tie.MeasureT-loop
-μ-loop script₀ part part-end end to₀ i₀ script to i = part-end - i
+μ-loop bytes₀ part part-end end to₀ i₀ bytes to i = part-end - i
 
 loop-holds : tie.Need-loop-holds Inv-loop μ-loop
 loop-holds c = search needs
