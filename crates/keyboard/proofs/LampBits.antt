@@ -3,7 +3,7 @@
 use mathlib.Core.Path.{_≡_, refl}
 use mathlib.Core.Bool.{Bool, true, false}
 use Rattle.bits.specs.Bits.{putBit}
-use Rattle.ps2_bytes.specs.Leds.{scrollLock, numberLock, capsLock, lampByte}
+use Rattle.ps2_layouts.specs.Leds.{scrollLock, numberLock, capsLock, lampByte}
 
 pub lamps-put : (scroll number caps : Bool) → putBit capsLock caps (putBit numberLock number (putBit scrollLock scroll 0)) ≡ lampByte scroll number caps
 unfolding putBit

@@ -3,7 +3,7 @@
 use Prim.Native.Nat.{ℕ}
 use Rattle.bits.specs.Bits.{bit}
 use Rattle.keycodes_ascii.specs.Flags.{capsLock, numLock, scrollLock}
-use Rattle.ps2_bytes.specs.Leds.{lampByte}
+use Rattle.ps2_layouts.specs.Leds.{lampByte}
 
 -- "ED, then scroll 1, number 2, caps 4 added": the byte after ED, each lamp lit where its lock is on.
 unfoldable pub lampsLit : ℕ → ℕ

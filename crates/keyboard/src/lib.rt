@@ -20,10 +20,10 @@ use keycodes_ascii::KeyAction;
 use keycodes_ascii::KeyEvent;
 use keycodes_ascii::KeyboardModifiers;
 use keycodes_ascii::Keycode;
-use ps2_bytes::LEDState;
 use ps2_command::CommandAnswer;
 use ps2_keyboard::read_scancode;
 use ps2_keyboard::set_keyboard_led;
+use ps2_layouts::LEDState;
 use ps2_ports::ByteAnswer;
 use ps2_ports::Refusal;
 

@@ -3,11 +3,11 @@ ghost use mathlib.Core.Path.{_≡_};
 ghost use Rattle.ps2_bytes.specs.Writable.{toKeyboard, toMouse, toDevice, written};
 use crate::command::HostToKeyboardCommand;
 use crate::command::HostToMouseCommand;
-use crate::configuration::ControllerConfigurationByte;
-use crate::data::LEDState;
 use crate::data::MouseResolution;
 use crate::data::MouseSampleRate;
 use crate::data::ScancodeSet;
+use ps2_layouts::ControllerConfigurationByte;
+use ps2_layouts::LEDState;
 
 // Kinds of data that can be written to port 60.
 pub enum WritableData {

@@ -16,7 +16,7 @@ use Rattle.exchange.proofs.Steps.{no-script-yields}
 use Rattle.exchange.proofs.Then.{Finds}
 use Rattle.ps2_bytes.specs.declared.response.DeviceToHostResponse.the-variants.{SelfTestPassed}
 use Rattle.ps2_bytes.specs.Responses.{responseByte}
-use Rattle.ps2_bytes.specs.Status.{outputBufferFull}
+use Rattle.ps2_layouts.specs.Status.{outputBufferFull}
 use Rattle.ps2_ports.specs.Refusals.{success}
 use Rattle.ps2_polling.specs.Polling.{dataTurn, poll}
 use Rattle.ps2_polling.proofs.Refuses.{finds-listed, finds-passed}

@@ -14,8 +14,8 @@ use Rattle.exchange.proofs.Bounds.{within-bind}
 use Rattle.exchange.proofs.Then.{within-then, attains-then, within-told, attains-told, within-succeeds, attains-succeeds}
 use Rattle.ps2_bytes.specs.declared.command.HostToControllerCommand.{HostToControllerCommand}
 use Rattle.ps2_bytes.specs.declared.command.HostToControllerCommand.the-variants.{EnablePort1, EnablePort2, TestPort1, TestPort2}
-use Rattle.ps2_bytes.specs.declared.configuration.ControllerConfigurationByte.{ControllerConfigurationByte}
-use Rattle.ps2_bytes.specs.Configuration.{port1Interrupt, port2Interrupt, port1ClockDisabled, port2ClockDisabled}
+use Rattle.ps2_layouts.specs.declared.configuration.ControllerConfigurationByte.{ControllerConfigurationByte}
+use Rattle.ps2_layouts.specs.Configuration.{port1Interrupt, port2Interrupt, port1ClockDisabled, port2ClockDisabled}
 use Rattle.ps2_ports.specs.Refusals.{success}
 use Rattle.ps2_ports.specs.Ports.{writePort, flushOutputBuffer, readConfig, writeConfig}
 use Rattle.ps2_polling.proofs.Bounds.{within-test, within-test-port}

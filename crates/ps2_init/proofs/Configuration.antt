@@ -11,8 +11,8 @@ use Rattle.exchange.specs.Exchange.{bind}
 use Rattle.exchange.specs.Answer.{andThen}
 use Rattle.exchange.specs.Refuses.{among}
 use Rattle.exchange.proofs.Then.{among-more}
-use Rattle.ps2_bytes.specs.declared.configuration.ControllerConfigurationByte.{ControllerConfigurationByte}
-use Rattle.ps2_bytes.specs.Configuration.{port1Interrupt, port2Interrupt, port1ClockDisabled, port2ClockDisabled, port1Translation}
+use Rattle.ps2_layouts.specs.declared.configuration.ControllerConfigurationByte.{ControllerConfigurationByte}
+use Rattle.ps2_layouts.specs.Configuration.{port1Interrupt, port2Interrupt, port1ClockDisabled, port2ClockDisabled, port1Translation}
 use Rattle.ps2_ports.specs.Ports.{writePort, writeConfig}
 use Rattle.ps2_init.specs.Init.{quieted, Ports, enablePorts}
 use Rattle.ps2_init.specs.Configuration.{runningIf, finalConfig, writtenIf}

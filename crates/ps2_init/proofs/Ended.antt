@@ -13,8 +13,8 @@ use Rattle.exchange.proofs.Only.{only-bind}
 use Rattle.exchange.proofs.Then.{on-cond, only-any, only-then, refuses-then, among-one}
 use Rattle.ps2_bytes.specs.declared.command.HostToControllerCommand.{HostToControllerCommand}
 use Rattle.ps2_bytes.specs.declared.command.HostToControllerCommand.the-variants.{DisablePort1, DisablePort2, EnablePort1, EnablePort2}
-use Rattle.ps2_bytes.specs.declared.configuration.ControllerConfigurationByte.{ControllerConfigurationByte}
-use Rattle.ps2_bytes.specs.Configuration.{port1Interrupt, port2Interrupt, port1ClockDisabled, port2ClockDisabled}
+use Rattle.ps2_layouts.specs.declared.configuration.ControllerConfigurationByte.{ControllerConfigurationByte}
+use Rattle.ps2_layouts.specs.Configuration.{port1Interrupt, port2Interrupt, port1ClockDisabled, port2ClockDisabled}
 use Rattle.ps2_ports.specs.Ports.{writePort, writeCommand, flushOutputBuffer, readConfig, writeConfig}
 use Rattle.ps2_polling.proofs.Refuses.{refuses-test}
 use Rattle.ps2_init.specs.declared.PS2Controller.{PS2Controller}

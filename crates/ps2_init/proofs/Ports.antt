@@ -8,7 +8,7 @@ use Rattle.exchange.specs.Exchange.{done, yields, Writes}
 use Rattle.exchange.specs.Answer.{gives, onGiven, andThen}
 use Rattle.exchange.proofs.Calls.{bind-done}
 use Rattle.ps2_bytes.specs.declared.command.HostToControllerCommand.{HostToControllerCommand}
-use Rattle.ps2_bytes.specs.declared.configuration.ControllerConfigurationByte.{ControllerConfigurationByte}
+use Rattle.ps2_layouts.specs.declared.configuration.ControllerConfigurationByte.{ControllerConfigurationByte}
 use Rattle.ps2_ports.specs.declared.Completion.{Completion}
 use Rattle.ps2_ports.specs.declared.Refusal.{Refusal}
 use Rattle.ps2_ports.specs.Refusals.{refused, saidDone}

@@ -3,8 +3,8 @@
 use mathlib.Core.Bool.{Bool, true, false}
 use Prim.Native.Nat.{ℕ}
 use Rattle.exchange.specs.Exchange.{p64, Exchange, write}
-use Rattle.ps2_bytes.specs.declared.configuration.ControllerConfigurationByte.{ControllerConfigurationByte}
-use Rattle.ps2_bytes.specs.Configuration.{port1Interrupt, port2Interrupt, port1ClockDisabled, port2ClockDisabled}
+use Rattle.ps2_layouts.specs.declared.configuration.ControllerConfigurationByte.{ControllerConfigurationByte}
+use Rattle.ps2_layouts.specs.Configuration.{port1Interrupt, port2Interrupt, port1ClockDisabled, port2ClockDisabled}
 use Rattle.ps2_init.specs.Init.{running, Ports}
 
 -- A port that passed runs and interrupts; one that failed is left as it is.

@@ -12,7 +12,7 @@ use Rattle.exchange.proofs.Attains.{attains-bind, attains-last}
 use Rattle.exchange.proofs.Bounds.{within-bind, within-repeat}
 use Rattle.exchange.proofs.Then.{within-then, attains-then, within-as, attains-as}
 use Rattle.ps2_bytes.specs.declared.command.HostToKeyboardCommand.the-variants as Command
-use Rattle.ps2_bytes.specs.declared.data.LEDState.{LEDState}
+use Rattle.ps2_layouts.specs.declared.leds.LEDState.{LEDState}
 use Rattle.ps2_bytes.specs.declared.data.ScancodeSet.{ScancodeSet}
 use Rattle.ps2_bytes.specs.declared.data.ScancodeSet.the-variants as Set
 use Rattle.ps2_bytes.specs.declared.response.KeyboardType.the-variants.{MF2Keyboard}

@@ -19,7 +19,7 @@ use Rattle.ps2_bytes.specs.declared.data.ScancodeSet.the-variants as Set
 use Rattle.ps2_bytes.specs.declared.response.KeyboardType.{KeyboardType}
 use Rattle.ps2_bytes.specs.declared.writable.HostToKeyboardCommandOrData.the-variants as Byte
 use Rattle.ps2_bytes.specs.Data.{scancodeSets}
-use Rattle.ps2_bytes.specs.Status.{outputBufferFull}
+use Rattle.ps2_layouts.specs.Status.{outputBufferFull}
 use Rattle.ps2_ports.specs.Refusals.{success}
 use Rattle.ps2_polling.specs.Polling.{pollLimit, poll}
 use Rattle.ps2_command.specs.Search.{listedTurn, PollBrings}

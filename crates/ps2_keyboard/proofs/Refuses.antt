@@ -9,7 +9,7 @@ use Rattle.exchange.specs.Refuses.{RefusesWith, Refuses}
 use Rattle.exchange.proofs.Only.{only-bind}
 use Rattle.exchange.proofs.Then.{only-any, only-repeat, refuses-then, refuses-more, refuses-as}
 use Rattle.ps2_bytes.specs.declared.command.HostToKeyboardCommand.the-variants as Command
-use Rattle.ps2_bytes.specs.declared.data.LEDState.{LEDState}
+use Rattle.ps2_layouts.specs.declared.leds.LEDState.{LEDState}
 use Rattle.ps2_bytes.specs.declared.data.ScancodeSet.{ScancodeSet}
 use Rattle.ps2_bytes.specs.declared.data.ScancodeSet.the-variants as Set
 use Rattle.ps2_bytes.specs.declared.writable.HostToDevice.the-variants.{Keyboard}

@@ -10,7 +10,7 @@ use Rattle.exchange.specs.Answer.{Answer, gives, refuses, andThen, refusingAs}
 use Rattle.exchange.specs.Repeat.{Turn, found, again, repeat}
 use Rattle.ps2_bytes.specs.declared.command.HostToKeyboardCommand.{HostToKeyboardCommand}
 use Rattle.ps2_bytes.specs.declared.command.HostToKeyboardCommand.the-variants as Command
-use Rattle.ps2_bytes.specs.declared.data.LEDState.{LEDState}
+use Rattle.ps2_layouts.specs.declared.leds.LEDState.{LEDState}
 use Rattle.ps2_bytes.specs.declared.data.ScancodeSet.{ScancodeSet}
 use Rattle.ps2_bytes.specs.declared.data.ScancodeSet.the-variants as Set
 use Rattle.ps2_bytes.specs.declared.response.KeyboardType.{KeyboardType}
@@ -19,7 +19,7 @@ use Rattle.ps2_bytes.specs.declared.writable.HostToDevice.the-variants.{Keyboar
 use Rattle.ps2_bytes.specs.declared.writable.HostToKeyboardCommandOrData.{HostToKeyboardCommandOrData}
 use Rattle.ps2_bytes.specs.declared.writable.HostToKeyboardCommandOrData.the-variants as Byte
 use Rattle.ps2_bytes.specs.Data.{scancodeSets}
-use Rattle.ps2_bytes.specs.Status.{outputBufferFull}
+use Rattle.ps2_layouts.specs.Status.{outputBufferFull}
 use Rattle.ps2_ports.specs.Refusals.{Success, success}
 use Rattle.ps2_ports.specs.Ports.{readData, readStatus}
 use Rattle.ps2_polling.specs.Polling.{pollLimit, poll}

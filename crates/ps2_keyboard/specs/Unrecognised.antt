@@ -9,7 +9,7 @@ use Rattle.exchange.specs.Answer.{gives}
 use Rattle.exchange.specs.Repeat.{found, again}
 use Rattle.exchange.specs.Search.{Search, scriptAfter, logAfter}
 use Rattle.ps2_bytes.specs.declared.command.HostToKeyboardCommand.the-variants.{DisableScanning, IdentifyKeyboard}
-use Rattle.ps2_bytes.specs.Status.{outputBufferFull}
+use Rattle.ps2_layouts.specs.Status.{outputBufferFull}
 use Rattle.ps2_polling.specs.Polling.{pollLimit}
 use Rattle.ps2_command.specs.Command.{accepted}
 use Rattle.ps2_command.specs.Search.{listedTurn, PollBrings}

@@ -25,8 +25,8 @@ use Rattle.ps2_bytes.specs.declared.response.MouseId.the-variants.{Zero, Three,
 use Rattle.ps2_bytes.specs.declared.writable.HostToDevice.the-variants.{Mouse}
 use Rattle.ps2_bytes.specs.declared.writable.HostToMouseCommandOrData.{HostToMouseCommandOrData}
 use Rattle.ps2_bytes.specs.declared.writable.HostToMouseCommandOrData.the-variants as Byte
-use Rattle.ps2_bytes.specs.Packet.{generic, packet3, packet4, packetLength}
-use Rattle.ps2_bytes.specs.declared.packet.MousePacket.the-variants as Packet
+use Rattle.ps2_packet.specs.Packet.{generic, packet3, packet4, packetLength}
+use Rattle.ps2_packet.specs.declared.MousePacket.the-variants as Packet
 use Rattle.ps2_bytes.specs.Responses.{mouseIds}
 use Rattle.ps2_ports.specs.Refusals.{success}
 use Rattle.ps2_ports.specs.Ports.{readStatus, flushOutputBuffer}

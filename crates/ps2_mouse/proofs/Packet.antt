@@ -5,9 +5,9 @@ use mathlib.Core.List.{List}
 use mathlib.Core.Path.{_≡_, refl}
 use Rattle.exchange.specs.Exchange.{yields, played, play}
 use Rattle.exchange.specs.Answer.{gives}
-use Rattle.ps2_bytes.specs.declared.packet.MousePacket.{MousePacket}
-use Rattle.ps2_bytes.specs.declared.packet.MousePacket.the-variants.{Zero, Three, Four}
-use Rattle.ps2_bytes.specs.Packet.{packetId, packetBytes, packetLength}
+use Rattle.ps2_packet.specs.declared.MousePacket.{MousePacket}
+use Rattle.ps2_packet.specs.declared.MousePacket.the-variants.{Zero, Three, Four}
+use Rattle.ps2_packet.specs.Packet.{packetId, packetBytes, packetLength}
 use Rattle.ps2_mouse.specs.Mouse.{readMousePacket}
 
 pub read-packet : (p : MousePacket) (l : List ℕ) → play (readMousePacket (packetId p)) (packetBytes p) l ≡ played (yields (gives p)) (packetLength (packetId p)) 0 l

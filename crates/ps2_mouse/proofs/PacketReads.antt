@@ -9,11 +9,11 @@ use Rattle.exchange.specs.Parts.{part}
 use Rattle.exchange.specs.Position.{ReadTo}
 use Rattle.exchange.proofs.Calls.{reads-reached, reads-done, reads-yields}
 use Rattle.exchange.proofs.Reading.{read-to-done, read-to-last, read-to-call}
-use Rattle.ps2_bytes.specs.declared.packet.MousePacket.{MousePacket}
-use Rattle.ps2_bytes.specs.declared.packet.MousePacket.the-variants as Packet
+use Rattle.ps2_packet.specs.declared.MousePacket.{MousePacket}
+use Rattle.ps2_packet.specs.declared.MousePacket.the-variants as Packet
 use Rattle.ps2_bytes.specs.declared.response.MouseId.{MouseId}
 use Rattle.ps2_bytes.specs.declared.response.MouseId.the-variants.{Zero, Three, Four}
-use Rattle.ps2_bytes.specs.Packet.{generic, packet3, packet4}
+use Rattle.ps2_packet.specs.Packet.{generic, packet3, packet4}
 use Rattle.ps2_ports.specs.declared.ByteAnswer.{ByteAnswer}
 use Rattle.ps2_ports.specs.declared.Refusal.{Refusal}
 use Rattle.ps2_ports.specs.Refusals.{refused}

@@ -5,7 +5,7 @@ use Rattle.exchange.specs.Exchange.{End, yields, toldEnd}
 use Rattle.exchange.specs.Answer.{Answer, gives}
 use Rattle.exchange.specs.Left.{Left, left}
 use Rattle.exchange.specs.Repeat.{Turn, again, foundEnd}
-use Rattle.ps2_bytes.specs.declared.packet.MousePacket.{MousePacket}
+use Rattle.ps2_packet.specs.declared.MousePacket.{MousePacket}
 use Rattle.ps2_bytes.specs.declared.response.MouseId.{MouseId}
 use Rattle.ps2_bytes.specs.declared.response.MouseId.the-variants.{Zero}
 use Rattle.ps2_ports.specs.declared.Completion.{Completion}

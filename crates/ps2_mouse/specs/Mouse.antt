@@ -10,16 +10,16 @@ use Rattle.ps2_bytes.specs.declared.command.HostToMouseCommand.{HostToMouseComm
 use Rattle.ps2_bytes.specs.declared.command.HostToMouseCommand.the-variants as Command
 use Rattle.ps2_bytes.specs.declared.data.MouseResolution.{MouseResolution}
 use Rattle.ps2_bytes.specs.declared.data.MouseSampleRate.{MouseSampleRate}
-use Rattle.ps2_bytes.specs.declared.packet.MousePacket.{MousePacket}
-use Rattle.ps2_bytes.specs.declared.packet.MousePacket.the-variants as Packet
+use Rattle.ps2_packet.specs.declared.MousePacket.{MousePacket}
+use Rattle.ps2_packet.specs.declared.MousePacket.the-variants as Packet
 use Rattle.ps2_bytes.specs.declared.response.MouseId.{MouseId}
 use Rattle.ps2_bytes.specs.declared.response.MouseId.the-variants.{Zero, Three, Four}
 use Rattle.ps2_bytes.specs.declared.writable.HostToDevice.the-variants.{Mouse}
 use Rattle.ps2_bytes.specs.declared.writable.HostToMouseCommandOrData.{HostToMouseCommandOrData}
 use Rattle.ps2_bytes.specs.declared.writable.HostToMouseCommandOrData.the-variants as Byte
-use Rattle.ps2_bytes.specs.Packet.{generic, packet3, packet4}
+use Rattle.ps2_packet.specs.Packet.{generic, packet3, packet4}
 use Rattle.ps2_bytes.specs.Responses.{mouseIds}
-use Rattle.ps2_bytes.specs.Status.{outputBufferFull, secondPortOutputFull}
+use Rattle.ps2_layouts.specs.Status.{outputBufferFull, secondPortOutputFull}
 use Rattle.ps2_ports.specs.Refusals.{Success}
 use Rattle.ps2_ports.specs.Ports.{readStatus, flushOutputBuffer}
 use Rattle.ps2_polling.specs.Polling.{pollLimit}

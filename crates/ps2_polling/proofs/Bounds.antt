@@ -16,7 +16,7 @@ use Rattle.exchange.proofs.Silence.{repeat-attains-reads}
 use Rattle.ps2_bytes.specs.Commands.{controllerByte}
 use Rattle.ps2_bytes.specs.Responses.{portTestResultByte}
 use Rattle.ps2_bytes.specs.declared.response.PortTestResult.the-variants.{Passed}
-use Rattle.ps2_bytes.specs.Status.{inputBufferFull, outputBufferFull}
+use Rattle.ps2_layouts.specs.Status.{inputBufferFull, outputBufferFull}
 use Rattle.ps2_bytes.specs.Writable.{toDevice}
 use Rattle.ps2_bytes.specs.declared.command.HostToControllerCommand.{HostToControllerCommand}
 use Rattle.ps2_bytes.specs.declared.command.HostToControllerCommand.the-variants.{TestController}

@@ -15,7 +15,7 @@ use Rattle.exchange.proofs.Told.{bind-told}
 use Rattle.ps2_bytes.specs.declared.response.DeviceToHostResponse.{DeviceToHostResponse}
 use Rattle.ps2_bytes.specs.declared.response.ResponseByte.{ResponseByte}
 use Rattle.ps2_bytes.specs.Responses.{responses, responseRead}
-use Rattle.ps2_bytes.specs.Status.{outputBufferFull}
+use Rattle.ps2_layouts.specs.Status.{outputBufferFull}
 use Rattle.ps2_ports.specs.Refusals.{success, refused}
 use Rattle.ps2_ports.specs.Ports.{readPort, readData, saidByte}
 use Rattle.ps2_ports.specs.declared.ByteAnswer.{ByteAnswer}

@@ -19,7 +19,7 @@ use Rattle.ps2_bytes.specs.declared.command.HostToControllerCommand.the-variant
 use Rattle.ps2_bytes.specs.declared.response.PortTestResult.the-variants.{Passed}
 use Rattle.ps2_bytes.specs.declared.writable.HostToDevice.{HostToDevice}
 use Rattle.ps2_bytes.specs.Responses.{responses, portTestResultByte}
-use Rattle.ps2_bytes.specs.Status.{outputBufferFull, inputBufferFull}
+use Rattle.ps2_layouts.specs.Status.{outputBufferFull, inputBufferFull}
 use Rattle.ps2_bytes.specs.Writable.{toDevice}
 use Rattle.ps2_ports.specs.Refusals.{Success}
 use Rattle.ps2_ports.specs.Ports.{writePort, writeCommand}

@@ -21,7 +21,7 @@ use Rattle.exchange.proofs.Silence.{silence, silent-used}
 use Rattle.exchange.proofs.Steps.{no-script-yields, no-log-yields}
 use Rattle.ps2_bytes.proofs.ReadBack.{response-read-back}
 use Rattle.ps2_bytes.specs.Responses.{responseByte, responseRead, portTestResultByte}
-use Rattle.ps2_bytes.specs.Status.{inputBufferFull, outputBufferFull}
+use Rattle.ps2_layouts.specs.Status.{inputBufferFull, outputBufferFull}
 use Rattle.ps2_bytes.specs.Writable.{toDevice}
 use Rattle.ps2_bytes.specs.declared.command.HostToControllerCommand.{HostToControllerCommand}
 use Rattle.ps2_bytes.specs.declared.command.HostToControllerCommand.the-variants.{TestController}

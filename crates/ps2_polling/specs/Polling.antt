@@ -14,7 +14,7 @@ use Rattle.ps2_bytes.specs.declared.response.DeviceToHostResponse.{DeviceToHost
 use Rattle.ps2_bytes.specs.declared.response.PortTestResult.the-variants.{Passed}
 use Rattle.ps2_bytes.specs.declared.writable.HostToDevice.{HostToDevice}
 use Rattle.ps2_bytes.specs.Responses.{responses, portTestResultByte}
-use Rattle.ps2_bytes.specs.Status.{outputBufferFull, inputBufferFull}
+use Rattle.ps2_layouts.specs.Status.{outputBufferFull, inputBufferFull}
 use Rattle.ps2_bytes.specs.Writable.{toDevice}
 use Rattle.ps2_ports.specs.Refusals.{Success, success, refused}
 use Rattle.ps2_ports.specs.Ports.{writeCommand}

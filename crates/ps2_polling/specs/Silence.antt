@@ -7,7 +7,7 @@ use mathlib.Core.Path.{_≡_}
 use lib.ListN.{length, getD}
 use Rattle.bits.specs.Bits.{bit}
 use Rattle.ps2_bytes.specs.Responses.{responseByte}
-use Rattle.ps2_bytes.specs.Status.{outputBufferFull}
+use Rattle.ps2_layouts.specs.Status.{outputBufferFull}
 use Rattle.ps2_bytes.specs.declared.response.DeviceToHostResponse.{DeviceToHostResponse}
 
 -- The script begins with n bytes that have P, one for each read.

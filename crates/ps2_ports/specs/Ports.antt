@@ -6,8 +6,8 @@ use Rattle.exchange.specs.Exchange.{Port, p60, p64, Exchange, done, read, write
 use Rattle.exchange.specs.Answer.{Answer, gives}
 use Rattle.ps2_bytes.specs.declared.command.HostToControllerCommand.{HostToControllerCommand}
 use Rattle.ps2_bytes.specs.declared.command.HostToControllerCommand.the-variants.{ReadFromInternalRAMByte0, WriteToInternalRAMByte0}
-use Rattle.ps2_bytes.specs.declared.configuration.ControllerConfigurationByte.{ControllerConfigurationByte}
-use Rattle.ps2_bytes.specs.declared.status.ControllerToHostStatus.{ControllerToHostStatus}
+use Rattle.ps2_layouts.specs.declared.configuration.ControllerConfigurationByte.{ControllerConfigurationByte}
+use Rattle.ps2_layouts.specs.declared.status.ControllerToHostStatus.{ControllerToHostStatus}
 use Rattle.ps2_bytes.specs.declared.writable.WritableData.{WritableData}
 use Rattle.ps2_bytes.specs.Commands.{controllerByte}
 use Rattle.ps2_bytes.specs.Writable.{written}

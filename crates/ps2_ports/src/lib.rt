@@ -3,10 +3,10 @@ ghost use mathlib.Core.Path.{_≡_};
 ghost use Rattle.exchange.specs.Exchange.{Port, number, play, played, Reads, Writes};
 ghost use Rattle.ps2_ports.specs.Ports.{readPort, readData, readStatus, flushOutputBuffer, writePort, writeCommand, writeData, readConfig, writeConfig, saidByte, saidStatus, saidConfig};
 ghost use Rattle.ps2_ports.specs.Refusals.{saidDone};
-use ps2_bytes::ControllerConfigurationByte;
-use ps2_bytes::ControllerToHostStatus;
 use ps2_bytes::HostToControllerCommand;
 use ps2_bytes::WritableData;
+use ps2_layouts::ControllerConfigurationByte;
+use ps2_layouts::ControllerToHostStatus;
 
 // Data to and from the controller and its devices.
 const PS2_DATA_PORT: u8 = 0x60;

@@ -10,9 +10,9 @@ use crate::text::put_log;
 use crate::text::put_number;
 use crate::text::put_text;
 use ps2_bytes::KeyboardType;
-use ps2_bytes::MousePacket;
 use ps2_init::PS2Controller;
 use ps2_mouse::PS2Mouse;
+use ps2_packet::MousePacket;
 
 fn magnitude(number: i16) -> u16 {
     if number < 0 {

@@ -11,9 +11,9 @@ use Rattle.exchange.specs.Answer.{Answer, gives, refuses}
 use Rattle.keycodes_ascii.specs.declared.Character.{Character}
 use Rattle.keycodes_ascii.specs.declared.KeyEvent.{KeyEvent}
 use Rattle.keycodes_ascii.specs.Characters.{characterOf}
-use Rattle.ps2_bytes.specs.declared.packet.MousePacket.{MousePacket}
+use Rattle.ps2_packet.specs.declared.MousePacket.{MousePacket}
 use Rattle.ps2_bytes.specs.declared.response.MouseId.the-variants.{Zero}
-use Rattle.ps2_bytes.specs.Packet.{common, xMovement, wheel}
+use Rattle.ps2_packet.specs.Packet.{common, xMovement, wheel}
 use Rattle.ps2_mouse.specs.Mouse.{mouseCommand, readMousePacket}
 use Rattle.keyboard.specs.declared.Handled.{Handled}
 use Rattle.keyboard.specs.declared.KeyboardHandler.{KeyboardHandler}

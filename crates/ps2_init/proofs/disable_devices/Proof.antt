@@ -12,7 +12,7 @@ use Rattle.exchange.proofs.Position.{call-pairs-le, writes-pairs-le, writes-tai
 use Rattle.exchange.proofs.Calls.{writes-then, writes-yields}
 use Rattle.exchange.proofs.Grouping.{andThen-assoc}
 use Rattle.ps2_bytes.specs.declared.command.HostToControllerCommand.the-variants.{DisablePort1, DisablePort2}
-use Rattle.ps2_bytes.specs.declared.configuration.ControllerConfigurationByte.{ControllerConfigurationByte}
+use Rattle.ps2_layouts.specs.declared.configuration.ControllerConfigurationByte.{ControllerConfigurationByte}
 use Rattle.ps2_ports.specs.Ports.{writeCommand, flushOutputBuffer, readConfig}
 use Rattle.ps2_ports.specs.Refusals.{Success, success, saidDone}
 use Rattle.ps2_ports.proofs.Refusals.{bind-refused}

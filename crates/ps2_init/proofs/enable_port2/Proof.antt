@@ -8,7 +8,7 @@ use Rattle.exchange.proofs.Position.{writes-pairs-le, writes-tail-le}
 use Rattle.exchange.proofs.Calls.{writes-yields}
 use Rattle.ps2_ports.proofs.Refusals.{writes-refused}
 use Rattle.ps2_bytes.specs.declared.command.HostToControllerCommand.the-variants.{EnablePort2}
-use Rattle.ps2_bytes.specs.Configuration.{port2Interrupt, port2ClockDisabled}
+use Rattle.ps2_layouts.specs.Configuration.{port2Interrupt, port2ClockDisabled}
 use Rattle.ps2_ports.specs.Ports.{writeConfig, saidConfig}
 use Rattle.ps2_init.specs.Init.{enablePort}
 use Rattle.ps2_init.proofs.enable_port2.Statement.{statement}

@@ -4,7 +4,7 @@ use borrow.Author.Needs.{needs}
 use mathlib.Core.Bool.{false}
 use mathlib.Core.Path.{ap, _∙_}
 use Rattle.bits.specs.Bits.{putBit}
-use Rattle.ps2_bytes.specs.Configuration.{port2Interrupt, port1Translation}
+use Rattle.ps2_layouts.specs.Configuration.{port2Interrupt, port1Translation}
 use Rattle.ps2_init.specs.Init.{config}
 use Rattle.ps2_init.proofs.quieted.Statement.{statement}
 use Rattle.ps2_init.proofs.quieted.Tie as tie

@@ -4,7 +4,7 @@ use borrow.Author.Needs.{needs}
 use mathlib.Core.Bool.{true}
 use mathlib.Core.Path.{ap, _∙_}
 use Rattle.bits.specs.Bits.{putBit}
-use Rattle.ps2_bytes.specs.Configuration.{port1Interrupt, port2Interrupt}
+use Rattle.ps2_layouts.specs.Configuration.{port1Interrupt, port2Interrupt}
 use Rattle.ps2_init.specs.Init.{config}
 use Rattle.ps2_init.proofs.running.Statement.{statement}
 use Rattle.ps2_init.proofs.running.Tie as tie

@@ -6,8 +6,8 @@ use Rattle.bits.specs.Bits.{bit}
 use Rattle.exchange.specs.Answer.{gives, andThen, onGiven}
 use Rattle.exchange.specs.Exchange.{done}
 use Rattle.exchange.proofs.Calls.{reads-done}
-use Rattle.ps2_bytes.specs.Status.{outputBufferFull}
-use Rattle.ps2_bytes.specs.declared.status.ControllerToHostStatus.{ControllerToHostStatus}
+use Rattle.ps2_layouts.specs.Status.{outputBufferFull}
+use Rattle.ps2_layouts.specs.declared.status.ControllerToHostStatus.{ControllerToHostStatus}
 use Rattle.ps2_ports.specs.Ports.{readStatus, saidStatus}
 use Rattle.ps2_ports.proofs.Refusals.{reads-refused}
 use Rattle.ps2_keyboard.specs.Keyboard.{keyboardOutputBufferFull}

@@ -10,8 +10,8 @@ use Rattle.exchange.specs.Answer.{Answer, gives}
 use Rattle.exchange.specs.Repeat.{Turn, found, again}
 use Rattle.exchange.proofs.Position.{reads-used-le}
 use Rattle.exchange.proofs.Calls.{part-used-le, reads-done, reads-yields}
-use Rattle.ps2_bytes.specs.declared.status.ControllerToHostStatus.{ControllerToHostStatus}
-use Rattle.ps2_bytes.specs.Status.{outputBufferFull}
+use Rattle.ps2_layouts.specs.declared.status.ControllerToHostStatus.{ControllerToHostStatus}
+use Rattle.ps2_layouts.specs.Status.{outputBufferFull}
 use Rattle.ps2_ports.specs.Ports.{readStatus, saidStatus}
 use Rattle.ps2_ports.proofs.Refusals.{onAnswer, reads-refused-turn}
 use Rattle.ps2_polling.specs.Polling.{dataTurn, poll}

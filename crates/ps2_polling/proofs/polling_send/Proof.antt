@@ -14,10 +14,10 @@ use Rattle.exchange.specs.Repeat.{Turn, found, again, turned, repeat}
 use Rattle.exchange.proofs.Position.{reached-start, reached-same}
 use Rattle.exchange.proofs.Calls.{part-used-le, reached-call-reads, reached-last-reads, reached-last-writes}
 use Rattle.exchange.proofs.Repeat.{reached-turn, reached-over}
-use Rattle.ps2_bytes.specs.declared.status.ControllerToHostStatus.{ControllerToHostStatus}
+use Rattle.ps2_layouts.specs.declared.status.ControllerToHostStatus.{ControllerToHostStatus}
 use Rattle.ps2_bytes.specs.declared.writable.HostToDevice.{HostToDevice}
 use Rattle.ps2_bytes.specs.declared.writable.WritableData.{WritableData}
-use Rattle.ps2_bytes.specs.Status.{inputBufferFull}
+use Rattle.ps2_layouts.specs.Status.{inputBufferFull}
 use Rattle.ps2_bytes.specs.Writable.{toDevice}
 use Rattle.ps2_ports.specs.declared.StatusAnswer.{StatusAnswer}
 use Rattle.ps2_ports.specs.Refusals.{Success, success}

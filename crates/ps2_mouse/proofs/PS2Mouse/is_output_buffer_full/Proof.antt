@@ -7,7 +7,7 @@ use Rattle.bits.specs.Bits.{bit}
 use Rattle.exchange.specs.Exchange.{done}
 use Rattle.exchange.specs.Answer.{gives, andThen, onGiven}
 use Rattle.exchange.proofs.Calls.{reads-done}
-use Rattle.ps2_bytes.specs.Status.{secondPortOutputFull}
+use Rattle.ps2_layouts.specs.Status.{secondPortOutputFull}
 use Rattle.ps2_ports.specs.Ports.{readStatus, saidStatus}
 use Rattle.ps2_ports.proofs.Refusals.{reads-refused}
 use Rattle.ps2_mouse.specs.Mouse.{mouseByteWaits, mouseOutputBufferFull}

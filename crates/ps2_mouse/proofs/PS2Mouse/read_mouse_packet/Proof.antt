@@ -7,10 +7,10 @@ use Rattle.exchange.specs.Exchange.{done}
 use Rattle.exchange.specs.Answer.{gives}
 use Rattle.exchange.proofs.Position.{reads-used-le}
 use Rattle.exchange.proofs.Calls.{part-used-le}
-use Rattle.ps2_bytes.specs.declared.packet.MousePacket.the-variants as Packet
-use Rattle.ps2_bytes.specs.declared.packet.MousePacketGeneric.{MousePacketGeneric}
+use Rattle.ps2_packet.specs.declared.MousePacket.the-variants as Packet
+use Rattle.ps2_packet.specs.declared.MousePacketGeneric.{MousePacketGeneric}
 use Rattle.ps2_bytes.specs.declared.response.MouseId.{MouseId}
-use Rattle.ps2_bytes.specs.Packet.{packet3, packet4}
+use Rattle.ps2_packet.specs.Packet.{packet3, packet4}
 use Rattle.ps2_mouse.proofs.PacketReads.{afterThree, packet-refused, packet-whole, packet-byte, packet-no-byte}
 use Rattle.ps2_mouse.proofs.PS2Mouse.read_mouse_packet.Statement.{statement}
 use Rattle.ps2_mouse.proofs.PS2Mouse.read_mouse_packet.Tie as tie

@@ -1,0 +1,2 @@
+-- Laws of the bytes' bits.
+pub mod LampByte

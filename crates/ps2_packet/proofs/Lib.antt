@@ -1,0 +1,5 @@
+-- Laws of mouse packets.
+pub mod Signed
+pub mod Movement
+pub mod Wheel
+pub mod Length

@@ -1,0 +1,3 @@
+-- Mouse packets.
+pub mod Signed
+pub mod Packet
