@@ -23,7 +23,8 @@ use Rattle.ps2_polling.proofs.Attained.{attains-test, attains-test-port}
 use Rattle.ps2_keyboard.proofs.Bounds.{within-resetKeyboard, attains-resetKeyboard}
 use Rattle.ps2_mouse.proofs.Bounds.{within-resetMouse, attains-resetMouse}
 use Rattle.ps2_init.specs.declared.PS2Controller.{PS2Controller}
-use Rattle.ps2_init.specs.Init.{config, quieted, hasMouse, running, disableDevices, testWith, Ports, testSecond, atLeastOne, testPorts, enablePort, enablePorts, resetDevices, setUp, orPassed, initialize}
+use Rattle.ps2_setup.specs.SetUp.{config, quieted, running, disableDevices, testWith, Ports, testSecond, atLeastOne, testPorts, enablePort, enablePorts}
+use Rattle.ps2_init.specs.Init.{hasMouse, resetDevices, setUp, orPassed, initialize}
 
 -- ---- each step
 

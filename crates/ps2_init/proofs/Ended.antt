@@ -19,7 +19,8 @@ use Rattle.ps2_ports.specs.Ports.{writePort, writeCommand, flushOutputBuffer, r
 use Rattle.ps2_polling.proofs.Refuses.{refuses-test}
 use Rattle.ps2_init.specs.declared.PS2Controller.{PS2Controller}
 use Rattle.ps2_init.specs.Ended.{Ended, already, ready, controller-failed, ports-failed}
-use Rattle.ps2_init.specs.Init.{quieted, hasMouse, disableDevices, testWith, Ports, testSecond, testPorts, enablePort, enablePorts, resetDevices, setUp, orPassed, initialize}
+use Rattle.ps2_setup.specs.SetUp.{quieted, disableDevices, testWith, Ports, testSecond, testPorts, enablePort, enablePorts}
+use Rattle.ps2_init.specs.Init.{hasMouse, resetDevices, setUp, orPassed, initialize}
 
 -- ---- what each step refuses with: 8 the controller's test, 9 the ports' tests, nothing the others
 

@@ -20,7 +20,8 @@ use Rattle.ps2_command.proofs.Runs.{room}
 use Rattle.ps2_keyboard.specs.Keyboard.{commandToKeyboard, resetKeyboard}
 use Rattle.ps2_mouse.specs.Mouse.{commandToMouse, resetMouse}
 use Rattle.ps2_init.specs.declared.PS2Controller.{PS2Controller}
-use Rattle.ps2_init.specs.Init.{disableDevices, testWith, testPorts, enablePorts, resetDevices, setUp, initialize}
+use Rattle.ps2_setup.specs.SetUp.{disableDevices, testWith, testPorts, enablePorts}
+use Rattle.ps2_init.specs.Init.{resetDevices, setUp, initialize}
 
 abbrev controller : Bool → Bool → Bool → PS2Controller
 controller i k m = record { initialized = i; «keyboard_attached» = k; «mouse_attached» = m }

@@ -1,5 +1,4 @@
 -- Initialisation of the controller.
 pub mod Init
 pub mod Ended
-pub mod Configuration
 pub mod Answers

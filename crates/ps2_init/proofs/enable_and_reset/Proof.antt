@@ -9,8 +9,9 @@ use Rattle.exchange.proofs.Calls.{writes-then}
 use Rattle.ps2_ports.proofs.Refusals.{bind-refused}
 use Rattle.exchange.specs.Exchange.{bind}
 use Rattle.ps2_ports.specs.Refusals.{saidDone}
-use Rattle.ps2_init.specs.Init.{enablePorts, resetDevices, readLast}
-use Rattle.ps2_init.specs.Answers.{portsOf}
+use Rattle.ps2_setup.specs.SetUp.{enablePorts}
+use Rattle.ps2_init.specs.Init.{resetDevices, readLast}
+use Rattle.ps2_setup.specs.Answers.{portsOf}
 use Rattle.ps2_init.proofs.enable_and_reset.Statement.{statement}
 use Rattle.ps2_init.proofs.enable_and_reset.Tie as tie
 

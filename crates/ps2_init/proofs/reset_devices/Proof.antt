@@ -6,8 +6,8 @@ use mathlib.Core.Path.{refl, ap}
 use Rattle.exchange.proofs.Position.{call-used-le, call-pairs-le, call-tail-le}
 use Rattle.exchange.proofs.Calls.{bind-yields, two-used-le, two-pairs-le}
 use Rattle.exchange.specs.Refuses.{succeeds}
-use Rattle.ps2_init.specs.Answers.{saidTrial}
-use Rattle.ps2_init.proofs.Trials.{succeeds-tried, bind-lacked}
+use Rattle.ps2_setup.specs.Answers.{saidTrial}
+use Rattle.ps2_setup.proofs.Trials.{succeeds-tried, bind-lacked}
 use Rattle.exchange.specs.Exchange.{bind}
 use Rattle.ps2_keyboard.specs.Keyboard.{resetKeyboard}
 use Rattle.ps2_mouse.specs.Mouse.{resetMouse}

@@ -8,7 +8,8 @@ use Rattle.exchange.proofs.Calls.{bind-yields, two-used-le, two-pairs-le}
 use Rattle.exchange.specs.Answer.{onGiven, andThen}
 use Rattle.ps2_ports.proofs.Refusals.{bind-refused}
 use Rattle.ps2_ports.specs.Ports.{saidConfig}
-use Rattle.ps2_init.specs.Init.{disableDevices, quieted, hasMouse, setUp, tested}
+use Rattle.ps2_setup.specs.SetUp.{disableDevices, quieted}
+use Rattle.ps2_init.specs.Init.{hasMouse, setUp, tested}
 use Rattle.ps2_init.proofs.set_up.Statement.{statement}
 use Rattle.ps2_init.proofs.set_up.Tie as tie
 

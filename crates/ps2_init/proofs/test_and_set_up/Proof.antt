@@ -8,7 +8,8 @@ use Rattle.exchange.proofs.Calls.{bind-yields, two-used-le, two-pairs-le}
 use Rattle.exchange.specs.Answer.{onGiven, andThen}
 use Rattle.ps2_ports.proofs.Refusals.{bind-refused}
 use Rattle.ps2_ports.specs.Refusals.{saidDone}
-use Rattle.ps2_init.specs.Init.{testWith, portsTested}
+use Rattle.ps2_setup.specs.SetUp.{testWith}
+use Rattle.ps2_init.specs.Init.{portsTested}
 use Rattle.ps2_init.proofs.test_and_set_up.Statement.{statement}
 use Rattle.ps2_init.proofs.test_and_set_up.Tie as tie
 

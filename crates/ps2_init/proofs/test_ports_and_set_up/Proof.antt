@@ -7,8 +7,9 @@ use Rattle.exchange.proofs.Position.{call-used-le, call-pairs-le, call-tail-le}
 use Rattle.exchange.proofs.Calls.{bind-yields, two-used-le, two-pairs-le}
 use Rattle.exchange.specs.Answer.{onGiven, andThen}
 use Rattle.ps2_ports.proofs.Refusals.{bind-refused}
-use Rattle.ps2_init.specs.Init.{testPorts, enabled}
-use Rattle.ps2_init.specs.Answers.{saidPorts}
+use Rattle.ps2_setup.specs.SetUp.{testPorts}
+use Rattle.ps2_init.specs.Init.{enabled}
+use Rattle.ps2_setup.specs.Answers.{saidPorts}
 use Rattle.ps2_init.proofs.test_ports_and_set_up.Statement.{statement}
 use Rattle.ps2_init.proofs.test_ports_and_set_up.Tie as tie
 
