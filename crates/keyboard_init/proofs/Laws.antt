@@ -10,8 +10,10 @@ use Rattle.exchange.proofs.Then.{within-then, attains-then, within-as, attains-
 use Rattle.ps2_bytes.specs.declared.data.ScancodeSet.the-variants.{Set1}
 use Rattle.ps2_ports.specs.Refusals.{success}
 use Rattle.ps2_command.proofs.Refuses.{commandAnd}
-use Rattle.ps2_keyboard.specs.Keyboard.{setScancodeSet, keyboardDetect}
-use Rattle.ps2_keyboard.proofs.Bounds.{attains-setScancodeSet, most-setScancodeSet, attains-keyboardDetect, most-keyboardDetect}
+use Rattle.ps2_keyboard.specs.Keyboard.{setScancodeSet}
+use Rattle.ps2_detect.specs.Detection.{keyboardDetect}
+use Rattle.ps2_keyboard.proofs.Bounds.{attains-setScancodeSet, most-setScancodeSet}
+use Rattle.ps2_detect.proofs.Bounds.{attains-keyboardDetect, most-keyboardDetect}
 use Rattle.ps2_keyboard.proofs.Refuses.{refuses-setScancodeSet}
 use Rattle.keyboard_init.specs.KeyboardInit.{detection, keyboardInit}
 

@@ -11,7 +11,8 @@ use Rattle.ps2_ports.specs.Refusals.{success}
 use Rattle.ps2_polling.specs.Polling.{sendTry, pollingSend, poll, pollingReceive, pollingSendReceive}
 use Rattle.ps2_command.specs.Command.{attempt, command}
 use Rattle.ps2_command.proofs.Runs.{room, fa}
-use Rattle.ps2_keyboard.specs.Keyboard.{commandToKeyboard, commandScancodeSet, getScancodeSet, setScancodeSet, outerSearch, innerSearch, typeSearch, keyboardDetect}
+use Rattle.ps2_keyboard.specs.Keyboard.{commandToKeyboard, commandScancodeSet, getScancodeSet, setScancodeSet}
+use Rattle.ps2_detect.specs.Detection.{outerSearch, innerSearch, typeSearch, keyboardDetect}
 use Rattle.keyboard_init.specs.KeyboardInit.{detection, keyboardInit}
 
 -- In order: a keyboard of type AB 83 in set 1; one that fails its self test at F5, which is 18; one that does so at F0, which is 6.

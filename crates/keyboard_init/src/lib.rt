@@ -1,16 +1,16 @@
 // Keyboard initialisation: the keyboard's type is detected and its scancode set chosen, and the handler starts from a fresh record.
 ghost use mathlib.Core.Path.{_≡_};
 ghost use Rattle.exchange.specs.Exchange.{play, played};
-ghost use Rattle.ps2_keyboard.specs.Answers.{saidType};
+ghost use Rattle.ps2_detect.specs.Answers.{saidType};
 ghost use Rattle.keyboard_init.specs.KeyboardInit.{detection, keyboardInit};
 ghost use Rattle.keyboard.specs.Record.{fresh};
 ghost use Rattle.ps2_ports.specs.Refusals.{saidDone};
 use keyboard::KeyboardHandler;
 use ps2_bytes::ScancodeSet;
 use ps2_command::refusing_as;
-use ps2_keyboard::Detected;
-use ps2_keyboard::TypeAnswer;
-use ps2_keyboard::keyboard_detect;
+use ps2_detect::Detected;
+use ps2_detect::TypeAnswer;
+use ps2_detect::keyboard_detect;
 use ps2_keyboard::set_keyboard_scancode_set;
 use ps2_ports::Completion;
 use ps2_ports::Failure;

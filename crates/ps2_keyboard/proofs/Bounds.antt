@@ -8,14 +8,13 @@ use Rattle.exchange.specs.Exchange.{done, bind}
 use Rattle.exchange.specs.Answer.{gives, refuses, andThen}
 use Rattle.exchange.specs.Attains.{Attains, attains-done, attains-read, Most}
 use Rattle.exchange.specs.Bounds.{Within, within-done, within-read}
-use Rattle.exchange.proofs.Attains.{attains-bind, attains-last}
-use Rattle.exchange.proofs.Bounds.{within-bind, within-repeat}
+use Rattle.exchange.proofs.Attains.{attains-last}
+use Rattle.exchange.proofs.Bounds.{within-repeat}
 use Rattle.exchange.proofs.Then.{within-then, attains-then, within-as, attains-as}
 use Rattle.ps2_bytes.specs.declared.command.HostToKeyboardCommand.the-variants as Command
 use Rattle.ps2_layouts.specs.declared.leds.LEDState.{LEDState}
 use Rattle.ps2_bytes.specs.declared.data.ScancodeSet.{ScancodeSet}
 use Rattle.ps2_bytes.specs.declared.data.ScancodeSet.the-variants as Set
-use Rattle.ps2_bytes.specs.declared.response.KeyboardType.the-variants.{MF2Keyboard}
 use Rattle.ps2_bytes.specs.declared.writable.HostToDevice.the-variants.{Keyboard}
 use Rattle.ps2_bytes.specs.declared.writable.HostToKeyboardCommandOrData.{HostToKeyboardCommandOrData}
 use Rattle.ps2_bytes.specs.declared.writable.HostToKeyboardCommandOrData.the-variants as Byte
@@ -28,16 +27,16 @@ use Rattle.ps2_polling.proofs.Attained.{attains-poll}
 use Rattle.ps2_command.specs.Command.{accepted}
 use Rattle.ps2_command.specs.Search.{listedTurn, selfTestWithin}
 use Rattle.ps2_command.proofs.Bounds.{within-command, attains-command, within-selfTest, attains-selfTest}
-use Rattle.ps2_keyboard.specs.Keyboard.{commandToKeyboard, resetReads, resetKeyboard, setLedBy, setKeyboardLed, commandScancodeSet, getScancodeSet, setScancodeSet, FirstByte, none, came00, cameAB, firstTurn, outerSearch, secondBytes, innerSearch, typeAfter, typeSearch, keyboardDetect, readScancode, keyboardOutputBufferFull}
+use Rattle.ps2_keyboard.specs.Keyboard.{commandToKeyboard, resetReads, resetKeyboard, setLedBy, setKeyboardLed, commandScancodeSet, getScancodeSet, setScancodeSet, readScancode, keyboardOutputBufferFull}
 
 -- ---- a command: 525,300 reads and 4 writes
 
 module _ (value : HostToKeyboardCommandOrData) where
-  within-keyboard : Within 525300 4 (commandToKeyboard value)
+  pub within-keyboard : Within 525300 4 (commandToKeyboard value)
   unfolding commandToKeyboard
   within-keyboard = within-command (Keyboard value)
 
-  attains-keyboard : Attains (gives accepted) 525300 4 (commandToKeyboard value)
+  pub attains-keyboard : Attains (gives accepted) 525300 4 (commandToKeyboard value)
   unfolding commandToKeyboard
   attains-keyboard = attains-command (Keyboard value)
 
@@ -108,47 +107,6 @@ module _ (set : ScancodeSet) where
         yielded = gives success;
         attains = attains-setScancodeSet;
       }
-
--- ---- detection
-
-within-typeAfter : (first : FirstByte) → Within 131070 0 (typeAfter first)
-unfolding innerSearch
-within-typeAfter none = within-done
-within-typeAfter came00 = within-done
-within-typeAfter cameAB = within-repeat (within-poll (listedTurn secondBytes)) (refuses 12) pollLimit
-
-within-typeSearch : Within 262140 0 typeSearch
-unfolding typeSearch outerSearch
-within-typeSearch = within-bind (within-repeat (within-poll firstTurn) none pollLimit) within-typeAfter
-
--- AB with the last poll of the outer search, and 83 with the last of the inner one
-attains-typeSearch : Attains (gives MF2Keyboard) 262140 0 typeSearch
-unfolding typeSearch outerSearch innerSearch decode
-attains-typeSearch =
-    attains-bind (λ first. typeAfter first)
-    (attains-last none (attains-poll firstTurn 1 (omega arith)) 65534 (attains-poll firstTurn 0xAB (omega arith)))
-    (attains-last (refuses 12) (attains-poll (listedTurn secondBytes) 1 (omega arith)) 65534 (attains-poll (listedTurn secondBytes) 0x83 (omega arith)))
-
-pub attains-keyboardDetect : Attains (gives MF2Keyboard) 1838040 12 keyboardDetect
-unfolding keyboardDetect
-attains-keyboardDetect =
-    attains-then _ (attains-keyboard (Byte.KeyboardCommand Command.DisableScanning))
-    (attains-then _ (attains-keyboard (Byte.KeyboardCommand Command.IdentifyKeyboard))
-    (attains-bind _ attains-typeSearch
-    (attains-then (λ _. done (gives MF2Keyboard)) (attains-keyboard (Byte.KeyboardCommand Command.EnableScanning)) attains-done)))
-
-pub most-keyboardDetect : Most 1838040 12 keyboardDetect
-unfolding keyboardDetect
-most-keyboardDetect =
-    record {
-      within =
-          within-then (within-keyboard (Byte.KeyboardCommand Command.DisableScanning))
-          (λ _. within-then (within-keyboard (Byte.KeyboardCommand Command.IdentifyKeyboard))
-          (λ _. within-bind within-typeSearch
-          (λ _. within-then (within-keyboard (Byte.KeyboardCommand Command.EnableScanning)) (λ _. within-done {r = 0} {w = 0}))));
-      yielded = gives MF2Keyboard;
-      attains = attains-keyboardDetect;
-    }
 
 -- ---- one byte
 

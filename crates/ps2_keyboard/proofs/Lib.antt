@@ -2,6 +2,6 @@
 pub mod Bounds
 pub mod Refuses
 pub mod Reset
-pub mod Detection
+pub mod NoSet
 pub mod Turns
 pub mod Worked

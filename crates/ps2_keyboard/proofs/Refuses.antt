@@ -6,8 +6,7 @@ use Rattle.exchange.specs.Exchange.{Exchange}
 use Rattle.exchange.specs.Answer.{Answer, refuses, andThen}
 use Rattle.exchange.specs.Only.{only-done}
 use Rattle.exchange.specs.Refuses.{RefusesWith, Refuses}
-use Rattle.exchange.proofs.Only.{only-bind}
-use Rattle.exchange.proofs.Then.{only-any, only-repeat, refuses-then, refuses-more, refuses-as}
+use Rattle.exchange.proofs.Then.{only-repeat, refuses-then, refuses-more, refuses-as}
 use Rattle.ps2_bytes.specs.declared.command.HostToKeyboardCommand.the-variants as Command
 use Rattle.ps2_layouts.specs.declared.leds.LEDState.{LEDState}
 use Rattle.ps2_bytes.specs.declared.data.ScancodeSet.{ScancodeSet}
@@ -21,7 +20,7 @@ use Rattle.ps2_polling.proofs.Refuses.{only-poll, finds-listed}
 use Rattle.ps2_command.specs.Command.{Accepted}
 use Rattle.ps2_command.specs.Search.{listedTurn}
 use Rattle.ps2_command.proofs.Refuses.{commandRefusals, commandAnd, refuses-command, refuses-selfTest}
-use Rattle.ps2_keyboard.specs.Keyboard.{commandToKeyboard, resetReads, resetKeyboard, setLedBy, setKeyboardLed, commandScancodeSet, getScancodeSet, setScancodeSet, FirstByte, none, came00, cameAB, secondBytes, innerSearch, typeAfter, typeSearch, keyboardDetect}
+use Rattle.ps2_keyboard.specs.Keyboard.{commandToKeyboard, resetReads, resetKeyboard, setLedBy, setKeyboardLed, commandScancodeSet, getScancodeSet, setScancodeSet}
 
 -- 4 to 7, as every command
 pub refuses-commandToKeyboard : (value : HostToKeyboardCommandOrData) → Refuses commandRefusals (commandToKeyboard value)
@@ -29,7 +28,7 @@ unfolding commandToKeyboard
 refuses-commandToKeyboard value = refuses-command (Keyboard value)
 
 -- a command inside an operation with further numbers
-also-refuses : (n : ℕ) (value : HostToKeyboardCommandOrData) → Refuses (commandAnd n) (commandToKeyboard value)
+pub also-refuses : (n : ℕ) (value : HostToKeyboardCommandOrData) → Refuses (commandAnd n) (commandToKeyboard value)
 also-refuses n value = refuses-more commandRefusals (commandAnd n) tt (refuses-commandToKeyboard value)
 
 pub refuses-resetKeyboard : Refuses (4 ∷ 5 ∷ 6 ∷ 7 ∷ 10 ∷ []) resetKeyboard
@@ -65,24 +64,3 @@ unfolding setScancodeSet
 refuses-setScancodeSet set =
     refuses-then (commandAnd 11) (refuses-more commandRefusals (commandAnd 11) tt (refuses-commandScancodeSet set))
     (λ _. refuses-then (commandAnd 11) refuses-getScancodeSet (λ _. only-done tt))
-
--- ---- detection
-
-refuses-typeAfter : (first : FirstByte) → Refuses (12 ∷ []) (typeAfter first)
-unfolding innerSearch
-refuses-typeAfter none = only-done tt
-refuses-typeAfter came00 = only-done tt
-refuses-typeAfter cameAB = only-repeat (only-poll (RefusesWith (12 ∷ [])) (listedTurn secondBytes) (finds-listed (12 ∷ []) secondBytes)) tt pollLimit
-
-refuses-typeSearch : Refuses (12 ∷ []) typeSearch
-unfolding typeSearch
-refuses-typeSearch = only-bind (only-any _) (λ first _. refuses-typeAfter first)
-
-pub refuses-keyboardDetect : Refuses (4 ∷ 5 ∷ 6 ∷ 7 ∷ 12 ∷ []) keyboardDetect
-unfolding keyboardDetect
-refuses-keyboardDetect =
-    let ns = commandAnd 12 in
-    refuses-then ns (also-refuses 12 (Byte.KeyboardCommand Command.DisableScanning))
-    (λ _. refuses-then ns (also-refuses 12 (Byte.KeyboardCommand Command.IdentifyKeyboard))
-    (λ _. only-bind (refuses-more (12 ∷ []) ns tt refuses-typeSearch)
-    (λ type h. refuses-then ns (also-refuses 12 (Byte.KeyboardCommand Command.EnableScanning)) (λ _. only-done h))))

@@ -8,16 +8,15 @@ use Rattle.exchange.specs.Exchange.{bind, yields, noScript, played, play}
 use Rattle.exchange.specs.Answer.{gives, refuses, andThen, refusingAs}
 use Rattle.exchange.specs.Repeat.{repeat}
 use Rattle.ps2_bytes.specs.declared.data.ScancodeSet.the-variants.{Set1}
-use Rattle.ps2_bytes.specs.declared.response.KeyboardType.the-variants.{MF2Keyboard, MF2KeyboardWithPSControllerTranslator, AncientATKeyboard}
 use Rattle.ps2_ports.specs.Refusals.{success}
 use Rattle.ps2_polling.specs.Polling.{sendTry, pollingSend, poll, pollingReceive, pollingSendReceive}
 use Rattle.ps2_command.specs.Command.{accepted, attempt, command}
 use Rattle.ps2_command.specs.Search.{selfTestWithin}
 use Rattle.ps2_command.proofs.Runs.{room, fa}
-use Rattle.ps2_keyboard.specs.Keyboard.{commandToKeyboard, resetKeyboard, setLedBy, setKeyboardLed, commandScancodeSet, getScancodeSet, setScancodeSet, outerSearch, innerSearch, typeSearch, keyboardDetect}
+use Rattle.ps2_keyboard.specs.Keyboard.{commandToKeyboard, resetKeyboard, setLedBy, setKeyboardLed, commandScancodeSet, getScancodeSet, setScancodeSet}
 
 -- In order: the lamp exchange of document 01's row 3; a failed one; the AA that accepts FF is not the reset's own, and a further one is;
--- a set other than the one asked for; AB 83; AB, then the inner search throws 00 away, and 41; AB C1; 00; F4 refused after a type was found.
+-- a set other than the one asked for.
 pub runs :
     (play (setKeyboardLed (record { bits = 4 })) (fa ++ fa) (room 2) ≡ played (yields (gives accepted)) 6 2 (0x60 ∷ 0xED ∷ 0x60 ∷ 0x04 ∷ []))
     × (play (setKeyboardLed (record { bits = 4 })) (0x00 ∷ 0x01 ∷ 0xFC ∷ []) (room 2) ≡ played (yields (refuses 14)) 3 1 (0x60 ∷ 0xED ∷ 0 ∷ 0 ∷ []))
@@ -25,15 +24,5 @@ pub runs :
     × (play resetKeyboard (0x00 ∷ 0x01 ∷ 0xAA ∷ 0xFA ∷ 0xAA ∷ []) (room 1) ≡ played (yields (gives success)) 5 1 (0x60 ∷ 0xFF ∷ []))
     × (play (setScancodeSet Set1) (fa ++ fa ++ fa ++ fa ++ (0x01 ∷ 0x02 ∷ [])) (room 4)
     ≡ played (yields (gives success)) 14 4 (0x60 ∷ 0xF0 ∷ 0x60 ∷ 0x01 ∷ 0x60 ∷ 0xF0 ∷ 0x60 ∷ 0x00 ∷ []))
-    × (play keyboardDetect (fa ++ fa ++ (0x01 ∷ 0xAB ∷ 0x01 ∷ 0x83 ∷ fa)) (room 3)
-    ≡ played (yields (gives MF2Keyboard)) 13 3 (0x60 ∷ 0xF5 ∷ 0x60 ∷ 0xF2 ∷ 0x60 ∷ 0xF4 ∷ []))
-    × (play keyboardDetect (fa ++ fa ++ (0x01 ∷ 0xAB ∷ 0x01 ∷ 0x00 ∷ 0x00 ∷ 0x01 ∷ 0x41 ∷ fa)) (room 3)
-    ≡ played (yields (gives MF2KeyboardWithPSControllerTranslator)) 16 3 (0x60 ∷ 0xF5 ∷ 0x60 ∷ 0xF2 ∷ 0x60 ∷ 0xF4 ∷ []))
-    × (play keyboardDetect (fa ++ fa ++ (0x01 ∷ 0xAB ∷ 0x01 ∷ 0xC1 ∷ fa)) (room 3)
-    ≡ played (yields (gives MF2KeyboardWithPSControllerTranslator)) 13 3 (0x60 ∷ 0xF5 ∷ 0x60 ∷ 0xF2 ∷ 0x60 ∷ 0xF4 ∷ []))
-    × (play keyboardDetect (fa ++ fa ++ (0x01 ∷ 0x00 ∷ fa)) (room 3)
-    ≡ played (yields (gives AncientATKeyboard)) 11 3 (0x60 ∷ 0xF5 ∷ 0x60 ∷ 0xF2 ∷ 0x60 ∷ 0xF4 ∷ []))
-    × (play keyboardDetect (fa ++ fa ++ (0x01 ∷ 0x00 ∷ 0x00 ∷ 0x01 ∷ 0xFC ∷ [])) (room 3)
-    ≡ played (yields (refuses 6)) 11 3 (0x60 ∷ 0xF5 ∷ 0x60 ∷ 0xF2 ∷ 0x60 ∷ 0xF4 ∷ []))
-unfolding play bind andThen refusingAs repeat setKeyboardLed setLedBy commandToKeyboard command attempt pollingSendReceive pollingSend sendTry pollingReceive poll decode bit odd resetKeyboard selfTestWithin setScancodeSet commandScancodeSet getScancodeSet keyboardDetect typeSearch outerSearch innerSearch
-runs = (refl, refl, refl, refl, refl, refl, refl, refl, refl, refl)
+unfolding play bind andThen refusingAs repeat setKeyboardLed setLedBy commandToKeyboard command attempt pollingSendReceive pollingSend sendTry pollingReceive poll decode bit odd resetKeyboard selfTestWithin setScancodeSet commandScancodeSet getScancodeSet
+runs = (refl, refl, refl, refl, refl)

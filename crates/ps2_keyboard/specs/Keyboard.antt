@@ -1,20 +1,16 @@
 -- The keyboard's operations, each as a tree of its reads and writes.
 -- Assumes nothing.
-use mathlib.Core.Bool.{Bool, cond}
-use mathlib.Core.List.{List, [], _∷_}
+use mathlib.Core.Bool.{Bool}
 use Prim.Native.Nat.{ℕ}
-use lib.Dec.{eqb}
 use Rattle.bits.specs.Bits.{bit}
-use Rattle.exchange.specs.Exchange.{Exchange, done, bind}
+use Rattle.exchange.specs.Exchange.{Exchange, done}
 use Rattle.exchange.specs.Answer.{Answer, gives, refuses, andThen, refusingAs}
-use Rattle.exchange.specs.Repeat.{Turn, found, again, repeat}
+use Rattle.exchange.specs.Repeat.{repeat}
 use Rattle.ps2_bytes.specs.declared.command.HostToKeyboardCommand.{HostToKeyboardCommand}
 use Rattle.ps2_bytes.specs.declared.command.HostToKeyboardCommand.the-variants as Command
 use Rattle.ps2_layouts.specs.declared.leds.LEDState.{LEDState}
 use Rattle.ps2_bytes.specs.declared.data.ScancodeSet.{ScancodeSet}
 use Rattle.ps2_bytes.specs.declared.data.ScancodeSet.the-variants as Set
-use Rattle.ps2_bytes.specs.declared.response.KeyboardType.{KeyboardType}
-use Rattle.ps2_bytes.specs.declared.response.KeyboardType.the-variants.{MF2Keyboard, MF2KeyboardWithPSControllerTranslator, AncientATKeyboard}
 use Rattle.ps2_bytes.specs.declared.writable.HostToDevice.the-variants.{Keyboard}
 use Rattle.ps2_bytes.specs.declared.writable.HostToKeyboardCommandOrData.{HostToKeyboardCommandOrData}
 use Rattle.ps2_bytes.specs.declared.writable.HostToKeyboardCommandOrData.the-variants as Byte
@@ -69,44 +65,6 @@ getScancodeSet = andThen (commandScancodeSet Set.Get) (λ _. repeat pollLimit (r
 -- "F0, the set, F0, 00, polls for a byte 0 to 3; a different set still succeeds."
 unfoldable pub setScancodeSet : ScancodeSet → Exchange (Answer Success)
 setScancodeSet set = andThen (commandScancodeSet set) (λ _. andThen getScancodeSet (λ _. done (gives success)))
-
--- ---- detection
-
--- What the outer search of a detection comes to: no byte of meaning, 00 or AB.
-pub data FirstByte : Type 0 where
-  none : FirstByte
-  came00 : FirstByte
-  cameAB : FirstByte
-
-abbrev pub firstTurn : ℕ → Turn FirstByte
-firstTurn b = cond (eqb b 0x00) (found came00) (cond (eqb b 0xAB) (found cameAB) again)
-
-unfoldable pub outerSearch : Exchange FirstByte
-outerSearch = repeat pollLimit none (poll firstTurn)
-
--- "41 or C1 translated, 83 plain"
-abbrev pub secondBytes : List (ℕ × KeyboardType)
-secondBytes =
-    (0x41, MF2KeyboardWithPSControllerTranslator) ∷ (0xC1, MF2KeyboardWithPSControllerTranslator) ∷ (0x83, MF2Keyboard) ∷ []
-
--- "Did `keyboard_detect` recognise a type? 12" 00 is the ancient type; AB starts the inner search, which ends the outer one too, found or not.
-unfoldable pub innerSearch : Exchange (Answer KeyboardType)
-innerSearch = repeat pollLimit (refuses 12) (poll (listedTurn secondBytes))
-
-abbrev pub typeAfter : FirstByte → Exchange (Answer KeyboardType)
-typeAfter none = done (refuses 12)
-typeAfter came00 = done (gives AncientATKeyboard)
-typeAfter cameAB = innerSearch
-
-unfoldable pub typeSearch : Exchange (Answer KeyboardType)
-typeSearch = bind outerSearch (λ first. typeAfter first)
-
--- "F5, F2, up to 65,535 polls .. Then F4, whose failure outweighs the type."
-unfoldable pub keyboardDetect : Exchange (Answer KeyboardType)
-keyboardDetect =
-    andThen (keyboardCommand Command.DisableScanning)
-    (λ _. andThen (keyboardCommand Command.IdentifyKeyboard)
-    (λ _. bind typeSearch (λ type. andThen (keyboardCommand Command.EnableScanning) (λ _. done type))))
 
 -- ---- one byte
 

@@ -2,4 +2,3 @@
 pub mod Keyboard
 pub mod Parts
 pub mod Answers
-pub mod Unrecognised

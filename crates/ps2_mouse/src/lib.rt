@@ -31,6 +31,7 @@ use ps2_packet::MousePacket;
 use ps2_packet::MousePacket3;
 use ps2_packet::MousePacket4;
 use ps2_packet::MousePacketGeneric;
+use ps2_polling::POLL_LIMIT;
 use ps2_ports::ByteAnswer;
 use ps2_ports::Completed;
 use ps2_ports::CompletedRead;
@@ -44,10 +45,7 @@ use ps2_ports::flush_output_buffer;
 use ps2_ports::read_data;
 use ps2_ports::status_register;
 
-// The most polls for an identity.
-const POLL_LIMIT: u16 = 65535;
-
-// The most data reads of a reset, three times as many.
+// The most data reads of a reset: three times the polls of a search.
 const RESET_READS: u32 = 196605;
 
 // The mouse as its record says it is. A mouse's packets go by its identity.

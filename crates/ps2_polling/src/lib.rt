@@ -26,8 +26,8 @@ use ps2_ports::write_data;
 // The most status reads of a sending.
 const SEND_TRIES: u8 = 255;
 
-// The most polls of a receiving or a port test, and data reads of the controller's test.
-const POLL_LIMIT: u32 = 65535;
+// The most polls of a receiving, of a port test and of a search for a byte, and data reads of the controller's test.
+pub const POLL_LIMIT: u32 = 65535;
 
 // A port's answer to its test where it passed.
 const PORT_TEST_PASSED: u8 = 0x00;

@@ -295,7 +295,11 @@ pub fn lack_refusal(lack: Lack) -> Refusal
 }
 
 // Enables the ports that passed, and then writes the configuration that says so.
-pub fn enable_ports(log: &mut [u8], ports: WorkingPorts, config: ControllerConfigurationByte) -> Written
+pub fn enable_ports(
+    log: &mut [u8],
+    ports: WorkingPorts,
+    config: ControllerConfigurationByte,
+) -> Written
     ensures { λ r. ⌜ Writes (enablePorts (portsOf ports) config) (now (log .entry)) (saidDone (r .answer)) (r .pairs) (now (log .exit)) ⌝ }
 {
     let e = enable_port(log, DevicePort::Port1, ports.port_1_works, config);

@@ -4,7 +4,7 @@ use borrow.Author.Needs.{needs}
 use mathlib.Core.Path.{ap}
 use Rattle.ps2_ports.specs.declared.Failure.the-variants.{KeyboardNotDetected}
 use Rattle.ps2_command.proofs.Replaced.{refusing-gives, refusing-refused}
-use Rattle.ps2_keyboard.specs.Answers.{saidType}
+use Rattle.ps2_detect.specs.Answers.{saidType}
 use Rattle.keyboard_init.specs.KeyboardInit.{detection}
 use Rattle.keyboard_init.proofs.detect_type.Statement.{statement}
 use Rattle.keyboard_init.proofs.detect_type.Tie as tie

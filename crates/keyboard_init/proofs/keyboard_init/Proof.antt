@@ -9,7 +9,7 @@ use Rattle.exchange.proofs.Calls.{bind-yields, two-used-le, two-pairs-le}
 use Rattle.ps2_bytes.specs.declared.data.ScancodeSet.the-variants.{Set1}
 use Rattle.ps2_ports.proofs.Refusals.{bind-refused}
 use Rattle.ps2_keyboard.specs.Keyboard.{setScancodeSet}
-use Rattle.ps2_keyboard.specs.Answers.{saidType}
+use Rattle.ps2_detect.specs.Answers.{saidType}
 use Rattle.keyboard_init.specs.KeyboardInit.{detection, keyboardInit}
 use Rattle.keyboard_init.proofs.keyboard_init.Statement.{statement}
 use Rattle.keyboard_init.proofs.keyboard_init.Tie as tie

@@ -7,8 +7,8 @@ use Rattle.exchange.specs.Exchange.{done}
 use Rattle.exchange.proofs.Calls.{bind-done}
 use Rattle.ps2_command.specs.Command.{saidCommand}
 use Rattle.ps2_command.proofs.Accepted.{refused-then}
-use Rattle.ps2_keyboard.proofs.enable_scanning.Statement.{statement}
-use Rattle.ps2_keyboard.proofs.enable_scanning.Tie as tie
+use Rattle.ps2_detect.proofs.enable_scanning.Statement.{statement}
+use Rattle.ps2_detect.proofs.enable_scanning.Tie as tie
 
 returns : tie.Need-returns
 unfolding andThen

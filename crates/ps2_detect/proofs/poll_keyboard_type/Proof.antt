@@ -17,10 +17,10 @@ use Rattle.ps2_polling.specs.Polling.{poll}
 use Rattle.ps2_polling.proofs.Polls.{poll-turn}
 use Rattle.ps2_polling.proofs.Brought.{poll-brings, poll-brings-nothing, poll-lacks}
 use Rattle.ps2_command.specs.Search.{listedTurn}
-use Rattle.ps2_keyboard.specs.Keyboard.{none, firstTurn, outerSearch, secondBytes, innerSearch, typeAfter, typeSearch}
-use Rattle.ps2_keyboard.proofs.Turns.{second-turn, first-00, first-AB, first-other}
-use Rattle.ps2_keyboard.proofs.poll_keyboard_type.Statement.{statement}
-use Rattle.ps2_keyboard.proofs.poll_keyboard_type.Tie as tie
+use Rattle.ps2_detect.specs.Detection.{none, firstTurn, outerSearch, secondBytes, innerSearch, typeAfter, typeSearch}
+use Rattle.ps2_detect.proofs.Turns.{second-turn, first-00, first-AB, first-other}
+use Rattle.ps2_detect.proofs.poll_keyboard_type.Statement.{statement}
+use Rattle.ps2_detect.proofs.poll_keyboard_type.Tie as tie
 
 abbrev Inv-loop : tie.InvT-loop
 Inv-loop script used₀ polls first inner-polls₀ used inner-polls = ReadTo typeSearch script (repeat inner-polls (refuses 12) (poll (listedTurn secondBytes))) used

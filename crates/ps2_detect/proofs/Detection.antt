@@ -1,4 +1,4 @@
--- 12 and 11: what must have been read before them.
+-- 12: what must have been read before it.
 -- Assumes nothing.
 use Prim.Native.Nat.{ℕ}
 use native.Mathlib.Omega.{arith}
@@ -8,30 +8,26 @@ use mathlib.Core.Path.{_≡_}
 use lib.Dec.{eqb}
 use Rattle.bits.specs.Bits.{bit}
 use Rattle.exchange.specs.Exchange.{done, yields, play}
-use Rattle.exchange.specs.Answer.{Answer, gives, refuses, andThen}
+use Rattle.exchange.specs.Answer.{Answer, refuses, andThen}
 use Rattle.exchange.specs.Repeat.{Turn, found, again}
 use Rattle.exchange.specs.Search.{Search, scriptAfter, logAfter, After}
-use Rattle.exchange.proofs.Search.{bind-after, then-refuses, refuses-then-both, gives-then-both, search-play, search-finds}
+use Rattle.exchange.proofs.Search.{bind-after, then-refuses, search-play, search-finds}
 use Rattle.exchange.proofs.Then.{on-cond, Finds}
 use Rattle.ps2_bytes.specs.declared.command.HostToKeyboardCommand.the-variants as Command
-use Rattle.ps2_bytes.specs.declared.data.ScancodeSet.{ScancodeSet}
-use Rattle.ps2_bytes.specs.declared.data.ScancodeSet.the-variants as Set
 use Rattle.ps2_bytes.specs.declared.response.KeyboardType.{KeyboardType}
 use Rattle.ps2_bytes.specs.declared.writable.HostToKeyboardCommandOrData.the-variants as Byte
-use Rattle.ps2_bytes.specs.Data.{scancodeSets}
 use Rattle.ps2_layouts.specs.Status.{outputBufferFull}
-use Rattle.ps2_ports.specs.Refusals.{success}
 use Rattle.ps2_polling.specs.Polling.{pollLimit, poll}
-use Rattle.ps2_command.specs.Search.{listedTurn, PollBrings}
-use Rattle.ps2_command.specs.Command.{accepted}
+use Rattle.ps2_command.specs.Search.{PollBrings}
 use Rattle.ps2_command.proofs.Refuses.{commandRefusals}
 use Rattle.ps2_command.proofs.Reset.{the-accepted}
 use Rattle.ps2_command.proofs.Search.{brings-any-poll, polled-finds, listed-refuses-any}
-use Rattle.ps2_keyboard.specs.Keyboard.{FirstByte, none, came00, cameAB, firstTurn, outerSearch, secondBytes, innerSearch, typeAfter, typeSearch, keyboardDetect, keyboardCommand, commandScancodeSet, getScancodeSet, setScancodeSet}
-use Rattle.ps2_keyboard.specs.Unrecognised.{Unrecognised, no-first-byte, no-second-byte, Undetected}
-use Rattle.ps2_keyboard.proofs.Refuses.{refuses-commandToKeyboard, refuses-commandScancodeSet}
+use Rattle.ps2_keyboard.specs.Keyboard.{keyboardCommand}
+use Rattle.ps2_keyboard.proofs.Refuses.{refuses-commandToKeyboard}
+use Rattle.ps2_detect.specs.Detection.{FirstByte, none, came00, cameAB, firstTurn, outerSearch, secondBytes, innerSearch, typeAfter, typeSearch, keyboardDetect}
+use Rattle.ps2_detect.specs.Unrecognised.{Unrecognised, no-first-byte, no-second-byte, Undetected}
 
--- ---- 12: the outer search, and the inner one
+-- ---- the outer search, and the inner one
 
 -- a first byte of meaning
 CameOne : FirstByte → Type 0
@@ -64,7 +60,7 @@ module _ (s l : List ℕ) where
       let z = bind-after (λ first. typeAfter first) outerSearch s l (refuses 12) h in
       by-first (z .0) (z .1) (search-play (PollBrings (bit outputBufferFull) firstTurn) (poll firstTurn) none (brings-any-poll firstTurn) pollLimit s l (z .0) (z .1 .before))
 
--- ---- 12 of the whole detection: F5 and F2 were accepted before the searches, and F4 after them
+-- ---- the whole detection: F5 and F2 were accepted before the searches, and F4 after them
 
 -- the answer is the search's own where F4 refuses otherwise
 enabled : (type : Answer KeyboardType) (s l : List ℕ) → play (andThen (keyboardCommand Command.EnableScanning) (λ _. done type)) s l .end ≡ yields (refuses 12)
@@ -92,27 +88,3 @@ detect-refuses s l h =
       asked = rw (the-accepted (b .0)) at (b .1 .before);
       unrecognised = type-search-refuses s₂ l₂ (rw q at (c .1 .before));
     }
-
--- ---- 11: F0 and 00 were accepted, and then none of 65,535 polls brought a byte 0 to 3
-
-pub get-set-refuses : (s l : List ℕ) → play getScancodeSet s l .end ≡ yields (refuses 11)
-    → (play (commandScancodeSet Set.Get) s l .end ≡ yields (gives accepted))
-    × (rest : List ℕ) × Search (PollBrings (bit outputBufferFull) (listedTurn scancodeSets)) pollLimit again (scriptAfter (commandScancodeSet Set.Get) s l) rest
-unfolding getScancodeSet
-get-set-refuses s l h =
-    let t = commandScancodeSet Set.Get in
-    let z = then-refuses t _ s l commandRefusals (refuses-commandScancodeSet Set.Get) 11 (λ x. x) h in (
-      rw (the-accepted (z .0)) at (z .1 .before),
-      _,
-      listed-refuses-any scancodeSets 11 pollLimit (scriptAfter t s l) (logAfter t s l) (z .1 .after),
-    )
-
--- and 11, as every refusal of the getting, is the answer of the setting that asked for it
-pub set-set-refuses : (set : ScancodeSet) (s l : List ℕ) (n : ℕ) → play (commandScancodeSet set) s l .end ≡ yields (gives accepted)
-    → play getScancodeSet (scriptAfter (commandScancodeSet set) s l) (logAfter (commandScancodeSet set) s l) .end ≡ yields (refuses n)
-    → play (setScancodeSet set) s l .end ≡ yields (refuses n)
-unfolding setScancodeSet
-set-set-refuses set s l n h k =
-    let t = commandScancodeSet set in
-    gives-then-both t _ s l accepted (refuses n)
-    (record { before = h; after = refuses-then-both getScancodeSet (λ _. done (gives success)) (scriptAfter t s l) (logAfter t s l) n k })

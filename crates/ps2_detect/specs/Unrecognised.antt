@@ -13,7 +13,8 @@ use Rattle.ps2_layouts.specs.Status.{outputBufferFull}
 use Rattle.ps2_polling.specs.Polling.{pollLimit}
 use Rattle.ps2_command.specs.Command.{accepted}
 use Rattle.ps2_command.specs.Search.{listedTurn, PollBrings}
-use Rattle.ps2_keyboard.specs.Keyboard.{keyboardCommand, cameAB, firstTurn, secondBytes}
+use Rattle.ps2_keyboard.specs.Keyboard.{keyboardCommand}
+use Rattle.ps2_detect.specs.Detection.{cameAB, firstTurn, secondBytes}
 
 -- Neither 00 nor AB came with 65,535 polls; or AB came, and then 41, C1 or 83 did not with 65,535 more.
 pub data Unrecognised (script : List ℕ) : Type 0 where

@@ -9,10 +9,11 @@ use Rattle.exchange.proofs.Position.{call-used-le, call-pairs-le, call-tail-le}
 use Rattle.exchange.proofs.Calls.{two-used-le, two-pairs-le}
 use Rattle.ps2_bytes.specs.declared.command.HostToKeyboardCommand.the-variants.{DisableScanning, IdentifyKeyboard}
 use Rattle.ps2_command.proofs.Accepted.{accepted-then, refused-then}
-use Rattle.ps2_keyboard.specs.Keyboard.{keyboardCommand, keyboardDetect}
-use Rattle.ps2_keyboard.specs.Parts.{identification}
-use Rattle.ps2_keyboard.proofs.keyboard_detect.Statement.{statement}
-use Rattle.ps2_keyboard.proofs.keyboard_detect.Tie as tie
+use Rattle.ps2_keyboard.specs.Keyboard.{keyboardCommand}
+use Rattle.ps2_detect.specs.Detection.{keyboardDetect}
+use Rattle.ps2_detect.specs.Parts.{identification}
+use Rattle.ps2_detect.proofs.keyboard_detect.Statement.{statement}
+use Rattle.ps2_detect.proofs.keyboard_detect.Tie as tie
 
 -- the two commands by themselves, and what follows them
 detect-pair : andThen (andThen (keyboardCommand DisableScanning) (λ _. keyboardCommand IdentifyKeyboard)) (λ _. identification) ≡ keyboardDetect

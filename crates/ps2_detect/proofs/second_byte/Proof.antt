@@ -3,9 +3,9 @@
 use mathlib.Core.Path.{sym}
 use Rattle.bits.specs.Table.{decode}
 use Rattle.bits.proofs.Table.{decode-missing}
-use Rattle.ps2_keyboard.specs.Keyboard.{secondBytes}
-use Rattle.ps2_keyboard.proofs.second_byte.Statement.{statement}
-use Rattle.ps2_keyboard.proofs.second_byte.Tie as tie
+use Rattle.ps2_detect.specs.Detection.{secondBytes}
+use Rattle.ps2_detect.proofs.second_byte.Statement.{statement}
+use Rattle.ps2_detect.proofs.second_byte.Tie as tie
 
 unlisted : tie.Need-returns-4
 unlisted c = sym (decode-missing _ _ (Unit {0}) secondBytes _ (c .match .rest))

@@ -7,11 +7,11 @@ use mathlib.Core.Path.{ap, _∙_}
 use Rattle.exchange.proofs.Position.{reads-used-le, call-used-le}
 use Rattle.exchange.proofs.Calls.{reads-then, reads-then-no-script, bind-no-log}
 use Rattle.ps2_ports.specs.Refusals.{refused}
-use Rattle.ps2_keyboard.specs.Keyboard.{typeSearch}
-use Rattle.ps2_keyboard.specs.Parts.{enabledAfter}
-use Rattle.ps2_keyboard.specs.Answers.{saidType}
-use Rattle.ps2_keyboard.proofs.identify.Statement.{statement}
-use Rattle.ps2_keyboard.proofs.identify.Tie as tie
+use Rattle.ps2_detect.specs.Detection.{typeSearch}
+use Rattle.ps2_detect.specs.Parts.{enabledAfter}
+use Rattle.ps2_detect.specs.Answers.{saidType}
+use Rattle.ps2_detect.proofs.identify.Statement.{statement}
+use Rattle.ps2_detect.proofs.identify.Tie as tie
 
 returns : tie.Need-returns
 returns c =

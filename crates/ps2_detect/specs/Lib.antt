@@ -1,0 +1,5 @@
+-- The detection of a keyboard's type.
+pub mod Detection
+pub mod Parts
+pub mod Answers
+pub mod Unrecognised
