@@ -25,8 +25,6 @@ use Rattle.ps2_bytes.specs.declared.response.MouseId.the-variants.{Zero, Three,
 use Rattle.ps2_bytes.specs.declared.writable.HostToDevice.the-variants.{Mouse}
 use Rattle.ps2_bytes.specs.declared.writable.HostToMouseCommandOrData.{HostToMouseCommandOrData}
 use Rattle.ps2_bytes.specs.declared.writable.HostToMouseCommandOrData.the-variants as Byte
-use Rattle.ps2_packet.specs.Packet.{generic, packet3, packet4, packetLength}
-use Rattle.ps2_packet.specs.declared.MousePacket.the-variants as Packet
 use Rattle.ps2_bytes.specs.Responses.{mouseIds}
 use Rattle.ps2_ports.specs.Refusals.{success}
 use Rattle.ps2_ports.specs.Ports.{readStatus, flushOutputBuffer}
@@ -35,7 +33,7 @@ use Rattle.ps2_command.specs.Command.{accepted}
 use Rattle.ps2_command.specs.Search.{listedTurn}
 use Rattle.ps2_command.proofs.Bounds.{within-commandToPort2, attains-commandToPort2, within-selfTest, attains-selfTest, within-pollWhen, attains-pollWhen}
 use Rattle.ps2_mouse.specs.declared.PS2Mouse.{PS2Mouse}
-use Rattle.ps2_mouse.specs.Mouse.{commandToMouse, mouseCommand, resetReads, resetMouse, setSamplingRate, setResolution, disablePacketStreaming, enablePacketStreaming, mouseByteWaits, mouseId, mouseOutputBufferFull, readMousePacket}
+use Rattle.ps2_mouse.specs.Mouse.{commandToMouse, mouseCommand, resetReads, resetMouse, setSamplingRate, setResolution, disablePacketStreaming, enablePacketStreaming, mouseByteWaits, mouseId, mouseOutputBufferFull}
 use Rattle.ps2_mouse.specs.Identity.{setRates, wheelRates, buttonRates, readOr, secondIdentity, afterFirst, newIdentity, succeeded, startPackets, setMouseId}
 
 -- ---- a command: 525,300 reads and 5 writes
@@ -194,27 +192,4 @@ most-setMouseId mouse =
           (attains-then _ attains-disable
           (attains-then _ (attains-setRates wheelRates) (attains-bind (λ first. afterFirst (mouse .id) first) attains-mouseId (attains-afterFirst (mouse .id)))))
           (attains-told (λ a. left (succeeded a) (record { id = Three })) attains-enable);
-    }
-
--- ---- packets: as many reads as the identity's packet has bytes
-
-pub most-readMousePacket : (id : MouseId) → Most (packetLength id) 0 (readMousePacket id)
-unfolding readMousePacket
-most-readMousePacket Zero =
-    record {
-      within = within-read (λ _. within-read (λ _. within-read (λ _. within-done)));
-      yielded = gives (Packet.Zero (generic 0 0 0));
-      attains = attains-read 0 (omega arith) (attains-read 0 (omega arith) (attains-read 0 (omega arith) attains-done));
-    }
-most-readMousePacket Three =
-    record {
-      within = within-read (λ _. within-read (λ _. within-read (λ _. within-read (λ _. within-done))));
-      yielded = gives (Packet.Three (packet3 0 0 0 0));
-      attains = attains-read 0 (omega arith) (attains-read 0 (omega arith) (attains-read 0 (omega arith) (attains-read 0 (omega arith) attains-done)));
-    }
-most-readMousePacket Four =
-    record {
-      within = within-read (λ _. within-read (λ _. within-read (λ _. within-read (λ _. within-done))));
-      yielded = gives (Packet.Four (packet4 0 0 0 0));
-      attains = attains-read 0 (omega arith) (attains-read 0 (omega arith) (attains-read 0 (omega arith) (attains-read 0 (omega arith) attains-done)));
     }

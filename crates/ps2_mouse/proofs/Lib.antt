@@ -4,10 +4,8 @@ pub mod Refuses
 pub mod Identity
 pub mod Reset
 pub mod NoIdentity
-pub mod Packet
 pub mod Polls
 pub mod Record
 pub mod Rates
 pub mod Forgives
-pub mod PacketReads
 pub mod Worked

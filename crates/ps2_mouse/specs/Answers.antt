@@ -1,11 +1,9 @@
 -- The record of a new mouse, and what the code's answers say of the ends of plays.
 -- Assumes nothing.
-use Prim.Native.Nat.{ℕ}
 use Rattle.exchange.specs.Exchange.{End, yields, toldEnd}
 use Rattle.exchange.specs.Answer.{Answer, gives}
 use Rattle.exchange.specs.Left.{Left, left}
 use Rattle.exchange.specs.Repeat.{Turn, again, foundEnd}
-use Rattle.ps2_packet.specs.declared.MousePacket.{MousePacket}
 use Rattle.ps2_bytes.specs.declared.response.MouseId.{MouseId}
 use Rattle.ps2_bytes.specs.declared.response.MouseId.the-variants.{Zero}
 use Rattle.ps2_ports.specs.declared.Completion.{Completion}
@@ -13,12 +11,9 @@ use Rattle.ps2_ports.specs.declared.Refusal.{Refusal}
 use Rattle.ps2_ports.specs.declared.Refusal.the-variants.{ScriptUsedUp, LogFull, Failed}
 use Rattle.ps2_ports.specs.Refusals.{Success, refused, saidDone}
 use Rattle.ps2_mouse.specs.declared.PS2Mouse.{PS2Mouse}
-use Rattle.ps2_mouse.specs.declared.FirstBytes.{FirstBytes}
-use Rattle.ps2_mouse.specs.declared.BytesAnswer.{BytesAnswer}
 use Rattle.ps2_mouse.specs.declared.AskedAnswer.{AskedAnswer}
 use Rattle.ps2_mouse.specs.declared.IdAnswer.{IdAnswer}
 use Rattle.ps2_mouse.specs.declared.IdPoll.{IdPoll}
-use Rattle.ps2_mouse.specs.declared.PacketAnswer.{PacketAnswer}
 
 -- The identity of a PS/2 mouse is 0 until a sequence of rates has changed it.
 abbrev pub freshMouse : PS2Mouse
@@ -38,18 +33,6 @@ saidAsked (AskedAnswer.Refused r) = refused r
 abbrev pub saidIdPoll : IdPoll → End (Turn (Answer MouseId))
 saidIdPoll (IdPoll.Settled a) = foundEnd (saidId a)
 saidIdPoll IdPoll.Again = yields again
-
--- The bytes that every packet starts with, in the order in which they come.
-abbrev pub firstBytes : ℕ → ℕ → ℕ → FirstBytes
-firstBytes b1 b2 b3 = record { byte1 = b1; byte2 = b2; byte3 = b3 }
-
-abbrev pub saidBytes : BytesAnswer → End (Answer FirstBytes)
-saidBytes (BytesAnswer.Bytes b) = yields (gives b)
-saidBytes (BytesAnswer.Refused r) = refused r
-
-abbrev pub saidPacket : PacketAnswer → End (Answer MousePacket)
-saidPacket (PacketAnswer.Packet p) = yields (gives p)
-saidPacket (PacketAnswer.Refused r) = refused r
 
 -- An answer that comes with the record as it is left. A used-up script and a full log say nothing of the record; `recordAfter` does.
 abbrev pub saidMouse : Completion → PS2Mouse → End (Left PS2Mouse Success)

@@ -3,21 +3,17 @@
 use mathlib.Core.Bool.{Bool, _&&_}
 use Prim.Native.Nat.{ℕ}
 use Rattle.bits.specs.Bits.{bit}
-use Rattle.exchange.specs.Exchange.{p60, Exchange, done, read}
+use Rattle.exchange.specs.Exchange.{Exchange, done}
 use Rattle.exchange.specs.Answer.{Answer, gives, refuses, andThen, refusingAs}
 use Rattle.exchange.specs.Repeat.{repeat}
 use Rattle.ps2_bytes.specs.declared.command.HostToMouseCommand.{HostToMouseCommand}
 use Rattle.ps2_bytes.specs.declared.command.HostToMouseCommand.the-variants as Command
 use Rattle.ps2_bytes.specs.declared.data.MouseResolution.{MouseResolution}
 use Rattle.ps2_bytes.specs.declared.data.MouseSampleRate.{MouseSampleRate}
-use Rattle.ps2_packet.specs.declared.MousePacket.{MousePacket}
-use Rattle.ps2_packet.specs.declared.MousePacket.the-variants as Packet
 use Rattle.ps2_bytes.specs.declared.response.MouseId.{MouseId}
-use Rattle.ps2_bytes.specs.declared.response.MouseId.the-variants.{Zero, Three, Four}
 use Rattle.ps2_bytes.specs.declared.writable.HostToDevice.the-variants.{Mouse}
 use Rattle.ps2_bytes.specs.declared.writable.HostToMouseCommandOrData.{HostToMouseCommandOrData}
 use Rattle.ps2_bytes.specs.declared.writable.HostToMouseCommandOrData.the-variants as Byte
-use Rattle.ps2_packet.specs.Packet.{generic, packet3, packet4}
 use Rattle.ps2_bytes.specs.Responses.{mouseIds}
 use Rattle.ps2_layouts.specs.Status.{outputBufferFull, secondPortOutputFull}
 use Rattle.ps2_ports.specs.Refusals.{Success}
@@ -75,15 +71,3 @@ mouseId = andThen (mouseCommand Command.GetDeviceID) (λ _. repeat pollLimit (re
 -- Whether there is a byte of the mouse to read.
 unfoldable pub mouseOutputBufferFull : Exchange (Answer Bool)
 mouseOutputBufferFull = andThen readStatus (λ status. done (gives (mouseByteWaits (status .bits))))
-
--- ---- packets
-
--- Three bytes of data, in the order in which they come.
-abbrev pub threeBytes : {A : Type 0} → (ℕ → ℕ → ℕ → Exchange A) → Exchange A
-threeBytes next = read p60 (λ b1. read p60 (λ b2. read p60 (λ b3. next b1 b2 b3)))
-
--- "A packet is 3 bytes at identity 0, 4 at 3 and 4, read without asking the status."
-unfoldable pub readMousePacket : MouseId → Exchange (Answer MousePacket)
-readMousePacket Zero = threeBytes (λ b1 b2 b3. done (gives (Packet.Zero (generic b1 b2 b3))))
-readMousePacket Three = threeBytes (λ b1 b2 b3. read p60 (λ b4. done (gives (Packet.Three (packet3 b1 b2 b3 b4)))))
-readMousePacket Four = threeBytes (λ b1 b2 b3. read p60 (λ b4. done (gives (Packet.Four (packet4 b1 b2 b3 b4)))))

@@ -1,4 +1,4 @@
-// The mouse: its commands, its reset, its identity and its packets.
+// The mouse: its commands, its reset, its identity; its packets are read by crates/ps2_packet_reading.
 ghost use mathlib.Core.Path.{_≡_};
 ghost use mathlib.Core.List.{List};
 ghost use Prim.Native.Nat.{ℕ};
@@ -12,9 +12,10 @@ ghost use Rattle.ps2_ports.specs.Refusals.{numberOf, saidDone};
 ghost use Rattle.ps2_polling.specs.Polling.{pollLimit};
 ghost use Rattle.ps2_command.specs.Command.{Accepted, saidCommand};
 ghost use Rattle.ps2_command.specs.Search.{pollWhen, listedTurn, selfTestWithin};
-ghost use Rattle.ps2_mouse.specs.Mouse.{commandToMouse, mouseCommand, resetReads, resetMouse, setSamplingRate, setResolution, disablePacketStreaming, enablePacketStreaming, mouseByteWaits, mouseId as mouseIdRule, mouseOutputBufferFull, threeBytes, readMousePacket};
+ghost use Rattle.ps2_mouse.specs.Mouse.{commandToMouse, mouseCommand, resetReads, resetMouse, setSamplingRate, setResolution, disablePacketStreaming, enablePacketStreaming, mouseByteWaits, mouseId as mouseIdRule, mouseOutputBufferFull};
 ghost use Rattle.ps2_mouse.specs.Identity.{setRates, identityAfter, wheelRates, buttonRates, secondIdentity, afterFirst, newIdentity, startPackets, setMouseId};
-ghost use Rattle.ps2_mouse.specs.Answers.{freshMouse, forgivenAs, saidId, saidAsked, saidIdPoll, firstBytes, saidBytes, saidPacket, saidMouse};
+ghost use Rattle.ps2_mouse.specs.Answers.{freshMouse, forgivenAs, saidId, saidAsked, saidIdPoll, saidMouse};
+ghost use Rattle.ps2_packet_reading.specs.Reading.{readMousePacket, saidPacket};
 use ps2_bytes::HostToDevice;
 use ps2_bytes::HostToMouseCommand;
 use ps2_bytes::HostToMouseCommandOrData;
@@ -27,10 +28,8 @@ use ps2_command::Commanded;
 use ps2_command::command_to_port2;
 use ps2_command::read_self_test_result;
 use ps2_command::refusing_as;
-use ps2_packet::MousePacket;
-use ps2_packet::MousePacket3;
-use ps2_packet::MousePacket4;
-use ps2_packet::MousePacketGeneric;
+use ps2_packet_reading::PacketRead;
+use ps2_packet_reading::read_packet;
 use ps2_polling::POLL_LIMIT;
 use ps2_ports::ByteAnswer;
 use ps2_ports::Completed;
@@ -90,34 +89,6 @@ enum IdPoll {
 
 struct IdPolled {
     pub poll: IdPoll,
-    pub used: usize,
-}
-
-// The bytes that every packet starts with.
-struct FirstBytes {
-    byte1: u8,
-    byte2: u8,
-    byte3: u8,
-}
-
-enum BytesAnswer {
-    Bytes(FirstBytes),
-    Refused(Refusal),
-}
-
-struct BytesRead {
-    pub answer: BytesAnswer,
-    pub used: usize,
-}
-
-// A packet of the mouse.
-pub enum PacketAnswer {
-    Packet(MousePacket),
-    Refused(Refusal),
-}
-
-pub struct PacketRead {
-    pub answer: PacketAnswer,
     pub used: usize,
 }
 
@@ -298,65 +269,7 @@ impl PS2Mouse {
         ensures { λ r. ⌜ Reads (readMousePacket (self .id)) (now (script .entry)) (saidPacket (r .answer)) (r .used) ⌝ }
     {
         let id = self.id;
-        let t = read_three(script);
-        let used = t.used;
-        let read = t.answer;
-        match read {
-            BytesAnswer::Bytes(b) => match id {
-                MouseId::Zero => PacketRead {
-                    answer: PacketAnswer::Packet(MousePacket::Zero(MousePacketGeneric::from_bytes(
-                        b.byte1,
-                        b.byte2,
-                        b.byte3,
-                    ))),
-                    used,
-                },
-                MouseId::Three => {
-                    let d = read_data(&script[used..]);
-                    let both = used + d.used;
-                    let last = d.answer;
-                    match last {
-                        ByteAnswer::Byte(byte4) => PacketRead {
-                            answer: PacketAnswer::Packet(MousePacket::Three(MousePacket3::from_bytes(
-                                b.byte1,
-                                b.byte2,
-                                b.byte3,
-                                byte4,
-                            ))),
-                            used: both,
-                        },
-                        ByteAnswer::Refused(e) => PacketRead {
-                            answer: PacketAnswer::Refused(e),
-                            used: both,
-                        },
-                    }
-                }
-                MouseId::Four => {
-                    let d = read_data(&script[used..]);
-                    let both = used + d.used;
-                    let last = d.answer;
-                    match last {
-                        ByteAnswer::Byte(byte4) => PacketRead {
-                            answer: PacketAnswer::Packet(MousePacket::Four(MousePacket4::from_bytes(
-                                b.byte1,
-                                b.byte2,
-                                b.byte3,
-                                byte4,
-                            ))),
-                            used: both,
-                        },
-                        ByteAnswer::Refused(e) => PacketRead {
-                            answer: PacketAnswer::Refused(e),
-                            used: both,
-                        },
-                    }
-                }
-            },
-            BytesAnswer::Refused(e) => PacketRead {
-                answer: PacketAnswer::Refused(e),
-                used,
-            },
-        }
+        read_packet(id, script)
     }
 
     // Whether there is a byte of the mouse to read. Bit 0 alone would also be set for the FA before an identity.
@@ -753,51 +666,6 @@ fn start_packets(script: &[u8], log: &mut [u8], mouse: PS2Mouse, id: MouseId) ->
                 used,
                 pairs,
             },
-        },
-    }
-}
-
-// Three bytes of data, one after another.
-fn read_three(script: &[u8]) -> BytesRead
-    ensures { λ r. ⌜ Reads (threeBytes (λ b1 b2 b3. done (gives (firstBytes b1 b2 b3)))) (now (script .entry)) (saidBytes (r .answer)) (r .used) ⌝ }
-{
-    let d1 = read_data(script);
-    let one = d1.used;
-    let first = d1.answer;
-    match first {
-        ByteAnswer::Byte(byte1) => {
-            let d2 = read_data(&script[one..]);
-            let two = one + d2.used;
-            let second = d2.answer;
-            match second {
-                ByteAnswer::Byte(byte2) => {
-                    let d3 = read_data(&script[two..]);
-                    let three = two + d3.used;
-                    let third = d3.answer;
-                    match third {
-                        ByteAnswer::Byte(byte3) => BytesRead {
-                            answer: BytesAnswer::Bytes(FirstBytes {
-                                byte1,
-                                byte2,
-                                byte3,
-                            }),
-                            used: three,
-                        },
-                        ByteAnswer::Refused(e) => BytesRead {
-                            answer: BytesAnswer::Refused(e),
-                            used: three,
-                        },
-                    }
-                }
-                ByteAnswer::Refused(e) => BytesRead {
-                    answer: BytesAnswer::Refused(e),
-                    used: two,
-                },
-            }
-        }
-        ByteAnswer::Refused(e) => BytesRead {
-            answer: BytesAnswer::Refused(e),
-            used: one,
         },
     }
 }

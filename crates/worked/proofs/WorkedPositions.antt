@@ -14,7 +14,8 @@ use Rattle.ps2_ports.specs.Ports.{writePort}
 use Rattle.ps2_polling.specs.Polling.{sendTry, pollingSend, poll, pollingReceive, pollingSendReceive}
 use Rattle.ps2_command.specs.Command.{attempt, command, commandToPort2}
 use Rattle.ps2_keyboard.specs.Keyboard.{commandToKeyboard, setLedBy, setKeyboardLed}
-use Rattle.ps2_mouse.specs.Mouse.{commandToMouse, readMousePacket}
+use Rattle.ps2_mouse.specs.Mouse.{commandToMouse}
+use Rattle.ps2_packet_reading.specs.Reading.{readMousePacket}
 use Rattle.keyboard.specs.Events.{keycodeAt, eventOf}
 use Rattle.keyboard.specs.FlagTable.{flagTable, flagLimit, isOf, pressesLock}
 use Rattle.keyboard.specs.FlagsAfter.{flagsAfter, flagsThen}

@@ -14,7 +14,8 @@ use Rattle.keycodes_ascii.specs.Characters.{characterOf}
 use Rattle.ps2_packet.specs.declared.MousePacket.{MousePacket}
 use Rattle.ps2_bytes.specs.declared.response.MouseId.the-variants.{Zero}
 use Rattle.ps2_packet.specs.Packet.{common, xMovement, wheel}
-use Rattle.ps2_mouse.specs.Mouse.{mouseCommand, readMousePacket}
+use Rattle.ps2_mouse.specs.Mouse.{mouseCommand}
+use Rattle.ps2_packet_reading.specs.Reading.{readMousePacket}
 use Rattle.keyboard.specs.declared.Handled.{Handled}
 use Rattle.keyboard.specs.declared.KeyboardHandler.{KeyboardHandler}
 use Rattle.keyboard.specs.Answers.{answerNumber}

@@ -19,10 +19,10 @@ use Rattle.ps2_ports.specs.declared.Refusal.{Refusal}
 use Rattle.ps2_ports.specs.Refusals.{refused}
 use Rattle.ps2_ports.specs.Ports.{readPort, readData, saidByte}
 use Rattle.ps2_ports.proofs.Refusals.{reads-refused}
-use Rattle.ps2_mouse.specs.declared.BytesAnswer.{BytesAnswer}
-use Rattle.ps2_mouse.specs.declared.FirstBytes.{FirstBytes}
-use Rattle.ps2_mouse.specs.Mouse.{threeBytes, readMousePacket}
-use Rattle.ps2_mouse.specs.Answers.{firstBytes, saidBytes}
+use Rattle.ps2_packet_reading.specs.declared.BytesAnswer.{BytesAnswer}
+use Rattle.ps2_packet_reading.specs.declared.FirstBytes.{FirstBytes}
+use Rattle.ps2_packet_reading.specs.Reading.{threeBytes, readMousePacket}
+use Rattle.ps2_packet_reading.specs.Reading.{firstBytes, saidBytes}
 
 -- ---- one byte
 

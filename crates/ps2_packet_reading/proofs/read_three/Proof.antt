@@ -1,4 +1,4 @@
--- `ps2_mouse::read_three` meets its contract: each byte is read where the last one ended.
+-- `ps2_packet_reading::read_three` meets its contract: each byte is read where the last one ended.
 -- Assumes nothing.
 use borrow.Author.Needs.{needs}
 use native.Mathlib.Omega.{arith}
@@ -8,11 +8,11 @@ use Rattle.exchange.specs.Answer.{Answer, gives}
 use Rattle.exchange.proofs.Position.{reads-used-le}
 use Rattle.exchange.proofs.Calls.{part-used-le}
 use Rattle.exchange.proofs.Reading.{read-to-done}
-use Rattle.ps2_mouse.specs.declared.FirstBytes.{FirstBytes}
-use Rattle.ps2_mouse.specs.Answers.{firstBytes}
-use Rattle.ps2_mouse.proofs.PacketReads.{first-byte, first-refused, next-byte, next-refused}
-use Rattle.ps2_mouse.proofs.read_three.Statement.{statement}
-use Rattle.ps2_mouse.proofs.read_three.Tie as tie
+use Rattle.ps2_packet_reading.specs.declared.FirstBytes.{FirstBytes}
+use Rattle.ps2_packet_reading.specs.Reading.{firstBytes}
+use Rattle.ps2_packet_reading.proofs.PacketReads.{first-byte, first-refused, next-byte, next-refused}
+use Rattle.ps2_packet_reading.proofs.read_three.Statement.{statement}
+use Rattle.ps2_packet_reading.proofs.read_three.Tie as tie
 
 -- what follows each byte
 abbrev after2 : ℕ → ℕ → ℕ → Exchange (Answer FirstBytes)

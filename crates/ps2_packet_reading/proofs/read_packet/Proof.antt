@@ -1,4 +1,4 @@
--- `ps2_mouse::PS2Mouse::read_mouse_packet` meets its contract: at identities 3 and 4 one byte more is read.
+-- `ps2_packet_reading::read_packet` meets its contract: at identities 3 and 4 one byte more is read.
 -- Assumes nothing.
 use borrow.Author.Needs.{needs}
 use native.Mathlib.Omega.{arith}
@@ -11,9 +11,9 @@ use Rattle.ps2_packet.specs.declared.MousePacket.the-variants as Packet
 use Rattle.ps2_packet.specs.declared.MousePacketGeneric.{MousePacketGeneric}
 use Rattle.ps2_bytes.specs.declared.response.MouseId.{MouseId}
 use Rattle.ps2_packet.specs.Packet.{packet3, packet4}
-use Rattle.ps2_mouse.proofs.PacketReads.{afterThree, packet-refused, packet-whole, packet-byte, packet-no-byte}
-use Rattle.ps2_mouse.proofs.PS2Mouse.read_mouse_packet.Statement.{statement}
-use Rattle.ps2_mouse.proofs.PS2Mouse.read_mouse_packet.Tie as tie
+use Rattle.ps2_packet_reading.proofs.PacketReads.{afterThree, packet-refused, packet-whole, packet-byte, packet-no-byte}
+use Rattle.ps2_packet_reading.proofs.read_packet.Statement.{statement}
+use Rattle.ps2_packet_reading.proofs.read_packet.Tie as tie
 
 sub-read-data : tie.Need-sub-read-data
 sub-read-data c = reads-used-le (c .before .before .before .before .before .read-three .ensures)
@@ -36,7 +36,7 @@ returns c =
     let b = c .before .before .before .before in
     let t = b .before .before in
     let first = b .read .given .0 .0 in
-    packet-whole (t .before .before .args .self .id) _ (t .read-three .ensures) (b .read .given .1)
+    packet-whole (t .before .before .args .id) _ (t .read-three .ensures) (b .read .given .1)
     (ap (λ (id : MouseId). afterThree id first) (c .before .enum-told .given .1) ∙ ap (λ (g : MousePacketGeneric). done (gives (Packet.Zero g))) (sym (c .from-bytes .ensures)))
 
 returns-2 : tie.Need-returns-2
@@ -46,7 +46,7 @@ returns-2 c =
     let b = e .before .before .before in
     let t = b .before .before in
     let first = b .read .given .0 .0 in
-    packet-byte (t .before .before .args .self .id) _ (t .read-three .ensures) (b .read .given .1)
+    packet-byte (t .before .before .args .id) _ (t .read-three .ensures) (b .read .given .1)
     (λ b4. Packet.Three (packet3 (first .byte1) (first .byte2) (first .byte3) b4)) (sym (ap (λ (id : MouseId). afterThree id first) (e .enum-told2 .given .1))) (d .read-data .ensures)
     (c .before .before .last .given .1) (ap Packet.Three (c .from-bytes2 .ensures))
 
@@ -57,7 +57,7 @@ returns-3 c =
     let b = e .before .before .before in
     let t = b .before .before in
     let first = b .read .given .0 .0 in
-    packet-no-byte (t .before .before .args .self .id) _ (t .read-three .ensures) (b .read .given .1)
+    packet-no-byte (t .before .before .args .id) _ (t .read-three .ensures) (b .read .given .1)
     (λ b4. Packet.Three (packet3 (first .byte1) (first .byte2) (first .byte3) b4)) (sym (ap (λ (id : MouseId). afterThree id first) (e .enum-told2 .given .1))) (d .read-data .ensures)
     (c .before .last2 .given .0 .0) (c .before .last2 .given .1)
 
@@ -68,7 +68,7 @@ returns-4 c =
     let b = e .before .before .before in
     let t = b .before .before in
     let first = b .read .given .0 .0 in
-    packet-byte (t .before .before .args .self .id) _ (t .read-three .ensures) (b .read .given .1)
+    packet-byte (t .before .before .args .id) _ (t .read-three .ensures) (b .read .given .1)
     (λ b4. Packet.Four (packet4 (first .byte1) (first .byte2) (first .byte3) b4)) (sym (ap (λ (id : MouseId). afterThree id first) (e .enum-told3 .given .1))) (d .read-data2 .ensures)
     (c .before .before .last3 .given .1) (ap Packet.Four (c .from-bytes3 .ensures))
 
@@ -79,17 +79,17 @@ returns-5 c =
     let b = e .before .before .before in
     let t = b .before .before in
     let first = b .read .given .0 .0 in
-    packet-no-byte (t .before .before .args .self .id) _ (t .read-three .ensures) (b .read .given .1)
+    packet-no-byte (t .before .before .args .id) _ (t .read-three .ensures) (b .read .given .1)
     (λ b4. Packet.Four (packet4 (first .byte1) (first .byte2) (first .byte3) b4)) (sym (ap (λ (id : MouseId). afterThree id first) (e .enum-told3 .given .1))) (d .read-data2 .ensures)
     (c .before .last4 .given .0 .0) (c .before .last4 .given .1)
 
 returns-6 : tie.Need-returns-6
 returns-6 c =
     let t = c .before .before .before in
-    packet-refused (t .before .before .args .self .id) _ (t .read-three .ensures) (c .before .read2 .given .0 .0) (c .before .read2 .given .1)
+    packet-refused (t .before .before .args .id) _ (t .read-three .ensures) (c .before .read2 .given .0 .0) (c .before .read2 .given .1)
 
-pub read-mouse-packet-spec : {M : Type 1} → statement M
-read-mouse-packet-spec =
+pub read-packet-spec : {M : Type 1} → statement M
+read-packet-spec =
     tie.close
     (tie.spec
     (λ c κs. search needs) (λ c. search needs) (λ c. search needs) (λ c κs. search needs) (λ c. search needs) sub-read-data sub-read-data

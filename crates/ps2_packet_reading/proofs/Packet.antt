@@ -8,7 +8,7 @@ use Rattle.exchange.specs.Answer.{gives}
 use Rattle.ps2_packet.specs.declared.MousePacket.{MousePacket}
 use Rattle.ps2_packet.specs.declared.MousePacket.the-variants.{Zero, Three, Four}
 use Rattle.ps2_packet.specs.Packet.{packetId, packetBytes, packetLength}
-use Rattle.ps2_mouse.specs.Mouse.{readMousePacket}
+use Rattle.ps2_packet_reading.specs.Reading.{readMousePacket}
 
 pub read-packet : (p : MousePacket) (l : List ℕ) → play (readMousePacket (packetId p)) (packetBytes p) l ≡ played (yields (gives p)) (packetLength (packetId p)) 0 l
 unfolding play readMousePacket

@@ -1,0 +1,4 @@
+-- Laws of the reading of packets.
+pub mod Bounds
+pub mod Packet
+pub mod PacketReads

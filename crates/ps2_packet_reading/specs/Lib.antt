@@ -1,0 +1,2 @@
+-- The reading of a mouse's packets.
+pub mod Reading

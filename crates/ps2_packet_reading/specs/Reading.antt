@@ -1,0 +1,38 @@
+-- The reading of a mouse's packet as a tree of its reads, and what the code's answers say of its end.
+-- Assumes nothing.
+use Prim.Native.Nat.{ℕ}
+use Rattle.exchange.specs.Exchange.{p60, Exchange, done, read, End, yields}
+use Rattle.exchange.specs.Answer.{Answer, gives}
+use Rattle.ps2_bytes.specs.declared.response.MouseId.{MouseId}
+use Rattle.ps2_bytes.specs.declared.response.MouseId.the-variants.{Zero, Three, Four}
+use Rattle.ps2_packet.specs.declared.MousePacket.{MousePacket}
+use Rattle.ps2_packet.specs.declared.MousePacket.the-variants as Packet
+use Rattle.ps2_packet.specs.Packet.{generic, packet3, packet4}
+use Rattle.ps2_ports.specs.Refusals.{refused}
+use Rattle.ps2_packet_reading.specs.declared.FirstBytes.{FirstBytes}
+use Rattle.ps2_packet_reading.specs.declared.BytesAnswer.{BytesAnswer}
+use Rattle.ps2_packet_reading.specs.declared.PacketAnswer.{PacketAnswer}
+
+-- Three bytes of data, in the order in which they come.
+abbrev pub threeBytes : {A : Type 0} → (ℕ → ℕ → ℕ → Exchange A) → Exchange A
+threeBytes next = read p60 (λ b1. read p60 (λ b2. read p60 (λ b3. next b1 b2 b3)))
+
+-- "A packet is 3 bytes at identity 0, 4 at 3 and 4, read without asking the status."
+unfoldable pub readMousePacket : MouseId → Exchange (Answer MousePacket)
+readMousePacket Zero = threeBytes (λ b1 b2 b3. done (gives (Packet.Zero (generic b1 b2 b3))))
+readMousePacket Three = threeBytes (λ b1 b2 b3. read p60 (λ b4. done (gives (Packet.Three (packet3 b1 b2 b3 b4)))))
+readMousePacket Four = threeBytes (λ b1 b2 b3. read p60 (λ b4. done (gives (Packet.Four (packet4 b1 b2 b3 b4)))))
+
+-- ---- answers
+
+-- The bytes that every packet starts with, in the order in which they come.
+abbrev pub firstBytes : ℕ → ℕ → ℕ → FirstBytes
+firstBytes b1 b2 b3 = record { byte1 = b1; byte2 = b2; byte3 = b3 }
+
+abbrev pub saidBytes : BytesAnswer → End (Answer FirstBytes)
+saidBytes (BytesAnswer.Bytes b) = yields (gives b)
+saidBytes (BytesAnswer.Refused r) = refused r
+
+abbrev pub saidPacket : PacketAnswer → End (Answer MousePacket)
+saidPacket (PacketAnswer.Packet p) = yields (gives p)
+saidPacket (PacketAnswer.Refused r) = refused r
