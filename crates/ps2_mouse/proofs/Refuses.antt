@@ -1,17 +1,14 @@
 -- What each of the mouse's operations refuses with.
 -- Assumes nothing.
 use Prim.Native.Nat.{ℕ}
-use mathlib.Core.List.{List, [], _∷_}
-use Rattle.exchange.specs.Answer.{Answer, gives, refuses, andThen}
+use mathlib.Core.List.{[], _∷_}
+use Rattle.exchange.specs.Answer.{andThen}
 use Rattle.exchange.specs.Only.{only-done, only-read}
 use Rattle.exchange.specs.Refuses.{RefusesWith, Refuses}
-use Rattle.exchange.proofs.Only.{only-bind}
-use Rattle.exchange.proofs.Then.{only-any, only-repeat, refuses-then, refuses-more, refuses-as}
+use Rattle.exchange.proofs.Then.{only-repeat, refuses-then, refuses-more, refuses-as}
 use Rattle.ps2_bytes.specs.declared.command.HostToMouseCommand.the-variants as Command
 use Rattle.ps2_bytes.specs.declared.data.MouseResolution.{MouseResolution}
 use Rattle.ps2_bytes.specs.declared.data.MouseSampleRate.{MouseSampleRate}
-use Rattle.ps2_bytes.specs.declared.response.MouseId.{MouseId}
-use Rattle.ps2_bytes.specs.declared.response.MouseId.the-variants.{Zero, Three, Four}
 use Rattle.ps2_bytes.specs.declared.writable.HostToDevice.the-variants.{Mouse}
 use Rattle.ps2_bytes.specs.declared.writable.HostToMouseCommandOrData.{HostToMouseCommandOrData}
 use Rattle.ps2_bytes.specs.declared.writable.HostToMouseCommandOrData.the-variants as Byte
@@ -22,7 +19,6 @@ use Rattle.ps2_polling.proofs.Refuses.{finds-listed}
 use Rattle.ps2_command.specs.Search.{listedTurn}
 use Rattle.ps2_command.proofs.Refuses.{commandRefusals, commandAnd, refuses-commandToPort2, refuses-selfTest, only-pollWhen}
 use Rattle.ps2_mouse.specs.Mouse.{commandToMouse, mouseCommand, resetReads, resetMouse, setSamplingRate, setResolution, disablePacketStreaming, enablePacketStreaming, mouseByteWaits, mouseId}
-use Rattle.ps2_mouse.specs.Identity.{setRates, wheelRates, buttonRates, secondIdentity, afterFirst, newIdentity}
 
 -- 4 to 7, as every command
 pub refuses-commandToMouse : (value : HostToMouseCommandOrData) → Refuses (4 ∷ 5 ∷ 6 ∷ 7 ∷ []) (commandToMouse value)
@@ -64,32 +60,3 @@ unfolding mouseId
 refuses-mouseId =
     refuses-then (commandAnd 11) (also-refuses 11 (Byte.MouseCommand Command.GetDeviceID))
     (λ _. only-repeat (only-pollWhen (RefusesWith (commandAnd 11)) mouseByteWaits (listedTurn mouseIds) (finds-listed (commandAnd 11) mouseIds)) tt pollLimit)
-
--- ---- the sequence of rates and identities: 13, 15 and 16, and 17 at its end; its own identities refuse nothing
-
-refuses-setRates : (rates : List MouseSampleRate) → Refuses (15 ∷ []) (setRates rates)
-unfolding setRates
-refuses-setRates [] = only-done tt
-refuses-setRates (rate ∷ rates) = refuses-then (15 ∷ []) (refuses-setSamplingRate rate) (λ _. refuses-setRates rates)
-
--- the refusals before F4
-abbrev pub identityRefusals : List ℕ
-identityRefusals = 13 ∷ 15 ∷ 16 ∷ []
-
-refuses-secondIdentity : (old : MouseId) → Refuses identityRefusals (secondIdentity old)
-unfolding secondIdentity
-refuses-secondIdentity old = only-bind (only-any mouseId) (λ a _. only-done tt)
-
-refuses-afterFirst : (old : MouseId) (first : Answer MouseId) → Refuses identityRefusals (afterFirst old first)
-refuses-afterFirst old (refuses n) = only-done tt
-refuses-afterFirst old (gives Zero) = only-done tt
-refuses-afterFirst old (gives Three) =
-    refuses-then identityRefusals (refuses-more (15 ∷ []) identityRefusals tt (refuses-setRates buttonRates)) (λ _. refuses-secondIdentity old)
-refuses-afterFirst old (gives Four) = only-done tt
-
-pub refuses-newIdentity : (old : MouseId) → Refuses (13 ∷ 15 ∷ 16 ∷ []) (newIdentity old)
-unfolding newIdentity
-refuses-newIdentity old =
-    refuses-then identityRefusals (refuses-more (16 ∷ []) identityRefusals tt refuses-disablePacketStreaming)
-    (λ _. refuses-then identityRefusals (refuses-more (15 ∷ []) identityRefusals tt (refuses-setRates wheelRates))
-    (λ _. only-bind (only-any mouseId) (λ first _. refuses-afterFirst old first)))

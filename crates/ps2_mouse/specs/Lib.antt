@@ -1,5 +1,3 @@
 -- The mouse's operations.
 pub mod Mouse
-pub mod Identity
-pub mod Kept
 pub mod Answers

@@ -13,9 +13,9 @@ use Rattle.ps2_ports.specs.declared.Completion.{Completion}
 use Rattle.ps2_ports.specs.declared.Refusal.{Refusal}
 use Rattle.ps2_ports.specs.declared.Refusal.the-variants.{ScriptUsedUp, LogFull, Failed}
 use Rattle.ps2_ports.specs.Refusals.{refused}
 use Rattle.ps2_mouse.specs.declared.PS2Mouse.{PS2Mouse}
-use Rattle.ps2_mouse.specs.Identity.{newIdentity, startPackets, setMouseId}
-use Rattle.ps2_mouse.specs.Answers.{saidMouse}
+use Rattle.ps2_mouse_identity.specs.Identity.{newIdentity, startPackets, setMouseId}
+use Rattle.ps2_mouse_identity.specs.Answers.{saidMouse}
 
 module _ (mouse : PS2Mouse) (s l : List ℕ) {e : End (Answer MouseId)} {u w : ℕ} {l′ : List ℕ} (r : played e u w l′ ≡ play (newIdentity (mouse .id)) s l) where
   pub set-refused : (x : Refusal) → e ≡ refused x

@@ -10,8 +10,8 @@ use Rattle.exchange.specs.Exchange.{done, bind}
 use Rattle.exchange.specs.Answer.{gives, andThen, onGiven}
 use Rattle.ps2_bytes.specs.declared.data.MouseSampleRate.{MouseSampleRate}
 use Rattle.ps2_ports.specs.Refusals.{success}
 use Rattle.ps2_mouse.specs.Mouse.{setSamplingRate}
-use Rattle.ps2_mouse.specs.Identity.{setRates}
+use Rattle.ps2_mouse_identity.specs.Identity.{setRates}
 
 -- the next rate
 pub rates-next : (rates : List MouseSampleRate) (i : ℕ) (d : MouseSampleRate) → i < length rates

@@ -1,4 +1,4 @@
--- `ps2_mouse::PS2Mouse::set_mouse_id` meets its contract: the packets are started where an identity was found.
+-- `ps2_mouse_identity::set_mouse_id` meets its contract: the packets are started where an identity was found.
 -- Assumes nothing.
 use borrow.Author.Needs.{needs}
 use native.Mathlib.Omega.{arith}
@@ -6,11 +6,11 @@ use mathlib.Core.Path.{refl, ap}
 use Rattle.exchange.proofs.Position.{call-used-le, call-pairs-le, call-tail-le}
 use Rattle.exchange.proofs.Calls.{bind-yields, two-used-le, two-pairs-le}
 use Rattle.exchange.proofs.Left.{record-after, record-told}
-use Rattle.ps2_mouse.specs.Identity.{newIdentity, startPackets, setMouseId}
+use Rattle.ps2_mouse_identity.specs.Identity.{newIdentity, startPackets, setMouseId}
 use Rattle.ps2_mouse.specs.Answers.{saidId}
-use Rattle.ps2_mouse.proofs.Record.{set-refused}
-use Rattle.ps2_mouse.proofs.PS2Mouse.set_mouse_id.Statement.{statement}
-use Rattle.ps2_mouse.proofs.PS2Mouse.set_mouse_id.Tie as tie
+use Rattle.ps2_mouse_identity.proofs.Record.{set-refused}
+use Rattle.ps2_mouse_identity.proofs.set_mouse_id.Statement.{statement}
+use Rattle.ps2_mouse_identity.proofs.set_mouse_id.Tie as tie
 
 mul-at : tie.Need-mul-at
 mul-at c =
@@ -41,7 +41,7 @@ returns c =
     let m = c .before .before .before .before .before in
     let t = m .before .before .before .before in
     let a = t .before .before .before .before in
-    let mouse = a .before .before .before .before .args .self in
+    let mouse = a .before .before .before .before .args .mouse in
     record-after mouse
     (bind-yields (newIdentity (mouse .id)) (λ id. startPackets mouse id) _ _ (a .new-identity .ensures) (ap saidId (t .found .given .1)) refl (m .start-packets .ensures .0))
     (record-told mouse (m .start-packets .ensures))
@@ -50,7 +50,7 @@ returns-2 : tie.Need-returns-2
 unfolding setMouseId
 returns-2 c =
     let a = c .before .before .before .before .before in
-    let mouse = a .before .before .before .before .args .self in
+    let mouse = a .before .before .before .before .args .mouse in
     set-refused mouse _ _ (a .new-identity .ensures) (c .before .found2 .given .0 .0) (ap saidId (c .before .found2 .given .1))
 
 pub set-mouse-id-spec : {M : Type 1} → statement M

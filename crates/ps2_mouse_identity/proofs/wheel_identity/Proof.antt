@@ -1,4 +1,4 @@
--- `ps2_mouse::wheel_identity` meets its contract: each identity, and each refusal, is followed by its own.
+-- `ps2_mouse_identity::wheel_identity` meets its contract: each identity, and each refusal, is followed by its own.
 -- Assumes nothing.
 use borrow.Author.Needs.{needs}
 use native.Mathlib.Omega.{arith}
@@ -7,13 +7,13 @@ use Rattle.exchange.specs.Answer.{onGiven}
 use Rattle.exchange.proofs.Position.{call-used-le, call-pairs-le, call-tail-le}
 use Rattle.exchange.proofs.Calls.{bind-yields, bind-done, two-used-le, two-pairs-le}
 use Rattle.ps2_ports.proofs.Refusals.{bind-refused}
-use Rattle.ps2_mouse.specs.declared.AskedAnswer.{AskedAnswer}
+use Rattle.ps2_mouse_identity.specs.declared.AskedAnswer.{AskedAnswer}
 use Rattle.ps2_mouse.specs.declared.IdAnswer.{IdAnswer}
-use Rattle.ps2_mouse.specs.Identity.{identityAfter, wheelRates, afterFirst}
-use Rattle.ps2_mouse.specs.Answers.{saidAsked}
-use Rattle.ps2_mouse.proofs.Forgives.{grouped, bind-forgiven}
-use Rattle.ps2_mouse.proofs.wheel_identity.Statement.{statement}
-use Rattle.ps2_mouse.proofs.wheel_identity.Tie as tie
+use Rattle.ps2_mouse_identity.specs.Identity.{identityAfter, wheelRates, afterFirst}
+use Rattle.ps2_mouse_identity.specs.Answers.{saidAsked}
+use Rattle.ps2_mouse_identity.proofs.Forgives.{grouped, bind-forgiven}
+use Rattle.ps2_mouse_identity.proofs.wheel_identity.Statement.{statement}
+use Rattle.ps2_mouse_identity.proofs.wheel_identity.Tie as tie
 
 mul-at : tie.Need-mul-at
 mul-at c =

@@ -1,4 +1,4 @@
--- `ps2_mouse::identity_after` meets its contract: the identity is asked for where the rates ended.
+-- `ps2_mouse_identity::identity_after` meets its contract: the identity is asked for where the rates ended.
 -- Assumes nothing.
 use borrow.Author.Needs.{needs}
 use native.Mathlib.Omega.{arith}
@@ -10,10 +10,10 @@ use Rattle.exchange.proofs.Calls.{bind-yields, two-used-le, two-pairs-le}
 use Rattle.exchange.proofs.Told.{bind-told}
 use Rattle.ps2_ports.proofs.Refusals.{bind-refused}
 use Rattle.ps2_ports.specs.Refusals.{saidDone}
 use Rattle.ps2_mouse.specs.Mouse.{mouseId}
-use Rattle.ps2_mouse.specs.Identity.{setRates, identityAfter}
-use Rattle.ps2_mouse.proofs.identity_after.Statement.{statement}
-use Rattle.ps2_mouse.proofs.identity_after.Tie as tie
+use Rattle.ps2_mouse_identity.specs.Identity.{setRates, identityAfter}
+use Rattle.ps2_mouse_identity.proofs.identity_after.Statement.{statement}
+use Rattle.ps2_mouse_identity.proofs.identity_after.Tie as tie
 
 mul-at : tie.Need-mul-at
 mul-at c =

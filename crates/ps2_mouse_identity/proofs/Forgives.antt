@@ -13,10 +13,11 @@ use Rattle.ps2_bytes.specs.declared.response.MouseId.{MouseId}
 use Rattle.ps2_ports.specs.declared.Refusal.{Refusal}
 use Rattle.ps2_ports.specs.declared.Refusal.the-variants.{ScriptUsedUp, LogFull, Failed}
 use Rattle.ps2_ports.specs.Refusals.{Success, numberOf, refused}
 use Rattle.ps2_mouse.specs.declared.IdAnswer.{IdAnswer}
 use Rattle.ps2_mouse.specs.Mouse.{mouseId}
-use Rattle.ps2_mouse.specs.Identity.{setRates, identityAfter}
-use Rattle.ps2_mouse.specs.Answers.{saidId, forgivenAs}
+use Rattle.ps2_mouse_identity.specs.Identity.{setRates, identityAfter}
+use Rattle.ps2_mouse.specs.Answers.{saidId}
+use Rattle.ps2_mouse_identity.specs.Answers.{forgivenAs}
 
 module _ (rates : List MouseSampleRate) (g : Answer MouseId → Exchange (Answer MouseId)) where
   -- the asking and what follows it, grouped as the definitions have it

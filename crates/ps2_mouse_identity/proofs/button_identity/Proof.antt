@@ -1,4 +1,4 @@
--- `ps2_mouse::button_identity` meets its contract: the identity that was read, or the old one.
+-- `ps2_mouse_identity::button_identity` meets its contract: the identity that was read, or the old one.
 -- Assumes nothing.
 use borrow.Author.Needs.{needs}
 use mathlib.Core.Path.{refl, ap, _∙_}
@@ -6,12 +6,12 @@ use Rattle.exchange.specs.Exchange.{done}
 use Rattle.exchange.specs.Answer.{gives, onGiven}
 use Rattle.exchange.proofs.Calls.{bind-done}
 use Rattle.ps2_ports.proofs.Refusals.{bind-refused}
-use Rattle.ps2_mouse.specs.declared.AskedAnswer.{AskedAnswer}
-use Rattle.ps2_mouse.specs.Identity.{identityAfter, buttonRates, readOr, secondIdentity}
-use Rattle.ps2_mouse.specs.Answers.{saidAsked}
-use Rattle.ps2_mouse.proofs.Forgives.{grouped, bind-forgiven}
-use Rattle.ps2_mouse.proofs.button_identity.Statement.{statement}
-use Rattle.ps2_mouse.proofs.button_identity.Tie as tie
+use Rattle.ps2_mouse_identity.specs.declared.AskedAnswer.{AskedAnswer}
+use Rattle.ps2_mouse_identity.specs.Identity.{identityAfter, buttonRates, readOr, secondIdentity}
+use Rattle.ps2_mouse_identity.specs.Answers.{saidAsked}
+use Rattle.ps2_mouse_identity.proofs.Forgives.{grouped, bind-forgiven}
+use Rattle.ps2_mouse_identity.proofs.button_identity.Statement.{statement}
+use Rattle.ps2_mouse_identity.proofs.button_identity.Tie as tie
 
 returns : tie.Need-returns
 unfolding secondIdentity

@@ -1,10 +1,10 @@
--- `ps2_mouse::forgiven` meets its contract: in each arm the refusal is known.
+-- `ps2_mouse_identity::forgiven` meets its contract: in each arm the refusal is known.
 -- Assumes nothing.
 use borrow.Author.Needs.{needs}
 use mathlib.Core.Path.{sym, ap}
-use Rattle.ps2_mouse.specs.Answers.{forgivenAs}
-use Rattle.ps2_mouse.proofs.forgiven.Statement.{statement}
-use Rattle.ps2_mouse.proofs.forgiven.Tie as tie
+use Rattle.ps2_mouse_identity.specs.Answers.{forgivenAs}
+use Rattle.ps2_mouse_identity.proofs.forgiven.Statement.{statement}
+use Rattle.ps2_mouse_identity.proofs.forgiven.Tie as tie
 
 returns : tie.Need-returns
 returns c = sym (ap (forgivenAs _) (c .enum-told .given .1))

@@ -16,11 +16,12 @@ use Rattle.ps2_bytes.specs.declared.response.MouseId.{MouseId}
 use Rattle.ps2_bytes.specs.declared.response.MouseId.the-variants.{Zero, Four}
 use Rattle.ps2_ports.specs.Refusals.{Success}
 use Rattle.ps2_command.specs.Command.{Accepted}
 use Rattle.ps2_mouse.specs.declared.PS2Mouse.{PS2Mouse}
 use Rattle.ps2_mouse.specs.Mouse.{mouseId, enablePacketStreaming}
-use Rattle.ps2_mouse.specs.Identity.{readOr, secondIdentity, afterFirst, newIdentity, succeeded, startPackets, setMouseId}
-use Rattle.ps2_mouse.specs.Kept.{Kept, started, not-started, not-reached}
-use Rattle.ps2_mouse.proofs.Refuses.{refuses-newIdentity, refuses-enablePacketStreaming}
+use Rattle.ps2_mouse_identity.specs.Identity.{readOr, secondIdentity, afterFirst, newIdentity, succeeded, startPackets, setMouseId}
+use Rattle.ps2_mouse_identity.specs.Kept.{Kept, started, not-started, not-reached}
+use Rattle.ps2_mouse.proofs.Refuses.{refuses-enablePacketStreaming}
+use Rattle.ps2_mouse_identity.proofs.Refuses.{refuses-newIdentity}
 
 -- ---- which identity it is
 

@@ -1,4 +1,4 @@
--- `ps2_mouse::new_identity` meets its contract: the rates follow where the packets were stopped.
+-- `ps2_mouse_identity::new_identity` meets its contract: the rates follow where the packets were stopped.
 -- Assumes nothing.
 use borrow.Author.Needs.{needs}
 use native.Mathlib.Omega.{arith}
@@ -9,10 +9,10 @@ use Rattle.exchange.proofs.Calls.{bind-yields, two-used-le, two-pairs-le}
 use Rattle.ps2_ports.proofs.Refusals.{bind-refused}
 use Rattle.exchange.specs.Exchange.{bind}
 use Rattle.ps2_command.specs.Command.{saidCommand}
 use Rattle.ps2_mouse.specs.Mouse.{disablePacketStreaming, mouseId}
-use Rattle.ps2_mouse.specs.Identity.{setRates, wheelRates, afterFirst, newIdentity}
-use Rattle.ps2_mouse.proofs.new_identity.Statement.{statement}
-use Rattle.ps2_mouse.proofs.new_identity.Tie as tie
+use Rattle.ps2_mouse_identity.specs.Identity.{setRates, wheelRates, afterFirst, newIdentity}
+use Rattle.ps2_mouse_identity.proofs.new_identity.Statement.{statement}
+use Rattle.ps2_mouse_identity.proofs.new_identity.Tie as tie
 
 mul-at : tie.Need-mul-at
 mul-at c =

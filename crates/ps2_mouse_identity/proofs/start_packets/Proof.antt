@@ -1,16 +1,16 @@
--- `ps2_mouse::start_packets` meets its contract: the record has the new identity, but where the script or the log ended.
+-- `ps2_mouse_identity::start_packets` meets its contract: the record has the new identity, but where the script or the log ended.
 -- Assumes nothing.
 use borrow.Author.Needs.{needs}
 use mathlib.Core.Path.{refl, ap, _∙_}
 use Rattle.exchange.specs.Left.{left}
 use Rattle.ps2_command.specs.declared.CommandAnswer.{CommandAnswer}
 use Rattle.ps2_command.specs.Command.{saidCommand}
 use Rattle.ps2_mouse.specs.Mouse.{enablePacketStreaming}
-use Rattle.ps2_mouse.specs.Identity.{succeeded}
+use Rattle.ps2_mouse_identity.specs.Identity.{succeeded}
 use Rattle.exchange.proofs.Told.{bind-told}
 use Rattle.exchange.proofs.Left.{record-after}
-use Rattle.ps2_mouse.proofs.start_packets.Statement.{statement}
-use Rattle.ps2_mouse.proofs.start_packets.Tie as tie
+use Rattle.ps2_mouse_identity.proofs.start_packets.Statement.{statement}
+use Rattle.ps2_mouse_identity.proofs.start_packets.Tie as tie
 
 returns : tie.Need-returns
 returns c =

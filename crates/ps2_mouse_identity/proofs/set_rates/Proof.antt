@@ -1,4 +1,4 @@
--- `ps2_mouse::set_rates` meets its contract: each turn of the loop sets the next rate.
+-- `ps2_mouse_identity::set_rates` meets its contract: each turn of the loop sets the next rate.
 -- Assumes nothing.
 use borrow.Author.Needs.{needs}
 use Prim.Native.Nat.{_-_, _≤_, _+_}
@@ -12,11 +12,11 @@ use Rattle.exchange.proofs.Position.{reached-start, reached-same, reached-done}
 use Rattle.exchange.proofs.Calls.{reached-used-le, reached-pairs-le, reached-call, reached-last}
 use Rattle.ps2_ports.proofs.Refusals.{bind-refused}
 use Rattle.ps2_command.specs.Command.{saidCommand}
 use Rattle.ps2_mouse.specs.Mouse.{setSamplingRate}
-use Rattle.ps2_mouse.specs.Identity.{setRates}
-use Rattle.ps2_mouse.proofs.Rates.{rates-next, rates-over}
-use Rattle.ps2_mouse.proofs.set_rates.Statement.{statement}
-use Rattle.ps2_mouse.proofs.set_rates.Tie as tie
+use Rattle.ps2_mouse_identity.specs.Identity.{setRates}
+use Rattle.ps2_mouse_identity.proofs.Rates.{rates-next, rates-over}
+use Rattle.ps2_mouse_identity.proofs.set_rates.Statement.{statement}
+use Rattle.ps2_mouse_identity.proofs.set_rates.Tie as tie
 
 abbrev Inv-loop : tie.InvT-loop
 Inv-loop script log₀ rates used₀ pairs₀ i₀ log used pairs i = (i ≤ 3) × Reached (setRates rates) script log₀ (setRates (drop i rates)) used pairs log
