@@ -1,16 +1,15 @@
 -- Laws over all keycodes: each is listed, so a test that is computed over the list holds of every keycode; its number gives it back.
 -- Assumes nothing.
 use mathlib.Core.Path.{_≡_, refl, sym, ap, subst, _∙_}
-use mathlib.Core.Bool.{Bool, true, false, _||_}
+use mathlib.Core.Bool.{Bool, false, cond}
 use mathlib.Core.List.{List, [], _∷_}
-use Prim.Native.Nat.{ℕ, _≤_, _<_}
+use Prim.Native.Nat.{ℕ}
 use denote.Enum.Declared.{tagOf}
-use lib.Dec.{T, eqb, eqb→eq, leb}
-use lib.ListN.{getD, take}
-use borrow.Author.Tests.{lt-leb}
-use Rattle.bits.proofs.Every.{each, each-at, each-one-of, every-at}
+use lib.Dec.{T, eqb, eqb→eq}
+use lib.ListN.{getD}
+use Rattle.bits.proofs.Every.{each, each-at, each-one-of}
 use Rattle.bits.proofs.Table.{NoRow, decode-missing}
-use Rattle.bits.specs.Table.{decode}
+use Rattle.bits.specs.Table.{rows, decode}
 use Rattle.keycodes_ascii.proofs.Keycode.{the-type}
 use Rattle.keycodes_ascii.specs.declared.FoundKeycode.{FoundKeycode}
 use Rattle.keycodes_ascii.specs.declared.FoundKeycode.the-variants.{Found, Unknown}
@@ -154,35 +153,17 @@ pub keycode-number : (k : Keycode) → keycodeOf (numberOf k) ≡ Found k
 unfolding keycodeOf numbered keycodes
 keycode-number k = is-found k (keycodeOf (numberOf k)) (every-keycode (λ k. isFound k (keycodeOf (numberOf k))) tt tt k)
 
--- the keycodes 00 to 5D are the first 94
-lowFound : ℕ → Bool
-lowFound b = isFound (getD (take 94 keycodes) b Keycode.OverflowError) (keycodeOf b)
+-- what an arm of a `match` on a byte tells: the byte has the arm's keycode
+pub found-keycode : (k : Keycode) {b : ℕ} → b ≡ numberOf k → Found k ≡ keycodeOf b
+found-keycode k e = sym (ap keycodeOf e ∙ keycode-number k)
 
-pub keycode-low : (b : ℕ) → b < 94 → keycodeOf b ≡ Found (getD (take 94 keycodes) b Keycode.OverflowError)
-unfolding lowFound keycodeOf numbered keycodes
-keycode-low b h =
-    is-found (getD (take 94 keycodes) b Keycode.OverflowError) (keycodeOf b) (every-at lowFound 94 tt b h)
+-- the first keycode that has a number is what the table of all keycodes has for it
+numbered-decode : (ks : List Keycode) (b : ℕ) → numbered ks b ≡ decode Found Unknown (rows numberOf ks) b
+unfolding numbered decode
+numbered-decode [] b = refl
+numbered-decode (k ∷ ks) b = ap (cond (eqb b (numberOf k)) (Found k)) (numbered-decode ks b)
 
--- no other byte but the six release codes has a keycode
-abbrev isUnknown : FoundKeycode → Bool
-isUnknown (Found j) = false
-isUnknown Unknown = true
-
-is-unknown : (f : FoundKeycode) → T (isUnknown f) → f ≡ Unknown
-is-unknown (Found j) t = absurd t
-is-unknown Unknown t = refl
-
-abbrev pub releases : List (ℕ × Keycode)
-releases =
-    (0x9D, Keycode.ControlReleased) ∷ (0xB8, Keycode.AltReleased) ∷ (0xAA, Keycode.LeftShiftReleased) ∷ (0xB6, Keycode.RightShiftReleased)
-    ∷ (0xDB, Keycode.SuperKeyLeftReleased) ∷ (0xDC, Keycode.SuperKeyRightReleased) ∷ []
-
-lowReleaseOrNone : ℕ → Bool
-lowReleaseOrNone b = leb b 0x5D || decode (λ k. true) (isUnknown (keycodeOf b)) releases b
-
-pub keycode-none : (b : ℕ) → b < 256 → 0x5D < b → NoRow (Unit {0}) releases b → keycodeOf b ≡ Unknown
-unfolding lowReleaseOrNone decode keycodeOf numbered keycodes
-keycode-none b h l r =
-    let t : T (leb b 0x5D || decode (λ k. true) (isUnknown (keycodeOf b)) releases b) = every-at lowReleaseOrNone 256 tt b h in
-    let e = decode-missing (λ (k : Keycode). true) (isUnknown (keycodeOf b)) (Unit {0}) releases b r in
-    is-unknown (keycodeOf b) (subst T e (subst (λ (c : Bool). T (c || decode (λ k. true) (isUnknown (keycodeOf b)) releases b)) (lt-leb b 0x5D l) t))
+-- a byte that is the number of no keycode has none
+pub keycode-missing : (b : ℕ) → NoRow (Unit {0}) (rows numberOf keycodes) b → Unknown ≡ keycodeOf b
+unfolding keycodeOf
+keycode-missing b h = sym (numbered-decode keycodes b ∙ decode-missing Found Unknown (Unit {0}) (rows numberOf keycodes) b h)

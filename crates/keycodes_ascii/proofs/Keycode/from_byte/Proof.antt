@@ -1,49 +1,117 @@
--- `keycodes_ascii::Keycode::from_byte` meets its contract: a number up to 5D is in the table; each release code is a keycode's number; no other byte is.
+-- `keycodes_ascii::Keycode::from_byte` meets its contract: in each arm the byte is the keycode's number; no other byte is a keycode's.
 -- Assumes nothing.
-use borrow.Author.Needs.{needs}
-use mathlib.Core.Path.{_≡_, sym, ap, _∙_}
-use native.Mathlib.Omega.{arith}
 use Rattle.keycodes_ascii.specs.declared.Keycode.{Keycode}
-use Rattle.keycodes_ascii.specs.Keycode.{keycodes, keycodeOf}
-use Rattle.keycodes_ascii.proofs.Codes.{keycode-number, keycode-low, keycode-none}
+use Rattle.keycodes_ascii.specs.Keycode.{keycodes}
+use Rattle.keycodes_ascii.proofs.Codes.{found-keycode, keycode-missing}
 use Rattle.keycodes_ascii.proofs.Keycode.from_byte.Statement.{statement}
 use Rattle.keycodes_ascii.proofs.Keycode.from_byte.Tie as tie
 
-returns : tie.Need-returns
+rest : tie.Need-returns
 unfolding keycodes
-returns c = sym (keycode-low (c .before .before .args .byte) (omega arith))
-
-returns-2 : tie.Need-returns-2
-returns-2 c = sym (ap keycodeOf (c .match .keys1) ∙ keycode-number Keycode.ControlReleased)
-
-returns-3 : tie.Need-returns-3
-returns-3 c = sym (ap keycodeOf (c .match .keys2) ∙ keycode-number Keycode.AltReleased)
-
-returns-4 : tie.Need-returns-4
-returns-4 c = sym (ap keycodeOf (c .match .keys3) ∙ keycode-number Keycode.LeftShiftReleased)
-
-returns-5 : tie.Need-returns-5
-returns-5 c = sym (ap keycodeOf (c .match .keys4) ∙ keycode-number Keycode.RightShiftReleased)
-
-returns-6 : tie.Need-returns-6
-returns-6 c = sym (ap keycodeOf (c .match .keys5) ∙ keycode-number Keycode.SuperKeyLeftReleased)
-
-returns-7 : tie.Need-returns-7
-returns-7 c = sym (ap keycodeOf (c .match .keys6) ∙ keycode-number Keycode.SuperKeyRightReleased)
-
-returns-8 : tie.Need-returns-8
-returns-8 c = sym (keycode-none (c .before .before .args .byte) (omega arith) (c .before .if1 .left) (c .match .rest))
+rest c = keycode-missing (c .before .args .byte) (c .match .rest)
 
 pub from-byte-spec : {M : Type 1} → statement M
 from-byte-spec =
     tie.close
     (tie.spec
-    (λ c. search needs)
-    returns
-    returns-2
-    returns-3
-    returns-4
-    returns-5
-    returns-6
-    returns-7
-    returns-8)
+    rest
+    (λ c. found-keycode Keycode.OverflowError (c .match .keys1))
+    (λ c. found-keycode Keycode.Escape (c .match .keys2))
+    (λ c. found-keycode Keycode.Num1 (c .match .keys3))
+    (λ c. found-keycode Keycode.Num2 (c .match .keys4))
+    (λ c. found-keycode Keycode.Num3 (c .match .keys5))
+    (λ c. found-keycode Keycode.Num4 (c .match .keys6))
+    (λ c. found-keycode Keycode.Num5 (c .match .keys7))
+    (λ c. found-keycode Keycode.Num6 (c .match .keys8))
+    (λ c. found-keycode Keycode.Num7 (c .match .keys9))
+    (λ c. found-keycode Keycode.Num8 (c .match .keys10))
+    (λ c. found-keycode Keycode.Num9 (c .match .keys11))
+    (λ c. found-keycode Keycode.Num0 (c .match .keys12))
+    (λ c. found-keycode Keycode.Minus (c .match .keys13))
+    (λ c. found-keycode Keycode.Equals (c .match .keys14))
+    (λ c. found-keycode Keycode.Backspace (c .match .keys15))
+    (λ c. found-keycode Keycode.Tab (c .match .keys16))
+    (λ c. found-keycode Keycode.Q (c .match .keys17))
+    (λ c. found-keycode Keycode.W (c .match .keys18))
+    (λ c. found-keycode Keycode.E (c .match .keys19))
+    (λ c. found-keycode Keycode.R (c .match .keys20))
+    (λ c. found-keycode Keycode.T (c .match .keys21))
+    (λ c. found-keycode Keycode.Y (c .match .keys22))
+    (λ c. found-keycode Keycode.U (c .match .keys23))
+    (λ c. found-keycode Keycode.I (c .match .keys24))
+    (λ c. found-keycode Keycode.O (c .match .keys25))
+    (λ c. found-keycode Keycode.P (c .match .keys26))
+    (λ c. found-keycode Keycode.LeftBracket (c .match .keys27))
+    (λ c. found-keycode Keycode.RightBracket (c .match .keys28))
+    (λ c. found-keycode Keycode.Enter (c .match .keys29))
+    (λ c. found-keycode Keycode.Control (c .match .keys30))
+    (λ c. found-keycode Keycode.A (c .match .keys31))
+    (λ c. found-keycode Keycode.S (c .match .keys32))
+    (λ c. found-keycode Keycode.D (c .match .keys33))
+    (λ c. found-keycode Keycode.F (c .match .keys34))
+    (λ c. found-keycode Keycode.G (c .match .keys35))
+    (λ c. found-keycode Keycode.H (c .match .keys36))
+    (λ c. found-keycode Keycode.J (c .match .keys37))
+    (λ c. found-keycode Keycode.K (c .match .keys38))
+    (λ c. found-keycode Keycode.L (c .match .keys39))
+    (λ c. found-keycode Keycode.Semicolon (c .match .keys40))
+    (λ c. found-keycode Keycode.Quote (c .match .keys41))
+    (λ c. found-keycode Keycode.Backtick (c .match .keys42))
+    (λ c. found-keycode Keycode.LeftShift (c .match .keys43))
+    (λ c. found-keycode Keycode.Backslash (c .match .keys44))
+    (λ c. found-keycode Keycode.Z (c .match .keys45))
+    (λ c. found-keycode Keycode.X (c .match .keys46))
+    (λ c. found-keycode Keycode.C (c .match .keys47))
+    (λ c. found-keycode Keycode.«V» (c .match .keys48))
+    (λ c. found-keycode Keycode.B (c .match .keys49))
+    (λ c. found-keycode Keycode.N (c .match .keys50))
+    (λ c. found-keycode Keycode.M (c .match .keys51))
+    (λ c. found-keycode Keycode.Comma (c .match .keys52))
+    (λ c. found-keycode Keycode.Period (c .match .keys53))
+    (λ c. found-keycode Keycode.Slash (c .match .keys54))
+    (λ c. found-keycode Keycode.RightShift (c .match .keys55))
+    (λ c. found-keycode Keycode.PadMultiply (c .match .keys56))
+    (λ c. found-keycode Keycode.Alt (c .match .keys57))
+    (λ c. found-keycode Keycode.Space (c .match .keys58))
+    (λ c. found-keycode Keycode.CapsLock (c .match .keys59))
+    (λ c. found-keycode Keycode.F1 (c .match .keys60))
+    (λ c. found-keycode Keycode.F2 (c .match .keys61))
+    (λ c. found-keycode Keycode.F3 (c .match .keys62))
+    (λ c. found-keycode Keycode.F4 (c .match .keys63))
+    (λ c. found-keycode Keycode.F5 (c .match .keys64))
+    (λ c. found-keycode Keycode.F6 (c .match .keys65))
+    (λ c. found-keycode Keycode.F7 (c .match .keys66))
+    (λ c. found-keycode Keycode.F8 (c .match .keys67))
+    (λ c. found-keycode Keycode.F9 (c .match .keys68))
+    (λ c. found-keycode Keycode.F10 (c .match .keys69))
+    (λ c. found-keycode Keycode.NumLock (c .match .keys70))
+    (λ c. found-keycode Keycode.ScrollLock (c .match .keys71))
+    (λ c. found-keycode Keycode.Home (c .match .keys72))
+    (λ c. found-keycode Keycode.Up (c .match .keys73))
+    (λ c. found-keycode Keycode.PageUp (c .match .keys74))
+    (λ c. found-keycode Keycode.PadMinus (c .match .keys75))
+    (λ c. found-keycode Keycode.Left (c .match .keys76))
+    (λ c. found-keycode Keycode.Pad5 (c .match .keys77))
+    (λ c. found-keycode Keycode.Right (c .match .keys78))
+    (λ c. found-keycode Keycode.PadPlus (c .match .keys79))
+    (λ c. found-keycode Keycode.End (c .match .keys80))
+    (λ c. found-keycode Keycode.Down (c .match .keys81))
+    (λ c. found-keycode Keycode.PageDown (c .match .keys82))
+    (λ c. found-keycode Keycode.Insert (c .match .keys83))
+    (λ c. found-keycode Keycode.Delete (c .match .keys84))
+    (λ c. found-keycode Keycode.Unknown1 (c .match .keys85))
+    (λ c. found-keycode Keycode.Unknown2 (c .match .keys86))
+    (λ c. found-keycode Keycode.NonUsBackslash (c .match .keys87))
+    (λ c. found-keycode Keycode.F11 (c .match .keys88))
+    (λ c. found-keycode Keycode.F12 (c .match .keys89))
+    (λ c. found-keycode Keycode.Pause (c .match .keys90))
+    (λ c. found-keycode Keycode.Unknown3 (c .match .keys91))
+    (λ c. found-keycode Keycode.SuperKeyLeft (c .match .keys92))
+    (λ c. found-keycode Keycode.SuperKeyRight (c .match .keys93))
+    (λ c. found-keycode Keycode.Menu (c .match .keys94))
+    (λ c. found-keycode Keycode.ControlReleased (c .match .keys95))
+    (λ c. found-keycode Keycode.AltReleased (c .match .keys96))
+    (λ c. found-keycode Keycode.LeftShiftReleased (c .match .keys97))
+    (λ c. found-keycode Keycode.RightShiftReleased (c .match .keys98))
+    (λ c. found-keycode Keycode.SuperKeyLeftReleased (c .match .keys99))
+    (λ c. found-keycode Keycode.SuperKeyRightReleased (c .match .keys100)))
