@@ -1,20 +1,23 @@
--- Laws of the characters: what Caps Lock does, and what a table must hold to agree with the layout.
+-- Laws of the characters: what Caps Lock does, and at which numbers there is a character.
 -- Assumes nothing.
-use mathlib.Core.Path.{_≡_, refl, sym, ap, _∙_}
-use mathlib.Core.Bool.{Bool, true, false, not, _||_, xor, true≢false, false≢true}
+use mathlib.Core.Path.{_≡_, refl, sym, ap, subst, _∙_}
+use mathlib.Core.Bool.{Bool, true, false, cond, not, _||_, xor, true≢false, false≢true}
 use mathlib.Core.List.{List, [], _∷_}
 use Prim.Native.Nat.{ℕ}
-use lib.Dec.{T, eqb, eqb→eq}
-use lib.ListN.{take}
+use lib.Dec.{T}
 use Rattle.bits.specs.Bits.{bit}
+use Rattle.bits.specs.Table.{rows, decode}
+use Rattle.bits.proofs.Table.{NoRow, decode-missing}
 use Rattle.keycodes_ascii.specs.declared.Character.{Character}
 use Rattle.keycodes_ascii.specs.declared.Character.the-variants.{Ascii, Absent}
+use Rattle.keycodes_ascii.specs.declared.FoundKeycode.{FoundKeycode}
+use Rattle.keycodes_ascii.specs.declared.FoundKeycode.the-variants.{Found, Unknown}
 use Rattle.keycodes_ascii.specs.declared.KeyboardModifiers.{KeyboardModifiers}
 use Rattle.keycodes_ascii.specs.declared.Keycode.{Keycode}
-use Rattle.keycodes_ascii.specs.Keycode.{numberOf, keycodes}
+use Rattle.keycodes_ascii.specs.Keycode.{numberOf, keycodes, keycodeOf}
 use Rattle.keycodes_ascii.specs.Flags.{shiftLeft, shiftRight, capsLock}
-use Rattle.keycodes_ascii.specs.Characters.{Writes, letter, sign, same, control, nothing, writes, isLetter, character, characterOf, entry}
-use Rattle.keycodes_ascii.proofs.Codes.{every-keycode}
+use Rattle.keycodes_ascii.specs.Characters.{Writes, letter, sign, same, control, nothing, writes, isLetter, character, characterOf, characterFound, characterAt}
+use Rattle.keycodes_ascii.proofs.Codes.{every-keycode, keycode-number, Has, keycode-has}
 
 -- Caps Lock turns Shift round for a letter
 pub caps-letter : (w : Writes) (shift : Bool) → isLetter w ≡ true → character w shift true ≡ character w (not shift) false
@@ -49,36 +52,50 @@ pub character-other-flags : (k : Keycode) (m n : KeyboardModifiers)
 unfolding characterOf
 character-other-flags k m n p q r = rw (p, q, r)
 
-sameCharacter : Character → Character → Bool
-sameCharacter (Ascii a) (Ascii b) = eqb a b
-sameCharacter (Ascii a) Absent = false
-sameCharacter Absent (Ascii b) = false
-sameCharacter Absent Absent = true
+-- the character at a key's own number is the key's
+pub character-number : (shift : Bool) (k : Keycode) → characterAt shift (numberOf k) ≡ character (writes k) shift false
+unfolding characterAt
+character-number shift k = ap (characterFound shift) (keycode-number k)
 
-same-character : (a b : Character) → T (sameCharacter a b) → a ≡ b
-unfolding sameCharacter
-same-character (Ascii a) (Ascii b) t = ap Ascii (eqb→eq a b t)
-same-character (Ascii a) Absent t = absurd t
-same-character Absent (Ascii b) t = absurd t
-same-character Absent Absent t = refl
+-- the keys that write something
+abbrev pub writesNothing : Writes → Bool
+writesNothing (letter a b) = false
+writesNothing (sign a b) = false
+writesNothing (same a) = false
+writesNothing (control n) = false
+writesNothing nothing = true
 
--- the layout as a table: the characters of the 94 keycodes in the order of their numbers, with Shift or without
-abbrev pub charNumber : Character → ℕ
-charNumber (Ascii a) = a
-charNumber Absent = 0
+abbrev pub writingOf : List Keycode → List Keycode
+writingOf [] = []
+writingOf (k ∷ ks) = cond (writesNothing (writes k)) (writingOf ks) (k ∷ writingOf ks)
 
-abbrev pub tableOf : Bool → List Keycode → List ℕ
-tableOf shift [] = []
-tableOf shift (k ∷ ks) = charNumber (character (writes k) shift false) ∷ tableOf shift ks
+unfoldable pub writing : List Keycode
+writing = writingOf keycodes
 
-unfoldable pub layoutTable : Bool → List ℕ
-layoutTable shift = tableOf shift (take 94 keycodes)
+-- every other key writes nothing
+character-nothing : (shift : Bool) (w : Writes) → T (writesNothing w) → Absent ≡ character w shift false
+character-nothing shift (letter a b) t = absurd t
+character-nothing shift (sign a b) t = absurd t
+character-nothing shift (same a) t = absurd t
+character-nothing shift (control n) t = absurd t
+character-nothing shift nothing t = refl
 
-hasCharacter : Bool → Keycode → Bool
-hasCharacter shift k = sameCharacter (entry (layoutTable shift) (numberOf k)) (character (writes k) shift false)
+writingOrNothing : Keycode → Bool
+writingOrNothing k = decode (λ j. true) (writesNothing (writes k)) (rows numberOf writing) (numberOf k)
 
--- the table has every keycode's character
-pub entry-layout : (shift : Bool) (k : Keycode) → entry (layoutTable shift) (numberOf k) ≡ character (writes k) shift false
-unfolding hasCharacter sameCharacter layoutTable entry keycodes xor
-entry-layout true k = same-character _ _ (every-keycode (hasCharacter true) tt tt k)
-entry-layout false k = same-character _ _ (every-keycode (hasCharacter false) tt tt k)
+writing-or-nothing : (k : Keycode) → T (writingOrNothing k)
+unfolding writingOrNothing decode writing keycodes
+writing-or-nothing k = every-keycode writingOrNothing tt tt k
+
+-- at no other number is there a character
+found-missing : (shift : Bool) (n : ℕ) (f : FoundKeycode) → Has n f → NoRow (Unit {0}) (rows numberOf writing) n → Absent ≡ characterFound shift f
+unfolding writingOrNothing
+found-missing shift n (Found k) e h =
+    let m : NoRow (Unit {0}) (rows numberOf writing) (numberOf k) = subst (NoRow (Unit {0}) (rows numberOf writing)) e h in
+    let d = decode-missing (λ (j : Keycode). true) (writesNothing (writes k)) (Unit {0}) (rows numberOf writing) (numberOf k) m in
+    character-nothing shift (writes k) (subst T d (writing-or-nothing k))
+found-missing shift n Unknown e h = refl
+
+pub character-missing : (shift : Bool) (n : ℕ) → NoRow (Unit {0}) (rows numberOf writing) n → Absent ≡ characterAt shift n
+unfolding characterAt
+character-missing shift n h = found-missing shift n (keycodeOf n) (keycode-has n) h

@@ -1,7 +1,7 @@
 -- Laws over all keycodes: each is listed, so a test that is computed over the list holds of every keycode; its number gives it back.
 -- Assumes nothing.
 use mathlib.Core.Path.{_≡_, refl, sym, ap, subst, _∙_}
-use mathlib.Core.Bool.{Bool, false, cond}
+use mathlib.Core.Bool.{Bool, true, false, cond}
 use mathlib.Core.List.{List, [], _∷_}
 use Prim.Native.Nat.{ℕ}
 use denote.Enum.Declared.{tagOf}
@@ -152,6 +152,24 @@ is-found k Unknown t = absurd t
 pub keycode-number : (k : Keycode) → keycodeOf (numberOf k) ≡ Found k
 unfolding keycodeOf numbered keycodes
 keycode-number k = is-found k (keycodeOf (numberOf k)) (every-keycode (λ k. isFound k (keycodeOf (numberOf k))) tt tt k)
+
+-- and a keycode that is found for a number has it
+abbrev pub Has : ℕ → FoundKeycode → Type 0
+Has b (Found k) = b ≡ numberOf k
+Has b Unknown = Unit {0}
+
+has-first : (b : ℕ) (k : Keycode) (f : FoundKeycode) (t : Bool) → (T t → b ≡ numberOf k) → Has b f → Has b (cond t (Found k) f)
+has-first b k f true e h = e tt
+has-first b k f false e h = h
+
+numbered-has : (ks : List Keycode) (b : ℕ) → Has b (numbered ks b)
+unfolding numbered
+numbered-has [] b = tt
+numbered-has (k ∷ ks) b = has-first b k (numbered ks b) (eqb b (numberOf k)) (eqb→eq b (numberOf k)) (numbered-has ks b)
+
+pub keycode-has : (b : ℕ) → Has b (keycodeOf b)
+unfolding keycodeOf
+keycode-has b = numbered-has keycodes b
 
 -- what an arm of a `match` on a byte tells: the byte has the arm's keycode
 pub found-keycode : (k : Keycode) {b : ℕ} → b ≡ numberOf k → Found k ≡ keycodeOf b

@@ -1,10 +1,7 @@
 -- The characters, key by key: the US layout as the Rust has it.
 -- Assumes nothing.
 use mathlib.Core.Bool.{Bool, true, false, cond, _||_, xor}
-use mathlib.Core.List.{List}
 use Prim.Native.Nat.{ℕ}
-use lib.Dec.{eqb, ltb}
-use lib.ListN.{getD}
 use Prim.Native.Char.{Char, code}
 use Rattle.bits.specs.Bits.{bit}
 use Rattle.keycodes_ascii.specs.declared.Character.{Character}
@@ -157,9 +154,10 @@ characterOfFound Unknown m = Absent
 unfoldable pub scancodeCharacter : KeyboardModifiers → ℕ → Character
 scancodeCharacter m b = characterOfFound (keycodeOf b) m
 
--- What a table of characters, one for each of the 94 keycodes in the order of their numbers, holds for a number: 0 stands for no character.
-abbrev pub shown : ℕ → Character
-shown c = cond (eqb c 0) Absent (Ascii c)
+-- The character of the key that has a number, with Shift or without, where Caps Lock is off; none where no key has it.
+abbrev pub characterFound : Bool → FoundKeycode → Character
+characterFound shift (Found k) = character (writes k) shift false
+characterFound shift Unknown = Absent
 
-unfoldable pub entry : List ℕ → ℕ → Character
-entry table n = cond (ltb n 94) (shown (getD table n 0)) Absent
+unfoldable pub characterAt : Bool → ℕ → Character
+characterAt shift n = characterFound shift (keycodeOf n)

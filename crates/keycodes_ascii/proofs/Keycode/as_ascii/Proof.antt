@@ -1,19 +1,17 @@
--- `keycodes_ascii::Keycode::as_ascii` meets its contract: its table is the layout, without Shift.
+-- `keycodes_ascii::Keycode::as_ascii` meets its contract: the character at the key's number, without Shift, is the key's.
 -- Assumes nothing.
 use borrow.Author.Needs.{needs}
 use mathlib.Core.Path.{ap, _∙_}
-use mathlib.Core.Bool.{false, xor}
-use Rattle.keycodes_ascii.specs.Keycode.{keycodes}
-use Rattle.keycodes_ascii.specs.Characters.{entry}
-use Rattle.keycodes_ascii.proofs.Chars.{layoutTable, entry-layout}
+use mathlib.Core.Bool.{false}
+use Rattle.keycodes_ascii.specs.Characters.{characterAt}
+use Rattle.keycodes_ascii.proofs.Chars.{character-number}
 use Rattle.keycodes_ascii.proofs.Keycode.as_ascii.Statement.{statement}
 use Rattle.keycodes_ascii.proofs.Keycode.as_ascii.Tie as tie
 
 returns : tie.Need-returns
-unfolding layoutTable keycodes xor
 returns c =
-    c .listed .ensures ∙ ap (entry (layoutTable false)) (c .before .to-byte .ensures)
-    ∙ entry-layout false (c .before .before .before .args .self)
+    c .unshifted .ensures ∙ ap (characterAt false) (c .before .to-byte .ensures)
+    ∙ character-number false (c .before .before .args .self)
 
 pub as-ascii-spec : {M : Type 1} → statement M
 as-ascii-spec =
