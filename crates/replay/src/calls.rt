@@ -1,12 +1,5 @@
-// One call of an operation on the ports, by its name and arguments.
-use crate::text::after_key;
-use crate::text::byte_at;
-use crate::text::hex_at;
-use crate::text::is_digit;
-use crate::text::number_at;
-use crate::text::plus;
-use crate::text::stands_at;
-use crate::text::word_end;
+// One call of an operation on the ports, by numbers.
+use crate::runs::call_keyboard_init;
 use ps2_bytes::DeviceToHostResponse;
 use ps2_bytes::HostToDevice;
 use ps2_bytes::HostToKeyboardCommand;
@@ -24,11 +17,14 @@ use ps2_bytes::ScancodeSet;
 use ps2_bytes::ScancodeSetByte;
 use ps2_command::CommandAnswer;
 use ps2_command::Commanded;
+use ps2_detect::Detected;
 use ps2_detect::TypeAnswer;
 use ps2_detect::keyboard_detect;
+use ps2_init::Initialized;
 use ps2_init::PS2Controller;
 use ps2_init::init;
 use ps2_keyboard::SetAnswer;
+use ps2_keyboard::SetAsked;
 use ps2_keyboard::command_to_keyboard;
 use ps2_keyboard::get_keyboard_scancode_set;
 use ps2_keyboard::reset_keyboard;
@@ -37,9 +33,14 @@ use ps2_keyboard::set_keyboard_scancode_set;
 use ps2_layouts::ControllerConfigurationByte;
 use ps2_layouts::LEDState;
 use ps2_mouse::IdAnswer;
+use ps2_mouse::Identified;
 use ps2_mouse::PS2Mouse;
+use ps2_mouse_identity::MouseLeft;
+use ps2_mouse_identity::set_mouse_id;
 use ps2_packet::MousePacket;
 use ps2_packet_reading::PacketAnswer;
+use ps2_packet_reading::PacketRead;
+use ps2_polling::Received;
 use ps2_polling::ResponseAnswer;
 use ps2_polling::polling_receive;
 use ps2_polling::polling_send;
@@ -49,83 +50,56 @@ use ps2_polling::test_port2;
 use ps2_ports::Completed;
 use ps2_ports::Completion;
 use ps2_ports::ConfigAnswer;
+use ps2_ports::ConfigRead;
 use ps2_ports::Failure;
 use ps2_ports::Refusal;
+use ps2_ports::Written;
 use ps2_ports::read_config;
 use ps2_ports::write_config;
+ghost use Prim.Native.Nat.{_≤_};
 
-// The operations, in the order of the format's table.
-pub enum Operation {
-    Controller(ControllerOperation),
-    Keyboard(KeyboardOperation),
-    Mouse(MouseOperation),
-    // No operation of this name, or not with this argument.
-    Unknown,
+// An instruction: its operation, an argument, a state (the controller's bits, a mouse's identity, or flags), the log's room, and how often it is meant.
+pub struct Instruction {
+    pub op: u8,
+    pub argument: u8,
+    pub state: usize,
+    pub room: usize,
+    pub times: usize,
 }
 
-pub enum ControllerOperation {
-    Init,
-    Test,
-    TestPort1,
-    TestPort2,
-    WriteConfig(ControllerConfigurationByte),
-    ReadConfig,
-    PollingSend(ScancodeSet),
-    PollingReceive,
-}
-
-pub enum KeyboardOperation {
-    Command(HostToKeyboardCommandOrData),
-    Reset,
-    SetLed(LEDState),
-    SetScancodeSet(ScancodeSet),
-    GetScancodeSet,
-    Detect,
-}
-
-pub enum MouseOperation {
-    Command(HostToMouseCommandOrData),
-    Reset,
-    Enable,
-    Disable,
-    SetSamplingRate(MouseSampleRate),
-    SetResolution(MouseResolution),
-    Id,
-    SetId,
-    ReadPacket,
-}
-
-// A call without its script and its log.
-pub struct CallLine {
-    pub operation: Operation,
-    pub controller: PS2Controller,
-    pub mouse: PS2Mouse,
-    // Whether the line names the mouse's identity, so that the answer does too.
-    pub names_mouse: bool,
-}
-
-// What a call answers beside its number.
-pub enum Value {
-    Nothing,
-    Byte(u8),
-    Keyboard(KeyboardType),
-    Packet(MousePacket),
-}
-
-// The record that a call leaves.
-pub enum Left {
-    Nothing,
-    Controller(PS2Controller),
-    Mouse(PS2Mouse),
-}
-
-// How a call ended: the refusal's number or 0, the counts, the value and the record.
+// How a call ended: the refusal's number, 0, 254 where there is nothing to answer, or 255 where the call can't be made; a byte of what it leaves; what it used and wrote; and its value.
 pub struct Outcome {
     pub number: u8,
+    pub left: u8,
     pub used: usize,
     pub pairs: usize,
-    pub value: Value,
-    pub left: Left,
+    pub value: u64,
+}
+
+// An outcome that has no value and leaves nothing.
+pub fn ended(number: u8, used: usize, pairs: usize) -> Outcome {
+    Outcome {
+        number,
+        left: 0,
+        used,
+        pairs,
+        value: 0,
+    }
+}
+
+// The outcome of a call that can't be made: there is no such operation, or not with this argument.
+pub fn unknown() -> Outcome {
+    ended(255, 0, 0)
+}
+
+pub fn with_value(value: u64, used: usize, pairs: usize) -> Outcome {
+    Outcome {
+        number: 0,
+        left: 0,
+        used,
+        pairs,
+        value,
+    }
 }
 
 fn failure_number(failure: Failure) -> u8 {
@@ -171,87 +145,68 @@ fn command_number(answer: CommandAnswer) -> u8 {
     }
 }
 
-fn completed(c: Completed, left: Left) -> Outcome {
+fn completed(c: Completed) -> Outcome {
     let answer = c.answer;
-    Outcome {
-        number: completion_number(answer),
-        used: c.used,
-        pairs: c.pairs,
-        value: Value::Nothing,
-        left,
-    }
+    ended(completion_number(answer), c.used, c.pairs)
 }
 
-fn commanded(c: Commanded, left: Left) -> Outcome {
+fn commanded(c: Commanded) -> Outcome {
     let answer = c.answer;
-    Outcome {
-        number: command_number(answer),
-        used: c.used,
-        pairs: c.pairs,
-        value: Value::Nothing,
-        left,
+    ended(command_number(answer), c.used, c.pairs)
+}
+
+fn refused(refusal: Refusal, used: usize, pairs: usize) -> Outcome {
+    ended(refusal_number(refusal), used, pairs)
+}
+
+pub fn bit(is_set: bool) -> u64
+    ensures { λ r. ⌜ r ≤ 1 ⌝ }
+{
+    if is_set { 1 } else { 0 }
+}
+
+// A controller's record by its bits: initialised, keyboard, mouse.
+fn controller_of(state: usize) -> PS2Controller {
+    PS2Controller {
+        initialized: state % 2 == 1,
+        keyboard_attached: state / 2 % 2 == 1,
+        mouse_attached: state / 4 % 2 == 1,
     }
 }
 
-fn with_value(value: Value, used: usize, pairs: usize, left: Left) -> Outcome {
-    Outcome {
-        number: 0,
-        used,
-        pairs,
-        value,
-        left,
-    }
+fn controller_byte(controller: PS2Controller) -> u8 {
+    let bits = bit(controller.initialized)
+        + 2 * bit(controller.keyboard_attached)
+        + 4 * bit(controller.mouse_attached);
+    bits as u8
 }
 
-fn without_value(refusal: Refusal, used: usize, pairs: usize, left: Left) -> Outcome {
-    Outcome {
-        number: refusal_number(refusal),
-        used,
-        pairs,
-        value: Value::Nothing,
-        left,
-    }
-}
-
-fn call_init(controller: PS2Controller, script: &[u8], log: &mut [u8]) -> Outcome {
-    let c = init(controller, script, log);
+fn initialized(c: Initialized) -> Outcome {
     let answer = c.answer;
     let left = c.controller;
     Outcome {
         number: completion_number(answer),
+        left: controller_byte(left),
         used: c.used,
         pairs: c.pairs,
-        value: Value::Nothing,
-        left: Left::Controller(left),
+        value: 0,
     }
 }
 
-fn call_read_config(script: &[u8], log: &mut [u8]) -> Outcome {
-    let c = read_config(script, log);
-    let used = c.used;
-    let pairs = c.pairs;
+fn written(c: Written) -> Outcome {
+    let answer = c.answer;
+    ended(completion_number(answer), 0, c.pairs)
+}
+
+fn config_read(c: ConfigRead) -> Outcome {
     let answer = c.answer;
     match answer {
-        ConfigAnswer::Config(config) => {
-            with_value(Value::Byte(config.to_byte()), used, pairs, Left::Nothing)
-        }
-        ConfigAnswer::Refused(e) => without_value(e, used, pairs, Left::Nothing),
+        ConfigAnswer::Config(config) => with_value(config.to_byte() as u64, c.used, c.pairs),
+        ConfigAnswer::Refused(e) => refused(e, c.used, c.pairs),
     }
 }
 
-fn call_write_config(log: &mut [u8], config: ControllerConfigurationByte) -> Outcome {
-    let c = write_config(log, config);
-    let answer = c.answer;
-    Outcome {
-        number: completion_number(answer),
-        used: 0,
-        pairs: c.pairs,
-        value: Value::Nothing,
-        left: Left::Nothing,
-    }
-}
-
-fn response_byte(response: DeviceToHostResponse) -> u8 {
+fn response_byte(response: DeviceToHostResponse) -> u64 {
     match response {
         DeviceToHostResponse::KeyDetectionErrorOrInternalBufferOverrun1 => 0x00,
         DeviceToHostResponse::SelfTestPassed => 0xAA,
@@ -264,232 +219,121 @@ fn response_byte(response: DeviceToHostResponse) -> u8 {
     }
 }
 
-fn call_polling_receive(script: &[u8]) -> Outcome {
-    let c = polling_receive(script);
-    let used = c.used;
+fn received(c: Received) -> Outcome {
     let answer = c.answer;
     match answer {
-        ResponseAnswer::Response(response) => {
-            with_value(Value::Byte(response_byte(response)), used, 0, Left::Nothing)
-        }
-        ResponseAnswer::Refused(e) => without_value(e, used, 0, Left::Nothing),
+        ResponseAnswer::Response(response) => with_value(response_byte(response), c.used, 0),
+        ResponseAnswer::Refused(e) => refused(e, c.used, 0),
     }
 }
 
-fn call_get_scancode_set(script: &[u8], log: &mut [u8]) -> Outcome {
-    let c = get_keyboard_scancode_set(script, log);
-    let used = c.used;
-    let pairs = c.pairs;
+fn set_asked(c: SetAsked) -> Outcome {
     let answer = c.answer;
     match answer {
-        SetAnswer::Set(set) => with_value(Value::Byte(set.to_byte()), used, pairs, Left::Nothing),
-        SetAnswer::Refused(e) => without_value(e, used, pairs, Left::Nothing),
+        SetAnswer::Set(set) => with_value(set.to_byte() as u64, c.used, c.pairs),
+        SetAnswer::Refused(e) => refused(e, c.used, c.pairs),
     }
 }
 
-fn call_keyboard_detect(script: &[u8], log: &mut [u8]) -> Outcome {
-    let c = keyboard_detect(script, log);
-    let used = c.used;
-    let pairs = c.pairs;
-    let answer = c.answer;
-    match answer {
-        TypeAnswer::Recognised(kind) => {
-            with_value(Value::Keyboard(kind), used, pairs, Left::Nothing)
-        }
-        TypeAnswer::Refused(e) => without_value(e, used, pairs, Left::Nothing),
+fn type_number(kind: KeyboardType) -> u64 {
+    match kind {
+        KeyboardType::MF2Keyboard => 0,
+        KeyboardType::MF2KeyboardWithPSControllerTranslator => 1,
+        KeyboardType::AncientATKeyboard => 2,
     }
 }
 
-fn call_mouse_id(script: &[u8], log: &mut [u8], left: Left) -> Outcome {
-    let c = PS2Mouse::mouse_id(script, log);
-    let used = c.used;
-    let pairs = c.pairs;
+fn detected(c: Detected) -> Outcome {
     let answer = c.answer;
     match answer {
-        IdAnswer::Id(id) => with_value(Value::Byte(id.to_byte()), used, pairs, left),
-        IdAnswer::Refused(e) => without_value(e, used, pairs, left),
+        TypeAnswer::Recognised(kind) => with_value(type_number(kind), c.used, c.pairs),
+        TypeAnswer::Refused(e) => refused(e, c.used, c.pairs),
     }
 }
 
-fn call_set_mouse_id(mouse: PS2Mouse, script: &[u8], log: &mut [u8]) -> Outcome {
-    let c = mouse.set_mouse_id(script, log);
+fn identified(c: Identified) -> Outcome {
     let answer = c.answer;
-    let left = c.mouse;
+    match answer {
+        IdAnswer::Id(id) => with_value(id.to_byte() as u64, c.used, c.pairs),
+        IdAnswer::Refused(e) => refused(e, c.used, c.pairs),
+    }
+}
+
+fn mouse_left(c: MouseLeft) -> Outcome {
+    let answer = c.answer;
+    let mouse = c.mouse;
+    let id = mouse.id;
     Outcome {
         number: completion_number(answer),
+        left: id.to_byte(),
         used: c.used,
         pairs: c.pairs,
-        value: Value::Nothing,
-        left: Left::Mouse(left),
+        value: 0,
     }
 }
 
-fn call_read_mouse_packet(mouse: PS2Mouse, script: &[u8]) -> Outcome {
-    let c = mouse.read_mouse_packet(script);
-    let used = c.used;
+fn magnitude(number: i16) -> u16 {
+    if number < 0 {
+        return (0 - number as i32) as u16;
+    }
+    number as u16
+}
+
+fn widened(number: i8) -> i16 {
+    number as i16
+}
+
+// A movement as a number below 2^17: twice its magnitude, and 1 more where it is negative.
+fn movement(number: i16) -> u64
+    ensures { λ r. ⌜ r ≤ 131071 ⌝ }
+{
+    2 * magnitude(number) as u64 + bit(number < 0)
+}
+
+fn buttons(packet: MousePacket) -> u64
+    ensures { λ r. ⌜ r ≤ 15 ⌝ }
+{
+    bit(packet.button_left())
+        + 2 * bit(packet.button_right())
+        + 4 * bit(packet.button_middle())
+        + 8 * bit(packet.always_one() == 1)
+}
+
+// The fields of a packet, from the lowest bits up: left, right, middle, always one, buttons 4 and 5, and 17 bits each of x, y and the wheel.
+fn packet_number(packet: MousePacket) -> u64 {
+    let above = 16 * bit(packet.button_4()) + 32 * bit(packet.button_5());
+    let x = movement(packet.x_movement());
+    let y = movement(packet.y_movement());
+    let wheel = movement(widened(packet.scroll_movement()));
+    buttons(packet) + above + 64 * (x + 131072 * (y + 131072 * wheel))
+}
+
+fn packet_read(c: PacketRead) -> Outcome {
     let answer = c.answer;
     match answer {
-        PacketAnswer::Packet(packet) => {
-            with_value(Value::Packet(packet), used, 0, Left::Mouse(mouse))
-        }
-        PacketAnswer::Refused(e) => without_value(e, used, 0, Left::Mouse(mouse)),
+        PacketAnswer::Packet(packet) => with_value(packet_number(packet), c.used, 0),
+        PacketAnswer::Refused(e) => refused(e, c.used, 0),
     }
 }
 
-fn call_controller(
-    operation: ControllerOperation,
-    controller: PS2Controller,
-    script: &[u8],
-    log: &mut [u8],
-) -> Outcome {
-    match operation {
-        ControllerOperation::Init => call_init(controller, script, log),
-        ControllerOperation::Test => completed(test(script, log), Left::Nothing),
-        ControllerOperation::TestPort1 => completed(test_port1(script, log), Left::Nothing),
-        ControllerOperation::TestPort2 => completed(test_port2(script, log), Left::Nothing),
-        ControllerOperation::WriteConfig(config) => call_write_config(log, config),
-        ControllerOperation::ReadConfig => call_read_config(script, log),
-        ControllerOperation::PollingSend(set) => completed(
-            polling_send(
-                script,
-                log,
-                HostToDevice::Keyboard(HostToKeyboardCommandOrData::ScancodeSet(set)),
-            ),
-            Left::Nothing,
-        ),
-        ControllerOperation::PollingReceive => call_polling_receive(script),
+// What an argument tells. One that tells nothing is taken for another, and `is_known` finds it.
+
+fn set_of(number: u8) -> ScancodeSet {
+    match ScancodeSet::from_byte(number) {
+        ScancodeSetByte::Listed(set) => set,
+        ScancodeSetByte::Unlisted => ScancodeSet::Set1,
     }
 }
 
-fn call_keyboard(operation: KeyboardOperation, script: &[u8], log: &mut [u8]) -> Outcome {
-    match operation {
-        KeyboardOperation::Command(value) => {
-            commanded(command_to_keyboard(script, log, value), Left::Nothing)
-        }
-        KeyboardOperation::Reset => completed(reset_keyboard(script, log), Left::Nothing),
-        KeyboardOperation::SetLed(leds) => {
-            commanded(set_keyboard_led(script, log, leds), Left::Nothing)
-        }
-        KeyboardOperation::SetScancodeSet(set) => {
-            completed(set_keyboard_scancode_set(script, log, set), Left::Nothing)
-        }
-        KeyboardOperation::GetScancodeSet => call_get_scancode_set(script, log),
-        KeyboardOperation::Detect => call_keyboard_detect(script, log),
-    }
+fn leds_of(number: u8) -> LEDState {
+    LEDState::new()
+        .with_scroll_lock(number % 2 == 1)
+        .with_number_lock(number / 2 % 2 == 1)
+        .with_caps_lock(number / 4 % 2 == 1)
 }
 
-fn call_mouse(
-    operation: MouseOperation,
-    mouse: PS2Mouse,
-    left: Left,
-    script: &[u8],
-    log: &mut [u8],
-) -> Outcome {
-    match operation {
-        MouseOperation::Command(value) => {
-            commanded(PS2Mouse::command_to_mouse(script, log, value), left)
-        }
-        MouseOperation::Reset => completed(PS2Mouse::reset(script, log), left),
-        MouseOperation::Enable => {
-            commanded(PS2Mouse::enable_mouse_packet_streaming(script, log), left)
-        }
-        MouseOperation::Disable => {
-            commanded(PS2Mouse::disable_mouse_packet_streaming(script, log), left)
-        }
-        MouseOperation::SetSamplingRate(rate) => {
-            commanded(PS2Mouse::set_mouse_sampling_rate(script, log, rate), left)
-        }
-        MouseOperation::SetResolution(resolution) => {
-            commanded(PS2Mouse::mouse_resolution(script, log, resolution), left)
-        }
-        MouseOperation::Id => call_mouse_id(script, log, left),
-        MouseOperation::SetId => call_set_mouse_id(mouse, script, log),
-        MouseOperation::ReadPacket => call_read_mouse_packet(mouse, script),
-    }
-}
-
-fn left_of(mouse: PS2Mouse, is_named: bool) -> Left {
-    if is_named {
-        return Left::Mouse(mouse);
-    }
-    Left::Nothing
-}
-
-pub fn call(c: CallLine, script: &[u8], log: &mut [u8]) -> Outcome {
-    let operation = c.operation;
-    let controller = c.controller;
-    let mouse = c.mouse;
-    match operation {
-        Operation::Controller(o) => call_controller(o, controller, script, log),
-        Operation::Keyboard(o) => call_keyboard(o, script, log),
-        Operation::Mouse(o) => call_mouse(o, mouse, left_of(mouse, c.names_mouse), script, log),
-        Operation::Unknown => with_value(Value::Nothing, 0, 0, Left::Nothing),
-    }
-}
-
-// The call so many times, for measuring; answers how much the last used.
-pub fn call_before(c: CallLine, times: usize, script: &[u8], log: &mut [u8]) -> usize {
-    let mut used = 0;
-    let mut i = 0;
-    while i < times {
-        let outcome = call(c, script, log);
-        used = outcome.used;
-        i += 1;
-    }
-    used
-}
-
-// Whether a line's first word is a name.
-pub fn is_named(line: &[u8], name: &[u8]) -> bool {
-    if word_end(line, 0) != name.len() {
-        return false;
-    }
-    stands_at(line, 0, name)
-}
-
-// A hexadecimal byte, or none.
-enum ArgumentByte {
-    Byte(u8),
-    Absent,
-}
-
-// Where the first argument stands.
-pub fn argument_at(line: &[u8]) -> usize {
-    plus(word_end(line, 0), 1)
-}
-
-fn hex_argument(line: &[u8]) -> ArgumentByte {
-    let value = hex_at(line, argument_at(line));
-    if value < 256 {
-        ArgumentByte::Byte(value as u8)
-    } else {
-        ArgumentByte::Absent
-    }
-}
-
-fn number_argument(line: &[u8]) -> ArgumentByte {
-    let at = argument_at(line);
-    if !is_digit(byte_at(line, at)) {
-        return ArgumentByte::Absent;
-    }
-    let value = number_at(line, at);
-    if value < 256 {
-        ArgumentByte::Byte(value as u8)
-    } else {
-        ArgumentByte::Absent
-    }
-}
-
-fn to_keyboard(value: HostToKeyboardCommandOrData) -> Operation {
-    Operation::Keyboard(KeyboardOperation::Command(value))
-}
-
-fn to_mouse(value: HostToMouseCommandOrData) -> Operation {
-    Operation::Mouse(MouseOperation::Command(value))
-}
-
-fn keyboard_command(byte: u8) -> Operation {
-    let command = match byte {
+fn keyboard_command(byte: u8) -> HostToKeyboardCommand {
+    match byte {
         0xED => HostToKeyboardCommand::SetLEDStatus,
         0xF0 => HostToKeyboardCommand::ScancodeSet,
         0xF2 => HostToKeyboardCommand::IdentifyKeyboard,
@@ -497,16 +341,35 @@ fn keyboard_command(byte: u8) -> Operation {
         0xF4 => HostToKeyboardCommand::EnableScanning,
         0xF5 => HostToKeyboardCommand::DisableScanning,
         0xFE => HostToKeyboardCommand::ResendByte,
-        0xFF => HostToKeyboardCommand::ResetAndStartSelfTest,
-        _ => {
-            return Operation::Unknown;
-        }
-    };
-    to_keyboard(HostToKeyboardCommandOrData::KeyboardCommand(command))
+        _ => HostToKeyboardCommand::ResetAndStartSelfTest,
+    }
 }
 
-fn mouse_command(byte: u8) -> Operation {
-    let command = match byte {
+// What 16 to 18 send to the keyboard: a command, a scancode set or lamps.
+fn keyboard_value(op: u8, argument: u8) -> HostToKeyboardCommandOrData {
+    match op {
+        16 => HostToKeyboardCommandOrData::KeyboardCommand(keyboard_command(argument)),
+        18 => HostToKeyboardCommandOrData::LEDState(leds_of(argument)),
+        _ => HostToKeyboardCommandOrData::ScancodeSet(set_of(argument)),
+    }
+}
+
+fn rate_of(number: u8) -> MouseSampleRate {
+    match MouseSampleRate::from_byte(number) {
+        SampleRateByte::Listed(rate) => rate,
+        SampleRateByte::Unlisted => MouseSampleRate::_10,
+    }
+}
+
+fn resolution_of(number: u8) -> MouseResolution {
+    match MouseResolution::from_byte(number) {
+        ResolutionByte::Listed(resolution) => resolution,
+        ResolutionByte::Unlisted => MouseResolution::Count1PerMm,
+    }
+}
+
+fn mouse_command(byte: u8) -> HostToMouseCommand {
+    match byte {
         0xE6 => HostToMouseCommand::SetScaling,
         0xE8 => HostToMouseCommand::SetResolution,
         0xE9 => HostToMouseCommand::StatusRequest,
@@ -521,237 +384,147 @@ fn mouse_command(byte: u8) -> Operation {
         0xF5 => HostToMouseCommand::DisableDataReporting,
         0xF6 => HostToMouseCommand::SetDefaults,
         0xFE => HostToMouseCommand::ResendByte,
-        0xFF => HostToMouseCommand::Reset,
-        _ => {
-            return Operation::Unknown;
-        }
-    };
-    to_mouse(HostToMouseCommandOrData::MouseCommand(command))
-}
-
-fn leds(number: u8) -> LEDState {
-    LEDState::new()
-        .with_scroll_lock(number % 2 == 1)
-        .with_number_lock(number / 2 % 2 == 1)
-        .with_caps_lock(number / 4 % 2 == 1)
-}
-
-// The operations that take a byte in hexadecimal.
-fn with_hex(line: &[u8], byte: u8) -> Operation {
-    if is_named(line, b"write_config") {
-        return Operation::Controller(ControllerOperation::WriteConfig(ControllerConfigurationByte::from_byte(
-            byte,
-        )));
-    }
-    if is_named(line, b"keyboard_command") {
-        return keyboard_command(byte);
-    }
-    if is_named(line, b"mouse_command") {
-        return mouse_command(byte);
-    }
-    Operation::Unknown
-}
-
-// The operations that take a scancode set.
-fn with_set(line: &[u8], number: u8) -> Operation {
-    let ScancodeSetByte::Listed(set) = ScancodeSet::from_byte(number) else {
-        return Operation::Unknown;
-    };
-    if is_named(line, b"polling_send") {
-        return Operation::Controller(ControllerOperation::PollingSend(set));
-    }
-    if is_named(line, b"keyboard_data_set") {
-        return to_keyboard(HostToKeyboardCommandOrData::ScancodeSet(set));
-    }
-    if is_named(line, b"set_keyboard_scancode_set") {
-        return Operation::Keyboard(KeyboardOperation::SetScancodeSet(set));
-    }
-    Operation::Unknown
-}
-
-// The operations that take lamps.
-fn with_leds(line: &[u8], number: u8) -> Operation {
-    if 7 < number {
-        return Operation::Unknown;
-    }
-    if is_named(line, b"keyboard_data_led") {
-        return to_keyboard(HostToKeyboardCommandOrData::LEDState(leds(number)));
-    }
-    if is_named(line, b"set_keyboard_led") {
-        return Operation::Keyboard(KeyboardOperation::SetLed(leds(number)));
-    }
-    Operation::Unknown
-}
-
-// The operations that take a sampling rate.
-fn with_rate(line: &[u8], number: u8) -> Operation {
-    let SampleRateByte::Listed(rate) = MouseSampleRate::from_byte(number) else {
-        return Operation::Unknown;
-    };
-    if is_named(line, b"mouse_data_rate") {
-        return to_mouse(HostToMouseCommandOrData::SampleRate(rate));
-    }
-    if is_named(line, b"set_mouse_sampling_rate") {
-        return Operation::Mouse(MouseOperation::SetSamplingRate(rate));
-    }
-    Operation::Unknown
-}
-
-// The operations that take a resolution.
-fn with_resolution(line: &[u8], number: u8) -> Operation {
-    let ResolutionByte::Listed(resolution) = MouseResolution::from_byte(number) else {
-        return Operation::Unknown;
-    };
-    if is_named(line, b"mouse_data_resolution") {
-        return to_mouse(HostToMouseCommandOrData::MouseResolution(resolution));
-    }
-    if is_named(line, b"mouse_resolution") {
-        return Operation::Mouse(MouseOperation::SetResolution(resolution));
-    }
-    Operation::Unknown
-}
-
-// Whether an operation is one of those that were asked for.
-pub fn is_known(operation: Operation) -> bool {
-    match operation {
-        Operation::Unknown => false,
-        _ => true,
+        _ => HostToMouseCommand::Reset,
     }
 }
 
-// The operations that take a number.
-fn with_number(line: &[u8], number: u8) -> Operation {
-    let set = with_set(line, number);
-    if is_known(set) {
-        return set;
-    }
-    let leds = with_leds(line, number);
-    if is_known(leds) {
-        return leds;
-    }
-    let rate = with_rate(line, number);
-    if is_known(rate) {
-        return rate;
-    }
-    with_resolution(line, number)
-}
-
-// The operations of the controller that take nothing.
-fn plain_operation(line: &[u8]) -> Operation {
-    if is_named(line, b"init") {
-        return Operation::Controller(ControllerOperation::Init);
-    }
-    if is_named(line, b"controller_test") {
-        return Operation::Controller(ControllerOperation::Test);
-    }
-    if is_named(line, b"test_port1") {
-        return Operation::Controller(ControllerOperation::TestPort1);
-    }
-    if is_named(line, b"test_port2") {
-        return Operation::Controller(ControllerOperation::TestPort2);
-    }
-    if is_named(line, b"read_config") {
-        return Operation::Controller(ControllerOperation::ReadConfig);
-    }
-    if is_named(line, b"polling_receive") {
-        return Operation::Controller(ControllerOperation::PollingReceive);
-    }
-    plain_keyboard_operation(line)
-}
-
-// The operations of the keyboard that take nothing.
-fn plain_keyboard_operation(line: &[u8]) -> Operation {
-    if is_named(line, b"keyboard_reset") {
-        return Operation::Keyboard(KeyboardOperation::Reset);
-    }
-    if is_named(line, b"get_keyboard_scancode_set") {
-        return Operation::Keyboard(KeyboardOperation::GetScancodeSet);
-    }
-    if is_named(line, b"keyboard_detect") {
-        return Operation::Keyboard(KeyboardOperation::Detect);
-    }
-    plain_mouse_operation(line)
-}
-
-// The operations of the mouse that take nothing.
-fn plain_mouse_operation(line: &[u8]) -> Operation {
-    if is_named(line, b"mouse_reset") {
-        return Operation::Mouse(MouseOperation::Reset);
-    }
-    if is_named(line, b"mouse_enable") {
-        return Operation::Mouse(MouseOperation::Enable);
-    }
-    if is_named(line, b"mouse_disable") {
-        return Operation::Mouse(MouseOperation::Disable);
-    }
-    if is_named(line, b"mouse_id") {
-        return Operation::Mouse(MouseOperation::Id);
-    }
-    if is_named(line, b"set_mouse_id") {
-        return Operation::Mouse(MouseOperation::SetId);
-    }
-    if is_named(line, b"read_mouse_packet") {
-        return Operation::Mouse(MouseOperation::ReadPacket);
-    }
-    Operation::Unknown
-}
-
-// The operation that a line names.
-fn operation_of(line: &[u8]) -> Operation {
-    let plain = plain_operation(line);
-    if is_known(plain) {
-        return plain;
-    }
-    if let ArgumentByte::Byte(byte) = hex_argument(line) {
-        let operation = with_hex(line, byte);
-        if is_known(operation) {
-            return operation;
-        }
-    }
-    if let ArgumentByte::Byte(number) = number_argument(line) {
-        return with_number(line, number);
-    }
-    Operation::Unknown
-}
-
-// Whether a record's field, as `kbd:`, is 1.
-pub fn is_set(line: &[u8], key: &[u8]) -> bool {
-    byte_at(line, after_key(line, key)) == b'1'
-}
-
-fn identity_of(line: &[u8]) -> MouseIdByte {
-    let at = after_key(line, b"id:");
-    if line.len() <= at {
-        return MouseIdByte::Listed(MouseId::Zero);
-    }
-    match byte_at(line, at) {
-        b'0' => MouseIdByte::Listed(MouseId::Zero),
-        b'3' => MouseIdByte::Listed(MouseId::Three),
-        b'4' => MouseIdByte::Listed(MouseId::Four),
-        _ => MouseIdByte::Unlisted,
+// What 32 to 34 send to the mouse: a command, a rate or a resolution.
+fn mouse_value(op: u8, argument: u8) -> HostToMouseCommandOrData {
+    match op {
+        32 => HostToMouseCommandOrData::MouseCommand(mouse_command(argument)),
+        33 => HostToMouseCommandOrData::SampleRate(rate_of(argument)),
+        _ => HostToMouseCommandOrData::MouseResolution(resolution_of(argument)),
     }
 }
 
-// The call that a line tells. Its operation is `Unknown` where it tells none.
-pub fn call_of(line: &[u8]) -> CallLine {
-    let controller = PS2Controller {
-        initialized: is_set(line, b"init:"),
-        keyboard_attached: is_set(line, b"kbd:"),
-        mouse_attached: is_set(line, b"mouse:"),
-    };
-    let names_mouse = after_key(line, b"id:") < line.len();
-    match identity_of(line) {
-        MouseIdByte::Listed(id) => CallLine {
-            operation: operation_of(line),
-            controller,
-            mouse: PS2Mouse { id },
-            names_mouse,
-        },
-        MouseIdByte::Unlisted => CallLine {
-            operation: Operation::Unknown,
-            controller,
-            mouse: PS2Mouse::new(),
-            names_mouse,
-        },
+fn id_of(state: usize) -> MouseId {
+    match MouseId::from_byte((state % 256) as u8) {
+        MouseIdByte::Listed(id) => id,
+        MouseIdByte::Unlisted => MouseId::Zero,
     }
+}
+
+// An argument as it is taken.
+fn taken_argument(op: u8, argument: u8) -> u8 {
+    match op {
+        7 => set_of(argument).to_byte(),
+        16..=18 => keyboard_value(op, argument).to_byte(),
+        20 => leds_of(argument).to_byte(),
+        21 => set_of(argument).to_byte(),
+        32..=34 => mouse_value(op, argument).to_byte(),
+        38 => rate_of(argument).to_byte(),
+        39 => resolution_of(argument).to_byte(),
+        _ => argument,
+    }
+}
+
+// Whether there is such an operation, with such an argument and such a state.
+fn is_known(i: Instruction) -> bool {
+    if taken_argument(i.op, i.argument) != i.argument {
+        return false;
+    }
+    let op = i.op;
+    match op {
+        1..=8 => true,
+        16..=23 => true,
+        32..=42 => id_of(i.state).to_byte() as usize == i.state,
+        48 => true,
+        _ => false,
+    }
+}
+
+// The controller's operations that complete, without a value: 2 to 4, and 7.
+fn complete_controller(op: u8, argument: u8, script: &[u8], log: &mut [u8]) -> Completed {
+    match op {
+        2 => test(script, log),
+        3 => test_port1(script, log),
+        4 => test_port2(script, log),
+        _ => polling_send(
+            script,
+            log,
+            HostToDevice::Keyboard(keyboard_value(17, argument)),
+        ),
+    }
+}
+
+// The controller's operations, 1 to 8.
+fn call_controller(op: u8, argument: u8, state: usize, script: &[u8], log: &mut [u8]) -> Outcome {
+    match op {
+        1 => initialized(init(controller_of(state), script, log)),
+        5 => written(write_config(log, ControllerConfigurationByte::from_byte(argument))),
+        6 => config_read(read_config(script, log)),
+        8 => received(polling_receive(script)),
+        _ => completed(complete_controller(op, argument, script, log)),
+    }
+}
+
+// The keyboard's operations that are one command: 16 to 18, and 20.
+fn command_keyboard(op: u8, argument: u8, script: &[u8], log: &mut [u8]) -> Commanded {
+    match op {
+        20 => set_keyboard_led(script, log, leds_of(argument)),
+        _ => command_to_keyboard(script, log, keyboard_value(op, argument)),
+    }
+}
+
+// The keyboard's operations, 16 to 23.
+fn call_keyboard(op: u8, argument: u8, script: &[u8], log: &mut [u8]) -> Outcome {
+    match op {
+        19 => completed(reset_keyboard(script, log)),
+        21 => completed(set_keyboard_scancode_set(script, log, set_of(argument))),
+        22 => set_asked(get_keyboard_scancode_set(script, log)),
+        23 => detected(keyboard_detect(script, log)),
+        _ => commanded(command_keyboard(op, argument, script, log)),
+    }
+}
+
+// The mouse's operations that are one command: 32 to 34, and 36 to 39.
+fn command_mouse(op: u8, argument: u8, script: &[u8], log: &mut [u8]) -> Commanded {
+    match op {
+        36 => PS2Mouse::enable_mouse_packet_streaming(script, log),
+        37 => PS2Mouse::disable_mouse_packet_streaming(script, log),
+        38 => PS2Mouse::set_mouse_sampling_rate(script, log, rate_of(argument)),
+        39 => PS2Mouse::mouse_resolution(script, log, resolution_of(argument)),
+        _ => PS2Mouse::command_to_mouse(script, log, mouse_value(op, argument)),
+    }
+}
+
+// The mouse's operations, 32 to 42.
+fn call_mouse(op: u8, argument: u8, state: usize, script: &[u8], log: &mut [u8]) -> Outcome {
+    let mouse = PS2Mouse { id: id_of(state) };
+    match op {
+        35 => completed(PS2Mouse::reset(script, log)),
+        40 => identified(PS2Mouse::mouse_id(script, log)),
+        41 => mouse_left(set_mouse_id(mouse, script, log)),
+        42 => packet_read(mouse.read_mouse_packet(script)),
+        _ => commanded(command_mouse(op, argument, script, log)),
+    }
+}
+
+// The call that an instruction tells.
+fn call(i: Instruction, script: &[u8], log: &mut [u8]) -> Outcome {
+    if i.op < 16 {
+        return call_controller(i.op, i.argument, i.state, script, log);
+    }
+    if i.op < 32 {
+        return call_keyboard(i.op, i.argument, script, log);
+    }
+    if i.op < 48 {
+        return call_mouse(i.op, i.argument, i.state, script, log);
+    }
+    call_keyboard_init(script, log)
+}
+
+// The call as often as the instruction tells, and the outcome of the last: more than once is for measuring.
+pub fn call_times(i: Instruction, script: &[u8], log: &mut [u8]) -> Outcome {
+    if !is_known(i) {
+        return unknown();
+    }
+    let mut outcome = call(i, script, log);
+    let mut n = 1;
+    while n < i.times {
+        let again = call(i, script, log);
+        outcome = again;
+        n += 1;
+    }
+    outcome
 }

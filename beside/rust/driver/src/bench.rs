@@ -1,8 +1,9 @@
-//! How long the port takes for a call, and the Rust: the same call lines to both programs, each of which repeats a call
+//! How long the port takes for a call, and the Rust: the same calls to both programs, each of which repeats a call
 //! on its own side. What a program and a line cost beside the calls is taken off by a run that makes each call once.
 
-use crate::call::{ALL_FLAGS, LAST_KEYCODE};
+use crate::call::{self, Call, ALL_FLAGS, LAST_KEYCODE};
 use crate::device::Rng;
+use crate::packed::{put_call, read_answer};
 use std::io::{self, Read, Write};
 use std::process::{Child, Command, ExitCode, Stdio};
 use std::thread;
@@ -22,16 +23,17 @@ fn processor_time(child: Child) -> io::Result<f64> {
     }
 }
 
-/// A program of either side, and the input with which it makes each call so many times.
+/// A program of either side, the input with which it makes each call so many times, and what is wrong with its output.
 struct Side<'a> {
     program: &'a [&'a str],
-    input: &'a dyn Fn(u64) -> Vec<u8>,
+    input: &'a dyn Fn(u64) -> Result<Vec<u8>, String>,
+    error: &'a dyn Fn(&[u8]) -> Option<String>,
 }
 
 impl Side<'_> {
     /// The seconds that the program takes, and what it writes.
     fn run(&self, times: u64) -> io::Result<(f64, Vec<u8>)> {
-        let input = (self.input)(times);
+        let input = (self.input)(times).map_err(io::Error::other)?;
         let mut command = Command::new(self.program[0]);
         let mut child = command.args(&self.program[1..]).stdin(Stdio::piped()).stdout(Stdio::piped()).spawn()?;
         let (mut stdin, mut stdout) = (child.stdin.take().unwrap(), child.stdout.take().unwrap());
@@ -41,10 +43,10 @@ impl Side<'_> {
             stdout.read_to_end(&mut output)
         })?;
         let seconds = processor_time(child)?;
-        if output.starts_with(b"error:") {
-            return Err(io::Error::other(String::from_utf8_lossy(&output).lines().next().unwrap().to_string()));
+        match (self.error)(&output) {
+            Some(why) => Err(io::Error::other(why)),
+            None => Ok((seconds, output)),
         }
-        Ok((seconds, output))
     }
 
     /// The seconds that so many repetitions take more than one.
@@ -112,6 +114,26 @@ fn entering() -> f64 {
     start.elapsed().as_secs_f64() * 1e9 / TIMES as f64
 }
 
+/// Packed calls, for the port's program.
+fn packed(calls: &[Call], times: u64) -> Result<Vec<u8>, String> {
+    let mut out = Vec::new();
+    for call in calls {
+        put_call(&Call { repeat: times, ..call.clone() }, &mut out)?;
+    }
+    Ok(out)
+}
+
+fn packed_error(calls: &[Call], mut output: &[u8]) -> Option<String> {
+    calls.iter().find_map(|call| match read_answer(&call.op, &mut output) {
+        Ok(answer) => answer.err(),
+        Err(why) => Some(why.to_string()),
+    })
+}
+
+fn line_error(output: &[u8]) -> Option<String> {
+    output.starts_with(b"error:").then(|| String::from_utf8_lossy(output).lines().next().unwrap().to_string())
+}
+
 pub fn bench(port: &str, tablekeys: &str, rounds: usize) -> io::Result<ExitCode> {
     let own = std::env::current_exe()?;
     let own = own.to_str().expect("a path in UTF-8");
@@ -136,8 +158,21 @@ pub fn bench(port: &str, tablekeys: &str, rounds: usize) -> io::Result<ExitCode>
         let repeated = |lines: &[String], times| -> Vec<u8> {
             lines.iter().flat_map(|line| format!("{line} repeat={times}\n").into_bytes()).collect()
         };
-        let rust = Side { program: &[own, "replay"], input: &|times| repeated(for_rust, times) };
-        let port = Side { program: &[port], input: &|times| repeated(for_port, times) };
+        if for_port[0].starts_with("handle_in_place") {
+            println!("{name:<44} not measured: the port's program has no such operation");
+            continue;
+        }
+        let parsed: Vec<Call> = for_port.iter().map(|line| call::parse(line).expect("a good line")).collect();
+        let rust = Side {
+            program: &[own, "replay"],
+            input: &|times| Ok(repeated(for_rust, times)),
+            error: &line_error,
+        };
+        let port = Side {
+            program: &[port],
+            input: &|times| packed(&parsed, times),
+            error: &|output| packed_error(&parsed, output),
+        };
         let times = rust.enough()?;
         if let Err(why) = measure(name, calls as f64, times, rounds, &rust, &port) {
             println!("{name:<44} not measured: {why}");
@@ -146,9 +181,9 @@ pub fn bench(port: &str, tablekeys: &str, rounds: usize) -> io::Result<ExitCode>
 
     // This program can't repeat: it is run on all the keys, and on none, to take off its start.
     let keys = keys();
-    let input = |times| if times == 1 { Vec::new() } else { keys.clone() };
-    let rust = Side { program: &[own, "tablekeys"], input: &input };
-    let port = Side { program: &[tablekeys], input: &input };
+    let input = |times| Ok(if times == 1 { Vec::new() } else { keys.clone() });
+    let rust = Side { program: &[own, "tablekeys"], input: &input, error: &|_| None };
+    let port = Side { program: &[tablekeys], input: &input, error: &|_| None };
     let name = "tablekeys, 65,536 bytes of keys";
     match port.run(2) {
         Ok((_, written)) if written == rust.run(2)?.1 => measure(name, 1.0, 2, 5 * rounds, &rust, &port)?,

@@ -217,11 +217,11 @@ fn parse_op(name: &str, args: &[&str], state: Option<&str>, plan: Option<&str>) 
     Ok(op)
 }
 
-fn decimal(text: &str) -> Result<u64, String> {
+pub fn decimal(text: &str) -> Result<u64, String> {
     text.parse().map_err(|_| format!("'{text}' is no decimal number"))
 }
 
-fn hex(text: &str, digits: usize) -> Result<u16, String> {
+pub fn hex(text: &str, digits: usize) -> Result<u16, String> {
     let good = text.len() == digits && text.bytes().all(|b| b.is_ascii_hexdigit());
     if !good {
         return Err(format!("'{text}' is not {digits} hexadecimal digits"));
@@ -230,7 +230,7 @@ fn hex(text: &str, digits: usize) -> Result<u16, String> {
 }
 
 /// Parts joined by commas, each perhaps repeated: 0001FA*4,02*255. `-` is empty.
-fn parse_script(text: &str) -> Result<Vec<u8>, String> {
+pub fn parse_script(text: &str) -> Result<Vec<u8>, String> {
     let mut script = Vec::new();
     if text == "-" || text.is_empty() {
         return Ok(script);
@@ -250,12 +250,12 @@ fn parse_script(text: &str) -> Result<Vec<u8>, String> {
 }
 
 /// The pairs `key:value` of a state.
-fn pairs(state: Option<&str>) -> impl Iterator<Item = Result<(&str, &str), String>> {
+pub fn pairs(state: Option<&str>) -> impl Iterator<Item = Result<(&str, &str), String>> {
     let parts = state.into_iter().flat_map(|s| s.split(','));
     parts.map(|part| part.split_once(':').ok_or_else(|| format!("'{part}' of the state is not key:value")))
 }
 
-fn bit(text: &str) -> Result<bool, String> {
+pub fn bit(text: &str) -> Result<bool, String> {
     match text {
         "0" => Ok(false),
         "1" => Ok(true),
@@ -263,7 +263,7 @@ fn bit(text: &str) -> Result<bool, String> {
     }
 }
 
-fn parse_controller(state: Option<&str>) -> Result<Controller, String> {
+pub fn parse_controller(state: Option<&str>) -> Result<Controller, String> {
     let mut controller = Controller::default();
     for pair in pairs(state) {
         match pair? {
@@ -276,7 +276,7 @@ fn parse_controller(state: Option<&str>) -> Result<Controller, String> {
     Ok(controller)
 }
 
-fn parse_identity(state: Option<&str>) -> Result<Option<u8>, String> {
+pub fn parse_identity(state: Option<&str>) -> Result<Option<u8>, String> {
     let mut identity = None;
     for pair in pairs(state) {
         identity = match pair? {
@@ -296,7 +296,7 @@ fn parse_flags(text: &str) -> Result<u16, String> {
     }
 }
 
-fn parse_handler(state: Option<&str>) -> Result<Handler, String> {
+pub fn parse_handler(state: Option<&str>) -> Result<Handler, String> {
     let mut handler = Handler::default();
     for pair in pairs(state) {
         match pair? {
@@ -319,7 +319,7 @@ fn parse_handler(state: Option<&str>) -> Result<Handler, String> {
     Ok(handler)
 }
 
-fn parse_event(text: &str) -> Result<KeyEvent, String> {
+pub fn parse_event(text: &str) -> Result<KeyEvent, String> {
     let bad = || format!("'{text}' is no event");
     if text.len() != 6 || !text.is_ascii() {
         return Err(bad());
@@ -354,36 +354,27 @@ fn parse_plan(text: &str) -> Result<Vec<Step>, String> {
 }
 
 /// Bytes as hexadecimal digits; none as `-`.
-pub fn push_hex(out: &mut String, bytes: &[u8]) {
-    const DIGITS: &[u8; 16] = b"0123456789ABCDEF";
-    if bytes.is_empty() {
-        out.push('-');
-    }
-    for byte in bytes {
-        out.push(DIGITS[(byte >> 4) as usize] as char);
-        out.push(DIGITS[(byte & 15) as usize] as char);
+pub struct Hex<'a>(pub &'a [u8]);
+
+impl fmt::Display for Hex<'_> {
+    fn fmt(&self, f: &mut fmt::Formatter) -> fmt::Result {
+        const DIGITS: &[u8; 16] = b"0123456789ABCDEF";
+        if self.0.is_empty() {
+            return f.write_str("-");
+        }
+        for byte in self.0 {
+            f.write_char(DIGITS[(byte >> 4) as usize] as char)?;
+            f.write_char(DIGITS[(byte & 15) as usize] as char)?;
+        }
+        Ok(())
     }
 }
 
-/// A script with its long runs of one byte, or of two in turn, as `XX*N` and `XXYY*N`.
-fn push_script(out: &mut String, script: &[u8]) {
+/// A script in parts, each with how often it comes: long runs of one byte, or of two in turn, and what is between them.
+pub fn parts(script: &[u8]) -> Vec<(&[u8], usize)> {
     const LONG: usize = 12;
-    if script.is_empty() {
-        return out.push('-');
-    }
+    let mut parts = Vec::new();
     let (mut plain, mut at) = (0, 0);
-    let mut first = true;
-    let mut part = |out: &mut String, bytes: &[u8], times: usize| {
-        if !bytes.is_empty() {
-            if !std::mem::take(&mut first) {
-                out.push(',');
-            }
-            push_hex(out, bytes);
-            if times > 1 {
-                write!(out, "*{times}").unwrap();
-            }
-        }
-    };
     while at < script.len() {
         let rest = &script[at..];
         let run = |width: usize| {
@@ -396,12 +387,27 @@ fn push_script(out: &mut String, script: &[u8]) {
             at += 1;
             continue;
         }
-        part(out, &script[plain..at], 1);
-        part(out, &script[at..at + width], times);
+        parts.push((&script[plain..at], 1));
+        parts.push((&script[at..at + width], times));
         at += width * times;
         plain = at;
     }
-    part(out, &script[plain..], 1);
+    parts.push((&script[plain..], 1));
+    parts.retain(|(bytes, _)| !bytes.is_empty());
+    parts
+}
+
+/// A script with its long runs as `XX*N` and `XXYY*N`.
+fn push_script(out: &mut String, script: &[u8]) {
+    for (i, (bytes, times)) in parts(script).into_iter().enumerate() {
+        write!(out, "{}{}", if i == 0 { "" } else { "," }, Hex(bytes)).unwrap();
+        if times > 1 {
+            write!(out, "*{times}").unwrap();
+        }
+    }
+    if script.is_empty() {
+        out.push('-');
+    }
 }
 
 impl fmt::Display for KeyEvent {

@@ -1,29 +1,33 @@
 //! The same calls to the Rust and to the port's program, and their answers held side by side.
 
+use crate::answer::{Answer, Done};
 use crate::call;
-use crate::call::Call;
+use crate::call::{Call, Op};
 use crate::device::Rng;
 use crate::generate::{by_chance, kind_by_chance, sweep, Enough};
 use crate::oracle::Oracle;
+use crate::packed::{put_call, put_write, read_answer};
+use crate::port::Port;
 use std::collections::BTreeMap;
-use std::io::{self, BufRead, BufReader, Write};
-use std::process::{Command, ExitCode, Stdio};
+use std::io::{self, BufRead, Read, Write};
+use std::process::ExitCode;
 use std::sync::atomic::{AtomicU64, Ordering};
 use std::sync::mpsc::{sync_channel, SyncSender};
 use std::thread;
 use std::time::{Duration, Instant};
 
-/// A call line and the Rust's answer.
-type Pair = (String, String);
+/// A call line, its operation and the Rust's answer.
+type Asked = (String, Op, Answer);
 
 /// How many calls have been found alike.
 static ALIKE: AtomicU64 = AtomicU64::new(0);
 
-/// Calls on their way: lines to the port's program, pairs to the thread that compares.
+/// Calls on their way: packed to the port's program, with the Rust's answers to the thread that compares.
 struct Sender {
     to_port: SyncSender<Vec<u8>>,
-    to_reader: SyncSender<Vec<Pair>>,
-    batch: Vec<Pair>,
+    to_reader: SyncSender<Vec<Asked>>,
+    packed: Vec<u8>,
+    batch: Vec<Asked>,
     calls: u64,
     wanted: u64,
     kinds: BTreeMap<&'static str, u64>,
@@ -33,21 +37,18 @@ struct Sender {
 impl Sender {
     fn send(&mut self, oracle: &mut Oracle, call: Call) -> Result<(), Enough> {
         const BATCH: usize = 256;
-        // The port's program takes no line of 65,536 characters.
-        const LONGEST_LINE: usize = 60_000;
         if self.calls == self.wanted {
             return Err(Enough);
         }
+        // Both sides are called by what the line says.
         let line = call.line();
-        if line.len() > LONGEST_LINE {
-            return Ok(());
-        }
+        let call = call::parse(&line).expect("a good line");
+        put_call(&call, &mut self.packed).expect("a call within the program's space");
         self.calls += 1;
-        // The Rust too is called by what the line says.
-        let answer = oracle.answer(&call::parse(&line).expect("a good line"));
+        let answer = oracle.answer(&call);
         *self.kinds.entry(call.op.name()).or_default() += 1;
         count_answers(&mut self.answers, &answer);
-        self.batch.push((line, answer));
+        self.batch.push((line, call.op, answer));
         if self.batch.len() == BATCH {
             self.flush()
         } else {
@@ -56,26 +57,49 @@ impl Sender {
     }
 
     fn flush(&mut self) -> Result<(), Enough> {
-        let batch = std::mem::take(&mut self.batch);
-        let lines: String = batch.iter().flat_map(|(line, _)| [line.as_str(), "\n"]).collect();
+        put_write(&mut self.packed);
         // A channel is closed only where the comparison has ended.
-        self.to_port.send(lines.into_bytes()).map_err(|_| Enough)?;
-        self.to_reader.send(batch).map_err(|_| Enough)
+        self.to_port.send(std::mem::take(&mut self.packed)).map_err(|_| Enough)?;
+        self.to_reader.send(std::mem::take(&mut self.batch)).map_err(|_| Enough)
     }
 }
 
-/// Counts a line's answer by its number, and a handler line's by those of its calls.
-fn count_answers(answers: &mut BTreeMap<String, u64>, line: &str) {
-    let field = |name: &str| line.split(' ').find_map(|word| word.strip_prefix(name));
-    let Some(calls) = field("calls=") else {
-        let out = field("out=").unwrap_or("none");
-        *answers.entry(out.trim_start_matches("refused:").to_string()).or_default() += 1;
-        return;
+/// Counts an answer by its number, and a run's by those of its calls.
+fn count_answers(answers: &mut BTreeMap<String, u64>, answer: &Answer) {
+    let mut count = |number: u8| {
+        let name = if number == 0 { "ok".to_string() } else { number.to_string() };
+        *answers.entry(name).or_default() += 1;
     };
-    for end in calls.split(',').filter(|call| call.starts_with("h:")).filter_map(|call| call.rsplit(':').next()) {
-        for number in end.split('+') {
-            *answers.entry(number.to_string()).or_default() += 1;
+    match answer {
+        Answer::Call { end, .. } => count(*end),
+        Answer::Run { done, .. } => {
+            for d in done {
+                if let Done::Handled { end, lamps_failed, .. } = d {
+                    count(*end);
+                    if *lamps_failed {
+                        count(14);
+                    }
+                }
+            }
         }
+    }
+}
+
+/// Reads from the port's program, and changes a byte of the answers where that is asked for.
+struct Damaging<R> {
+    from: R,
+    /// Whether the next bytes are to be changed.
+    now: bool,
+}
+
+impl<R: Read> Read for Damaging<R> {
+    fn read(&mut self, into: &mut [u8]) -> io::Result<usize> {
+        let count = self.from.read(into)?;
+        // The ninth byte of an answer tells, with seven more, how much was used.
+        if count > 8 && std::mem::take(&mut self.now) {
+            into[8] ^= 1;
+        }
+        Ok(count)
     }
 }
 
@@ -84,45 +108,42 @@ fn listed<K: std::fmt::Display>(counts: &BTreeMap<K, u64>) -> String {
 }
 
 /// Ends the program, with the exit status 1.
-fn differ(call: u64, pair: &Pair, port: &str) -> ! {
-    let (line, rust) = pair;
+fn differ(call: u64, (line, _, rust): &Asked, port: &str) -> ! {
     println!("# the first difference: call {call}");
     println!("{line}\n# the Rust\n{rust}\n# the port\n{port}");
     std::process::exit(1)
 }
 
-pub fn compare(port: &str, calls: u64, seed: u64) -> io::Result<ExitCode> {
+/// Compares so many calls. The port's answer to call `damaged` is changed on its way, so that a comparison can be seen to find it.
+pub fn compare(port: &str, calls: u64, seed: u64, damaged: Option<u64>) -> io::Result<ExitCode> {
     let start = Instant::now();
-    let mut child = Command::new(port).stdin(Stdio::piped()).stdout(Stdio::piped()).spawn()?;
-    let mut input = child.stdin.take().unwrap();
-    let mut output = BufReader::with_capacity(1 << 16, child.stdout.take().unwrap());
+    let Port { mut child, mut input, output } = Port::start(port)?;
 
     // One thread writes and another reads, so that neither side waits for the other.
-    let (to_port, lines) = sync_channel::<Vec<u8>>(16);
+    let (to_port, batches) = sync_channel::<Vec<u8>>(16);
     let writer = thread::spawn(move || {
-        for batch in lines {
+        for batch in batches {
             // Where the port's program has ended, the reader tells.
             if input.write_all(&batch).is_err() {
                 return;
             }
         }
     });
-    let (to_reader, pairs) = sync_channel::<Vec<Pair>>(64);
+    let (to_reader, asked) = sync_channel::<Vec<Asked>>(64);
     let reader = thread::spawn(move || {
-        let mut got = String::new();
-        for pair in pairs.iter().flatten() {
-            got.clear();
-            let read = output.read_line(&mut got);
-            let answer = if matches!(read, Ok(n) if n > 0) { got.trim_end_matches('\n') } else { "(no answer)" };
+        let mut output = Damaging { from: output, now: false };
+        for one in asked.iter().flatten() {
             let call = ALIKE.load(Ordering::Relaxed) + 1;
-            if answer != pair.1 {
-                differ(call, &pair, answer);
+            output.now = damaged == Some(call);
+            match read_answer(&one.1, &mut output) {
+                Ok(Ok(answer)) if answer == one.2 => {}
+                Ok(Ok(answer)) => differ(call, &one, &answer.to_string()),
+                Ok(Err(why)) => differ(call, &one, &format!("({why})")),
+                Err(_) => differ(call, &one, "(no answer)"),
             }
             ALIKE.store(call, Ordering::Relaxed);
         }
-        got.clear();
-        let _ = output.read_line(&mut got);
-        got
+        matches!(output.from.fill_buf(), Ok(rest) if !rest.is_empty())
     });
     let progress = thread::spawn(move || loop {
         thread::park_timeout(Duration::from_secs(5));
@@ -137,6 +158,7 @@ pub fn compare(port: &str, calls: u64, seed: u64) -> io::Result<ExitCode> {
     let mut sender = Sender {
         to_port,
         to_reader,
+        packed: Vec::new(),
         batch: Vec::new(),
         calls: 0,
         wanted: calls,
@@ -160,8 +182,8 @@ pub fn compare(port: &str, calls: u64, seed: u64) -> io::Result<ExitCode> {
     let status = child.wait()?;
     progress.thread().unpark();
     progress.join().unwrap();
-    if !more.is_empty() {
-        println!("# the port's program answered more lines than it was given calls: {more}");
+    if more {
+        println!("# the port's program answered more than it was given calls");
         return Ok(ExitCode::from(1));
     }
     if !status.success() {

@@ -1,12 +1,12 @@
 //! Calls of every operation: a sweep that leaves nothing out, then calls by chance.
 
+use crate::answer::Answer;
 use crate::call::*;
 use crate::device::*;
 use crate::oracle::Oracle;
+use crate::packed::LONGEST_SCRIPT;
 use std::collections::BTreeMap;
 
-/// No script is longer: the port's program takes no more than 4,199,999 bytes.
-const LONGEST_SCRIPT: usize = 2_500_000;
 
 /// How many bytes for a device are answered badly: fewer than its attempts, all four, the next command's too, all.
 const TIMES: [usize; 5] = [1, 3, 4, 5, 1000];
@@ -343,9 +343,10 @@ pub fn sample(oracle: &mut Oracle, calls: u64, seed: u64, emit: &mut dyn FnMut(&
 /// the three end.
 fn limits_that_count(oracle: &mut Oracle, op: &Op, seed: u64) -> BTreeMap<[String; 3], Vec<[Call; 3]>> {
     // An answer without its counts and its log.
-    let end = |answer: String| {
-        let lamps = if answer.contains("+14") { "+14" } else { "" };
-        answer.split(' ').next().unwrap().to_string() + answer.rsplit(' ').next().unwrap() + lamps
+    let end = |answer: Answer| {
+        let line = answer.to_string();
+        let lamps = if line.contains("+14") { "+14" } else { "" };
+        line.split(' ').next().unwrap().to_string() + line.rsplit(' ').next().unwrap() + lamps
     };
     let reads = recorded(oracle, op, seed, 0, Twist::None).script.len();
     let mut places = BTreeMap::<_, Vec<_>>::new();

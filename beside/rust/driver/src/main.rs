@@ -1,35 +1,22 @@
 //! Runs Theseus's three files beside the port: see ../../../README.md.
 
+mod answer;
 mod bench;
 mod call;
 mod compare;
 mod device;
 mod generate;
 mod oracle;
+mod packed;
+mod port;
 
-use std::io::{self, BufRead, BufWriter, Read, Write};
+use std::io::{self, BufWriter, Read, Write};
 use std::process::ExitCode;
 
-/// Answers each call line of standard input. A bad line gets an error with its number, and the exit status 1.
+/// Answers the call lines of standard input by the Rust.
 fn replay() -> io::Result<ExitCode> {
     let mut oracle = oracle::Oracle::new();
-    let mut out = BufWriter::new(io::stdout().lock());
-    let mut bad = false;
-    for (number, line) in (1..).zip(io::stdin().lock().lines()) {
-        let line = line?;
-        if call::is_skipped(&line) {
-            continue;
-        }
-        match call::parse(&line) {
-            Ok(call) => writeln!(out, "{}", oracle.answer(&call))?,
-            Err(why) => {
-                bad = true;
-                writeln!(out, "error: line {number}: {why}")?;
-            }
-        }
-    }
-    out.flush()?;
-    Ok(ExitCode::from(bad as u8))
+    port::answer_lines(|call| Ok(oracle.answer(call)))
 }
 
 /// Writes calls of every operation with the Rust's answers.
@@ -47,7 +34,7 @@ fn sample(calls: u64, seed: u64) -> io::Result<ExitCode> {
 
 /// Document 01's program over the Rust: the events of the first 65,536 bytes of standard input.
 fn tablekeys() -> io::Result<ExitCode> {
-    use oracle::Done::*;
+    use answer::Done::*;
     let mut script = Vec::new();
     io::stdin().lock().take(65536).read_to_end(&mut script)?;
     let length = script.len();
@@ -92,17 +79,21 @@ fn main() -> io::Result<ExitCode> {
     let args: Vec<String> = std::env::args().skip(1).collect();
     let (calls, seed, port) = (number(&args, "--calls"), number(&args, "--seed"), option(&args, "--port"));
     match (args.first().map(String::as_str), calls, seed, port) {
-        (Some("replay"), ..) => replay(),
+        (Some("replay"), None, None, None) => replay(),
+        (Some("replay"), None, None, Some(port)) => port::replay(port),
+        (Some("pack"), ..) => port::pack(args.iter().any(|arg| arg == "--answers")),
         (Some("bench"), None, None, Some(port)) => {
             let rounds = number(&args, "--rounds").unwrap_or(7).max(1) as usize;
             bench::bench(port, option(&args, "--tablekeys").unwrap_or("tablekeys"), rounds)
         }
         (Some("tablekeys"), ..) => tablekeys(),
         (Some("sample"), Some(calls), Some(seed), None) => sample(calls, seed),
-        (Some("compare"), Some(calls), Some(seed), Some(port)) => compare::compare(port, calls, seed),
+        (Some("compare"), Some(calls), Some(seed), Some(port)) => {
+            compare::compare(port, calls, seed, number(&args, "--damage"))
+        }
         _ => {
-            eprintln!("usage: beside replay | tablekeys | sample --calls N --seed S");
-            eprintln!("       beside compare --calls N --seed S --port PROGRAM");
+            eprintln!("usage: beside replay [--port PROGRAM] | pack [--answers] | tablekeys | sample --calls N --seed S");
+            eprintln!("       beside compare --calls N --seed S --port PROGRAM [--damage CALL]");
             eprintln!("       beside bench [--rounds N] --port PROGRAM --tablekeys PROGRAM");
             Ok(ExitCode::from(2))
         }

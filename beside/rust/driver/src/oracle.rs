@@ -1,12 +1,12 @@
 //! The Rust's answer to a call: its records are set, its function is called over the ports' stand-in, and what it
-//! answers and leaves is written in the trace format.
+//! answers and leaves is told.
 
+use crate::answer::*;
 use crate::call::*;
 use event_types::Event;
 use keycodes_ascii::{KeyAction, KeyboardModifiers as Flags, Keycode};
 use port_io::{wire, Device, Lack};
 use ps2::*;
-use std::fmt::Write;
 use std::hint::black_box;
 use std::panic::{catch_unwind, resume_unwind, AssertUnwindSafe};
 
@@ -109,84 +109,29 @@ fn run<T>(room: usize, call: impl FnOnce() -> Result<T, &'static str>) -> (End, 
     }
 }
 
-/// What a port operation answers beside its end.
-enum Value {
-    Nothing,
-    Byte(u8),
-    Keyboard(KeyboardType),
-    Packet(MousePacket),
-    Character(Option<char>),
+fn byte_value((end, byte): (End, Option<u8>)) -> (End, Value) {
+    (end, byte.map_or(Value::Nothing, Value::Byte))
 }
 
-impl Value {
-    fn byte((end, byte): (End, Option<u8>)) -> (End, Value) {
-        (end, byte.map_or(Value::Nothing, Value::Byte))
-    }
-
-    fn push(&self, out: &mut String) {
-        match self {
-            Value::Nothing => Ok(()),
-            Value::Byte(byte) => write!(out, " val={byte:02X}"),
-            Value::Keyboard(KeyboardType::AncientATKeyboard) => write!(out, " val=ancient"),
-            Value::Keyboard(KeyboardType::MF2KeyboardWithPSControllerTranslator) => write!(out, " val=translated"),
-            Value::Keyboard(KeyboardType::MF2Keyboard) => write!(out, " val=plain"),
-            Value::Packet(p) => write!(
-                out,
-                " val=left:{},right:{},middle:{},one:{},x:{},y:{},wheel:{},b4:{},b5:{}",
-                p.button_left() as u8,
-                p.button_right() as u8,
-                p.button_middle() as u8,
-                p.always_one(),
-                p.x_movement(),
-                p.y_movement(),
-                p.scroll_movement(),
-                p.button_4() as u8,
-                p.button_5() as u8,
-            ),
-            Value::Character(Some(character)) => write!(out, " val={}", *character as u32),
-            Value::Character(None) => write!(out, " val=-"),
-        }
-        .unwrap()
-    }
+fn keyboard_value(found: KeyboardType) -> Value {
+    Value::Keyboard(match found {
+        KeyboardType::MF2Keyboard => Keyboard::Plain,
+        KeyboardType::MF2KeyboardWithPSControllerTranslator => Keyboard::Translated,
+        KeyboardType::AncientATKeyboard => Keyboard::Ancient,
+    })
 }
 
-/// The record that a port operation leaves.
-enum Record {
-    Nothing,
-    Controller(Controller),
-    Mouse(u8),
-    Handler,
-    NoHandler,
+fn packet_value(p: MousePacket) -> Value {
+    let buttons = [p.button_left(), p.button_right(), p.button_middle(), p.always_one() == 1, p.button_4(), p.button_5()];
+    Value::Packet(Packet {
+        bits: buttons,
+        movements: [p.x_movement().into(), p.y_movement().into(), p.scroll_movement().into()],
+    })
 }
 
-/// One call of a handler line.
-pub enum Done {
-    Handled { used: usize, log: Vec<u8>, end: End, lamps_failed: bool },
-    Taken(Option<KeyEvent>),
-}
-
-impl Done {
-    fn lacks(&self) -> bool {
-        matches!(self, Done::Handled { end: 2 | 3, .. })
-    }
-
-    fn push(&self, out: &mut String) {
-        match self {
-            Done::Handled { used, log, end, lamps_failed } => {
-                write!(out, "h:{used}:{}:", log.len() / 2).unwrap();
-                push_hex(out, log);
-                match end {
-                    0 => *out += ":ok",
-                    number => write!(out, ":{number}").unwrap(),
-                }
-                if *lamps_failed {
-                    *out += "+14";
-                }
-            }
-            Done::Taken(Some(event)) => write!(out, "t:{event}").unwrap(),
-            Done::Taken(None) => *out += "t:none",
-        }
-    }
+/// Whether a call of a run ended for the lack of a byte.
+fn lacks(done: &Done) -> bool {
+    matches!(done, Done::Handled { end: 2 | 3, .. })
 }
 
 /// A keyboard that answers every step of keyboard initialisation.
@@ -215,8 +160,8 @@ impl Oracle {
         Oracle { controller, queue: mpmc::Queue::new(), registered: false }
     }
 
-    /// The answer to a call, as a line.
-    pub fn answer(&mut self, call: &Call) -> String {
+    /// The answer to a call.
+    pub fn answer(&mut self, call: &Call) -> Answer {
         match &call.op {
             Op::Handle(handler, plan) => return self.answer_handle(call, handler, plan),
             Op::ToAscii(keycode, flags) => return answer_to_ascii(*keycode, *flags, call.repeat),
@@ -230,24 +175,10 @@ impl Oracle {
         for _ in 1..call.repeat {
             done = self.port_operation(&call.op, call.room);
         }
-
         let (end, value, record) = done;
-        let mut out = match end {
-            0 => "out=ok".to_string(),
-            number => format!("out=refused:{number}"),
-        };
-        write!(out, " used={} wrote={} log=", wire().at, wire().log.len() / 2).unwrap();
-        push_hex(&mut out, &wire().log);
-        value.push(&mut out);
-        out += " rec=";
-        match record {
-            Record::Nothing => out.push('-'),
-            Record::Controller(controller) => write!(out, "{controller}").unwrap(),
-            Record::Mouse(id) => write!(out, "id:{id}").unwrap(),
-            Record::Handler => write!(out, "{}", self.left()).unwrap(),
-            Record::NoHandler => out += "none",
-        }
-        out
+        let (used, log) = (wire().at, wire().log.clone());
+        let record = if call.op == Op::KeyboardInit && end == 0 { Record::Handler(self.left()) } else { record };
+        Answer::Call { end, used, log, value, record }
     }
 
     /// Has a device make up the script of an operation while the Rust reads it. Gives the script and the number of
@@ -292,12 +223,12 @@ impl Oracle {
             Op::ControllerTest => no_value(run(room, || c.test())),
             Op::TestPort1 => no_value(run(room, || c.test_port1())),
             Op::TestPort2 => no_value(run(room, || c.test_port2())),
-            Op::ReadConfig => Value::byte(run(room, || Ok(c.read_config().into_bytes()[0]))),
+            Op::ReadConfig => byte_value(run(room, || Ok(c.read_config().into_bytes()[0]))),
             Op::WriteConfig(config) => {
                 no_value(run(room, || Ok(c.write_config(ControllerConfigurationByte::from_bytes([config])))))
             }
             Op::PollingSend(set) => no_value(run(room, || reach::polling_send(c, set.try_into().unwrap()))),
-            Op::PollingReceive => Value::byte(run(room, || reach::polling_receive(c))),
+            Op::PollingReceive => byte_value(run(room, || reach::polling_receive(c))),
             Op::Keyboard(op) => keyboard_operation(&PS2Keyboard::new(c), op, room),
             Op::Mouse(op, id) => {
                 let passed = id.unwrap_or(0);
@@ -313,7 +244,7 @@ impl Oracle {
                 keyboard::reach::forget();
                 let (end, _) = run(room, || keyboard::init(PS2Keyboard::new(c), self.queue.clone()));
                 self.registered = end == 0;
-                record = if end == 0 { Record::Handler } else { Record::NoHandler };
+                record = Record::NoHandler;
                 (end, Value::Nothing)
             }
             Op::Handle(..) | Op::ToAscii(..) => unreachable!(),
@@ -321,7 +252,7 @@ impl Oracle {
         (end, value, record)
     }
 
-    fn answer_handle(&mut self, call: &Call, handler: &Handler, plan: &[Step]) -> String {
+    fn answer_handle(&mut self, call: &Call, handler: &Handler, plan: &[Step]) -> Answer {
         let mut done = Vec::new();
         for _ in 0..call.repeat.max(1) {
             done.clear();
@@ -329,30 +260,14 @@ impl Oracle {
             wire().script.clone_from(&call.script);
             self.steps(plan, call.room, usize::MAX, &mut done);
         }
-        if done.last().is_some_and(Done::lacks) {
+        if done.last().is_some_and(lacks) {
             // After 2 and 3 the record is as passed in to that call: we make the calls before it once more.
             self.set(handler);
             wire().script.clone_from(&call.script);
             self.steps(plan, call.room, done.len() - 1, &mut Vec::new());
         }
 
-        let handled = done.iter().filter_map(|d| match d {
-            Done::Handled { used, log, .. } => Some((used, log.len() / 2)),
-            Done::Taken(_) => None,
-        });
-        let (used, pairs) = handled.fold((0, 0), |sums, (used, pairs)| (sums.0 + used, sums.1 + pairs));
-        let mut out = format!("out=ok used={used} wrote={pairs} calls=");
-        for (i, d) in done.iter().enumerate() {
-            if i > 0 {
-                out.push(',');
-            }
-            d.push(&mut out);
-        }
-        if done.is_empty() {
-            out.push('-');
-        }
-        write!(out, " rec={}", self.left()).unwrap();
-        out
+        Answer::Run { done, left: self.left() }
     }
 
     /// Makes a plan's calls on the script from its start, at most `limit`, until one lacks a byte.
@@ -365,7 +280,7 @@ impl Oracle {
                 Step::Handle(times) | Step::Take(times) => (times, false),
             };
             while left > 0 {
-                if done.len() == limit || done.last().is_some_and(Done::lacks) {
+                if done.len() == limit || done.last().is_some_and(lacks) {
                     return;
                 }
                 let until_used = matches!(step, Step::Auto | Step::Each);
@@ -438,15 +353,14 @@ impl Oracle {
     }
 }
 
-fn answer_to_ascii(keycode: u8, flags: u16, repeat: u64) -> String {
+fn answer_to_ascii(keycode: u8, flags: u16, repeat: u64) -> Answer {
     let (keycode, flags): (Keycode, Flags) = (keycode.try_into().unwrap(), to_flags(flags));
     let mut character = keycode.to_ascii(flags);
     for _ in 1..repeat {
         character = black_box(black_box(keycode).to_ascii(black_box(flags)));
     }
-    let mut out = "out=ok used=0 wrote=0 log=-".to_string();
-    Value::Character(character).push(&mut out);
-    out + " rec=-"
+    let number = character.map(|character| u8::try_from(character).expect("an ASCII character"));
+    Answer::Call { end: 0, used: 0, log: Vec::new(), value: Value::Character(number), record: Record::Nothing }
 }
 
 fn leds(bits: u8) -> LEDState {
@@ -457,10 +371,10 @@ fn keyboard_operation(keyboard: &PS2Keyboard, op: KeyboardOp, room: usize) -> (E
     use HostToKeyboardCommandOrData as Byte;
     let command = |byte: Byte| run(room, || reach::command_to_keyboard(keyboard, byte));
     let (end, _) = match op {
-        KeyboardOp::GetScancodeSet => return Value::byte(run(room, || reach::get_keyboard_scancode_set(keyboard))),
+        KeyboardOp::GetScancodeSet => return byte_value(run(room, || reach::get_keyboard_scancode_set(keyboard))),
         KeyboardOp::Detect => {
             let (end, found) = run(room, || keyboard.keyboard_detect());
-            return (end, found.map_or(Value::Nothing, Value::Keyboard));
+            return (end, found.map_or(Value::Nothing, keyboard_value));
         }
         KeyboardOp::Command(byte) => {
             let known = reach::keyboard_commands().into_iter().find(|c| c.clone() as u8 == byte);
@@ -489,10 +403,10 @@ fn mouse_operation(mouse: &mut PS2Mouse, op: MouseOp, room: usize) -> (End, Valu
     use HostToMouseCommandOrData as Byte;
     let command = |mouse: &PS2Mouse, byte: Byte| run(room, || reach::command_to_mouse(mouse, byte));
     let (end, _) = match op {
-        MouseOp::Id => return Value::byte(run(room, || reach::mouse_id(mouse))),
+        MouseOp::Id => return byte_value(run(room, || reach::mouse_id(mouse))),
         MouseOp::ReadPacket => {
             let (end, packet) = run(room, || Ok(mouse.read_mouse_packet()));
-            return (end, packet.map_or(Value::Nothing, Value::Packet));
+            return (end, packet.map_or(Value::Nothing, packet_value));
         }
         MouseOp::Command(byte) => {
             let known = reach::mouse_commands().into_iter().find(|c| c.clone() as u8 == byte);

@@ -1,0 +1,389 @@
+//! Calls and answers as the port's program reads and writes them: instructions of 12 bytes, and answers of 32 with what was
+//! logged behind them. tests/traces/README.md tells the format, crates/replay is the program.
+
+use crate::answer::*;
+use crate::call::*;
+use std::io::{self, Read};
+
+/// The longest script and the largest room of a log that the port's program has space for.
+pub const LONGEST_SCRIPT: usize = 1_199_999;
+pub const LARGEST_ROOM: usize = 4096;
+
+/// The instructions that are no operation on the ports.
+const PART: u8 = 0;
+const KEYBOARD_INIT: u8 = 48;
+const TO_ASCII: u8 = 49;
+const RECORD: u8 = 64;
+const EVENT: u8 = 65;
+const RUNS: u8 = 66;
+const HANDLE: u8 = 67;
+const UNTIL_USED: u8 = 68;
+const TAKE: u8 = 69;
+const WAITING: u8 = 70;
+const LEFT: u8 = 71;
+const WRITE: u8 = 80;
+
+/// The refusal's number of a call that the port's program can't make.
+const NO_CALL: u8 = 255;
+
+/// An instruction of 12 bytes, numbers with their low byte first.
+#[derive(Default)]
+struct Instruction {
+    op: u8,
+    argument: u8,
+    state: u16,
+    room: usize,
+    times: usize,
+}
+
+impl Instruction {
+    fn put(&self, out: &mut Vec<u8>) {
+        out.extend([self.op, self.argument]);
+        out.extend(self.state.to_le_bytes());
+        out.extend((self.room as u32).to_le_bytes());
+        out.extend((self.times as u32).to_le_bytes());
+    }
+}
+
+/// The number of an operation on the ports, or of one that has no run, its argument and its state.
+fn operation(op: &Op) -> (u8, u8, u16) {
+    use KeyboardOp as K;
+    use MouseOp as M;
+    match *op {
+        Op::Init(c) => (1, 0, c.init as u16 | (c.kbd as u16) << 1 | (c.mouse as u16) << 2),
+        Op::ControllerTest => (2, 0, 0),
+        Op::TestPort1 => (3, 0, 0),
+        Op::TestPort2 => (4, 0, 0),
+        Op::WriteConfig(byte) => (5, byte, 0),
+        Op::ReadConfig => (6, 0, 0),
+        Op::PollingSend(set) => (7, set, 0),
+        Op::PollingReceive => (8, 0, 0),
+        Op::Keyboard(op) => match op {
+            K::Command(byte) => (16, byte, 0),
+            K::DataSet(set) => (17, set, 0),
+            K::DataLed(lamps) => (18, lamps, 0),
+            K::Reset => (19, 0, 0),
+            K::SetLed(lamps) => (20, lamps, 0),
+            K::SetScancodeSet(set) => (21, set, 0),
+            K::GetScancodeSet => (22, 0, 0),
+            K::Detect => (23, 0, 0),
+        },
+        Op::Mouse(op, id) => {
+            let (number, argument) = match op {
+                M::Command(byte) => (32, byte),
+                M::DataRate(rate) => (33, rate),
+                M::DataResolution(resolution) => (34, resolution),
+                M::Reset => (35, 0),
+                M::Enable => (36, 0),
+                M::Disable => (37, 0),
+                M::SetSamplingRate(rate) => (38, rate),
+                M::Resolution(resolution) => (39, resolution),
+                M::Id => (40, 0),
+                M::SetId => (41, 0),
+                M::ReadPacket => (42, 0),
+            };
+            (number, argument, id.unwrap_or(0) as u16)
+        }
+        Op::KeyboardInit => (KEYBOARD_INIT, 0, 0),
+        Op::ToAscii(keycode, flags) => (TO_ASCII, keycode, flags),
+        Op::Handle(..) => unreachable!("a run has no number of its own"),
+    }
+}
+
+/// Puts the instructions of a call. Their answers come where the program has much to write, or is told to write.
+pub fn put_call(call: &Call, out: &mut Vec<u8>) -> Result<(), String> {
+    if call.script.len() > LONGEST_SCRIPT {
+        return Err(format!("the port's program takes no script of {} bytes", call.script.len()));
+    }
+    if call.room > LARGEST_ROOM {
+        return Err(format!("the port's program has no log of {} bytes", call.room));
+    }
+    if call.repeat > u32::MAX as u64 {
+        return Err(format!("the port's program repeats no call {} times", call.repeat));
+    }
+    put_script(&call.script, out);
+    if let Op::Handle(handler, plan) = &call.op {
+        put_run(call, handler, plan, out);
+    } else {
+        let (op, argument, state) = operation(&call.op);
+        Instruction { op, argument, state, room: call.room, times: call.repeat as usize }.put(out);
+    }
+    Ok(())
+}
+
+/// Puts a script as parts, each with the number of bytes that it fills; the first begins it anew.
+fn put_script(script: &[u8], out: &mut Vec<u8>) {
+    let mut argument = 1;
+    let mut put = |bytes: &[u8], times: usize| {
+        Instruction { op: PART, argument, state: bytes.len() as u16, room: 0, times: bytes.len() * times }.put(out);
+        out.extend(bytes);
+        argument = 0;
+    };
+    for (bytes, times) in parts(script) {
+        match times {
+            1 => bytes.chunks(u16::MAX as usize).for_each(|bytes| put(bytes, 1)),
+            _ => put(bytes, times),
+        }
+    }
+    if script.is_empty() {
+        put(&[], 1);
+    }
+}
+
+fn put_run(call: &Call, handler: &Handler, plan: &[Step], out: &mut Vec<u8>) {
+    let bytes = call.script.len();
+    let (ext, takes) = (handler.ext as u8, (plan == [Step::Each]) as u8);
+    let mut put = |op, argument, state, room, times| Instruction { op, argument, state, room, times }.put(out);
+    put(RECORD, ext, handler.flags, call.room, 1);
+    for alike in handler.queue.chunk_by(|a, b| a == b) {
+        let KeyEvent { keycode, released, flags } = alike[0];
+        put(EVENT, keycode, flags, released as usize, alike.len());
+    }
+    if call.repeat > 1 {
+        put(RUNS, takes, 0, 0, call.repeat as usize - 1);
+    }
+    for step in plan {
+        match *step {
+            Step::Auto => put(UNTIL_USED, 0, 0, 0, bytes),
+            Step::Each => (0..bytes).for_each(|_| {
+                put(UNTIL_USED, 0, 0, 0, 1);
+                put(TAKE, 0, 0, 0, 1);
+            }),
+            // An instruction is made at least once.
+            Step::Handle(0) | Step::Take(0) => {}
+            Step::Handle(times) => put(HANDLE, 0, 0, 0, times as usize),
+            Step::Take(times) => put(TAKE, 0, 0, 0, times as usize),
+        }
+    }
+    put(WAITING, 0, 0, 0, QUEUE_PLACES);
+    put(LEFT, 0, 0, 0, 1);
+}
+
+/// Tells the program to write what it has answered.
+pub fn put_write(out: &mut Vec<u8>) {
+    Instruction { op: WRITE, ..Default::default() }.put(out);
+}
+
+/// An answer: four numbers of 8 bytes, and what was logged.
+#[derive(Debug, Default)]
+struct Packed {
+    op: u8,
+    number: u8,
+    /// A byte of the record that is left.
+    left: u8,
+    used: usize,
+    value: u64,
+    log: Vec<u8>,
+}
+
+impl Packed {
+    fn put(&self, out: &mut Vec<u8>) {
+        let first = u64::from_le_bytes([self.op, self.number, self.left, 0, 0, 0, 0, 0]);
+        for number in [first, self.used as u64, self.log.len() as u64 / 2, self.value] {
+            out.extend(number.to_le_bytes());
+        }
+        out.extend(&self.log);
+    }
+
+    fn read(from: &mut impl Read) -> io::Result<Packed> {
+        let mut head = [0; 32];
+        from.read_exact(&mut head)?;
+        let number = |i: usize| u64::from_le_bytes(head[8 * i..8 * i + 8].try_into().unwrap());
+        if number(0) >> 24 != 0 || number(2) > LARGEST_ROOM as u64 {
+            return Err(io::Error::other("what was read is no answer"));
+        }
+        let mut log = vec![0; 2 * number(2) as usize];
+        from.read_exact(&mut log)?;
+        Ok(Packed { op: head[0], number: head[1], left: head[2], used: number(1) as usize, value: number(3), log })
+    }
+}
+
+/// What a packet's number, a movement's and an event's tell, and the numbers.
+const MOVEMENT_BITS: u32 = 17;
+
+fn packet_of(number: u64) -> Packet {
+    let movement = |i: u32| {
+        let code = number >> (6 + i * MOVEMENT_BITS) & ((1 << MOVEMENT_BITS) - 1);
+        let magnitude = (code >> 1) as i32;
+        if code & 1 == 1 {
+            -magnitude
+        } else {
+            magnitude
+        }
+    };
+    Packet { bits: [0, 1, 2, 3, 4, 5].map(|bit| number >> bit & 1 == 1), movements: [0, 1, 2].map(movement) }
+}
+
+fn packet_number(packet: &Packet) -> u64 {
+    let bits = packet.bits.iter().enumerate().map(|(i, &bit)| (bit as u64) << i);
+    let movement = |m: i32| (m.unsigned_abs() as u64) << 1 | (m < 0) as u64;
+    let movements = packet.movements.iter().zip(0..).map(|(&m, i)| movement(m) << (6 + i * MOVEMENT_BITS));
+    bits.chain(movements).sum()
+}
+
+fn event_of(number: u64) -> KeyEvent {
+    KeyEvent { keycode: number as u8, released: number >> 8 & 1 == 1, flags: (number >> 9) as u16 }
+}
+
+fn event_number(event: &KeyEvent) -> u64 {
+    event.keycode as u64 | (event.released as u64) << 8 | (event.flags as u64) << 9
+}
+
+/// A record's prefix, flags and number of waiting events.
+fn record_number(handler: &Handler) -> u64 {
+    handler.ext as u64 | (handler.flags as u64) << 1 | (handler.queue.len() as u64) << 17
+}
+
+fn handler_of(number: u64, queue: Vec<KeyEvent>) -> Result<Handler, String> {
+    if number >> 17 != queue.len() as u64 {
+        return Err(format!("{} events wait, and {} were told", number >> 17, queue.len()));
+    }
+    Ok(Handler { ext: number & 1 == 1, flags: (number >> 1) as u16, queue })
+}
+
+/// Puts an answer as the port's program would. Only the answers to calls that it can make have a packed form.
+pub fn put_answer(op: &Op, answer: &Answer, out: &mut Vec<u8>) -> Result<(), String> {
+    match answer {
+        Answer::Call { end, used, log, value, record } => {
+            let (number, ..) = operation(op);
+            let packed =
+                Packed { op: number, number: *end, left: left_of(op, record)?, used: *used, value: 0, log: log.clone() };
+            let value = match (value, record) {
+                (Value::Nothing, Record::Handler(handler)) => record_number(handler),
+                (Value::Nothing, _) => 0,
+                (Value::Byte(byte), _) => *byte as u64,
+                (Value::Keyboard(keyboard), _) => *keyboard as u64,
+                (Value::Packet(packet), _) => packet_number(packet),
+                (Value::Character(character), _) => character.map_or(256, u64::from),
+            };
+            Packed { value, ..packed }.put(out);
+        }
+        Answer::Run { done, left } => {
+            let Op::Handle(_, plan) = op else { return Err("this operation has no run".to_string()) };
+            for d in done {
+                put_done(handle_of(plan), d, out);
+            }
+            for event in &left.queue {
+                Packed { op: WAITING, value: event_number(event), ..Default::default() }.put(out);
+            }
+            Packed { op: LEFT, value: record_number(left), ..Default::default() }.put(out);
+        }
+    }
+    Ok(())
+}
+
+/// The byte of a record that a call leaves. Of a mouse only `set_mouse_id` gives one back.
+fn left_of(op: &Op, record: &Record) -> Result<u8, String> {
+    match (op, record) {
+        (_, Record::Controller(c)) => Ok(c.init as u8 | (c.kbd as u8) << 1 | (c.mouse as u8) << 2),
+        (Op::Mouse(MouseOp::SetId, _), Record::Mouse(id)) => Ok(*id),
+        (Op::Mouse(_, passed), Record::Mouse(id)) if passed.unwrap_or(0) != *id => {
+            Err(format!("{} can't leave the identity {id}", op.name()))
+        }
+        _ => Ok(0),
+    }
+}
+
+/// The instruction that makes the handler calls of a plan.
+fn handle_of(plan: &[Step]) -> u8 {
+    match plan {
+        [Step::Auto | Step::Each] => UNTIL_USED,
+        _ => HANDLE,
+    }
+}
+
+fn put_done(handle: u8, done: &Done, out: &mut Vec<u8>) {
+    let packed = match done {
+        Done::Handled { used, log, end, lamps_failed } => {
+            Packed { op: handle, number: *end, left: *lamps_failed as u8, used: *used, value: 0, log: log.clone() }
+        }
+        Done::Taken(Some(event)) => Packed { op: TAKE, left: 3, value: event_number(event), ..Default::default() },
+        Done::Taken(None) => Packed { op: TAKE, left: 2, ..Default::default() },
+    };
+    packed.put(out)
+}
+
+/// Reads the port's answer to a call of an operation. What is no answer to it is told as an error.
+pub fn read_answer(op: &Op, from: &mut impl Read) -> io::Result<Result<Answer, String>> {
+    match op {
+        Op::Handle(_, plan) => read_run(plan, from),
+        _ => Ok(answer_of(op, Packed::read(from)?)),
+    }
+}
+
+fn answer_of(op: &Op, packed: Packed) -> Result<Answer, String> {
+    let (number, ..) = operation(op);
+    let bad = |packed: Packed| Err(format!("no answer to {}: {packed:?}", op.name()));
+    if packed.number == NO_CALL {
+        return Err("the port's program can't make this call".to_string());
+    }
+    if packed.op != number {
+        return bad(packed);
+    }
+    let (left, value, end) = (packed.left, packed.value, packed.number);
+    let mut record = Record::Nothing;
+    let told = match op {
+        // A refused call has no value.
+        _ if end != 0 => Value::Nothing,
+        Op::ReadConfig | Op::PollingReceive => Value::Byte(value as u8),
+        Op::Keyboard(KeyboardOp::GetScancodeSet) | Op::Mouse(MouseOp::Id, _) => Value::Byte(value as u8),
+        Op::Keyboard(KeyboardOp::Detect) => match Keyboard::ALL.get(value as usize) {
+            Some(keyboard) => Value::Keyboard(*keyboard),
+            None => return bad(packed),
+        },
+        Op::Mouse(MouseOp::ReadPacket, _) => Value::Packet(packet_of(value)),
+        Op::ToAscii(..) => Value::Character(u8::try_from(value).ok()),
+        _ => Value::Nothing,
+    };
+    match op {
+        Op::Init(_) => {
+            record = Record::Controller(Controller { init: left & 1 != 0, kbd: left & 2 != 0, mouse: left & 4 != 0 })
+        }
+        Op::KeyboardInit if end == 0 => record = Record::Handler(handler_of(value, Vec::new())?),
+        Op::KeyboardInit => record = Record::NoHandler,
+        Op::Mouse(MouseOp::SetId, _) => record = Record::Mouse(left),
+        // The others can't change the mouse's record: they are not given it, or don't give it back.
+        Op::Mouse(MouseOp::ReadPacket, id) => record = Record::Mouse(id.unwrap_or(0)),
+        Op::Mouse(_, Some(id)) => record = Record::Mouse(*id),
+        _ => {}
+    }
+    let answer = Answer::Call { end, used: packed.used, log: packed.log.clone(), value: told, record };
+    // What was read is all that the answer says.
+    let (mut again, mut given) = (Vec::new(), Vec::new());
+    put_answer(op, &answer, &mut again)?;
+    packed.put(&mut given);
+    match again == given {
+        true => Ok(answer),
+        false => bad(packed),
+    }
+}
+
+fn read_run(plan: &[Step], from: &mut impl Read) -> io::Result<Result<Answer, String>> {
+    let handle = handle_of(plan);
+    let (mut done, mut queue) = (Vec::new(), Vec::new());
+    loop {
+        let Packed { op, number, left, used, value, log } = Packed::read(from)?;
+        match (op, number, left) {
+            (_, end, 0 | 1) if op == handle && end != NO_CALL && value == 0 => {
+                done.push(Done::Handled { used, log, end, lamps_failed: left == 1 });
+                continue;
+            }
+            _ if used != 0 || !log.is_empty() => {}
+            (TAKE, 0, 2) if value == 0 => {
+                done.push(Done::Taken(None));
+                continue;
+            }
+            (TAKE, 0, 3) => {
+                done.push(Done::Taken(Some(event_of(value))));
+                continue;
+            }
+            (WAITING, 0, 0) => {
+                queue.push(event_of(value));
+                continue;
+            }
+            (LEFT, 0, 0) => return Ok(handler_of(value, queue).map(|left| Answer::Run { done, left })),
+            _ => {}
+        }
+        return Ok(Err(format!("no answer to a call of a run: {op} {number} {left} {used} {value} {log:?}")));
+    }
+}

@@ -1,2 +1,0 @@
--- What the proofs of replay cite. Assumes nothing.
-pub mod Zeros

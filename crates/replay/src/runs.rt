@@ -1,0 +1,392 @@
+// A run of handler calls and takings on one record, and what else is on keys.
+use crate::bytes::plus;
+use crate::calls::Instruction;
+use crate::calls::Outcome;
+use crate::calls::bit;
+use crate::calls::completion_number;
+use crate::calls::ended;
+use crate::calls::unknown;
+use crate::calls::with_value;
+use keyboard::EventQueue;
+use keyboard::Handled;
+use keyboard::HandlerAnswer;
+use keyboard::KeyboardHandler;
+use keyboard::KeyboardState;
+use keyboard::Taken;
+use keyboard::TakenEvent;
+use keyboard::handle;
+use keyboard::take_event;
+use keyboard_init::keyboard_init;
+use keycodes_ascii::Character;
+use keycodes_ascii::FoundKeycode;
+use keycodes_ascii::KeyAction;
+use keycodes_ascii::KeyEvent;
+use keycodes_ascii::KeyboardModifiers;
+use keycodes_ascii::Keycode;
+ghost use Prim.Native.Nat.{_≤_};
+
+// The bytes used of a run that makes no further call.
+const ENDED: usize = usize::MAX;
+
+// What a turn of a run leaves: the record, the script's bytes used so far, whether the instruction's next turn is to be made, and what is answered.
+pub struct Turn {
+    pub handler: KeyboardHandler,
+    pub used: usize,
+    pub goes_on: bool,
+    pub outcome: Outcome,
+}
+
+// A turn that answers nothing, and is its instruction's last.
+fn silent(handler: KeyboardHandler, used: usize) -> Turn {
+    Turn {
+        handler,
+        used,
+        goes_on: false,
+        outcome: ended(254, 0, 0),
+    }
+}
+
+fn flags_of(state: usize) -> KeyboardModifiers {
+    KeyboardModifiers {
+        bits: (state % 65536) as u16,
+    }
+}
+
+// A record with a prefix, flags and an empty queue.
+pub fn begun(i: Instruction) -> KeyboardHandler {
+    let fresh = KeyboardHandler::fresh();
+    let queue = fresh.queue;
+    KeyboardHandler {
+        keyboard: KeyboardState {
+            prefix: i.argument == 1,
+            modifiers: flags_of(i.state),
+        },
+        queue,
+    }
+}
+
+fn action_of(number: usize) -> KeyAction {
+    if number == 0 {
+        KeyAction::Pressed
+    } else {
+        KeyAction::Released
+    }
+}
+
+// The record with an event behind those that wait, where there is room.
+fn with_event(handler: KeyboardHandler, event: KeyEvent) -> KeyboardHandler {
+    let queue = handler.queue;
+    let count = queue.count;
+    if 128 <= count {
+        return handler;
+    }
+    let mut places = queue.places;
+    places[count] = event;
+    let keyboard = handler.keyboard;
+    KeyboardHandler {
+        keyboard,
+        queue: EventQueue {
+            places,
+            start: 0,
+            count: count + 1,
+        },
+    }
+}
+
+// An event that waits: each turn adds it once.
+fn add_event(i: Instruction, handler: KeyboardHandler, used: usize) -> Turn {
+    let FoundKeycode::Found(keycode) = Keycode::from_byte(i.argument) else {
+        return Turn {
+            handler,
+            used,
+            goes_on: false,
+            outcome: unknown(),
+        };
+    };
+    let event = KeyEvent {
+        keycode,
+        action: action_of(i.room),
+        modifiers: flags_of(i.state),
+    };
+    Turn {
+        handler: with_event(handler, event),
+        used,
+        goes_on: true,
+        outcome: ended(254, 0, 0),
+    }
+}
+
+fn action_number(action: KeyAction) -> u64
+    ensures { λ r. ⌜ r ≤ 1 ⌝ }
+{
+    match action {
+        KeyAction::Pressed => 0,
+        KeyAction::Released => 1,
+    }
+}
+
+// An event as a number: the keycode, whether the key is released, and the flags.
+fn event_number(event: KeyEvent) -> u64 {
+    let keycode = event.keycode;
+    let action = event.action;
+    keycode.to_byte() as u64 + 256 * action_number(action) + 512 * event.modifiers.bits as u64
+}
+
+// A record's prefix, flags and number of waiting events, as a number.
+fn record_number(handler: KeyboardHandler) -> u64 {
+    let count = (handler.queue.count % 65536) as u64;
+    bit(handler.keyboard.prefix) + 2 * handler.keyboard.modifiers.bits as u64 + 131072 * count
+}
+
+// The number of the event that waits at a place of the row.
+fn waiting_number(queue: EventQueue, place: usize) -> u64 {
+    let places = queue.places;
+    let at = plus(queue.start, place) % 128;
+    event_number(places[at])
+}
+
+// The events that wait, oldest first: each turn answers one. The times of the instruction are counted down from 128.
+fn waiting(times: usize, handler: KeyboardHandler, used: usize) -> Turn {
+    let queue = handler.queue;
+    let place = (128 - times % 129) % 128;
+    if queue.count <= place {
+        return silent(handler, used);
+    }
+    Turn {
+        handler,
+        used,
+        goes_on: true,
+        outcome: with_value(waiting_number(queue, place), 0, 0),
+    }
+}
+
+fn answer_number(answer: HandlerAnswer) -> u8 {
+    match answer {
+        HandlerAnswer::Done => 0,
+        HandlerAnswer::NoScriptByte => 2,
+        HandlerAnswer::NoLogRoom => 3,
+        HandlerAnswer::UnknownScancode => 19,
+        HandlerAnswer::QueueFull => 20,
+        HandlerAnswer::MalformedRecord => 21,
+    }
+}
+
+// Whether a run goes on after a handler call: it ends at the first 2, 3 or 21.
+fn goes_on_after(number: u8) -> bool {
+    match number {
+        2 => false,
+        3 => false,
+        21 => false,
+        _ => true,
+    }
+}
+
+fn used_after(number: u8, before: usize, used: usize) -> usize {
+    if goes_on_after(number) {
+        plus(before, used)
+    } else {
+        ENDED
+    }
+}
+
+// What a handler call leaves; `left` is 1 where a lamp exchange failed.
+fn handled(done: Handled, before: usize) -> Turn {
+    let answer = done.answer;
+    let number = answer_number(answer);
+    let handler = done.handler;
+    Turn {
+        handler,
+        used: used_after(number, before, done.used),
+        goes_on: goes_on_after(number),
+        outcome: Outcome {
+            number,
+            left: bit(done.lamps_failed) as u8,
+            used: done.used,
+            pairs: done.pairs,
+            value: 0,
+        },
+    }
+}
+
+// A handler call, 67, on what is left of the script, with the whole log; 68 is made only where the script is not used up, and ends the run where it is.
+fn run_handle(
+    op: u8,
+    handler: KeyboardHandler,
+    used: usize,
+    script: &[u8],
+    log: &mut [u8],
+) -> Turn {
+    if script.len() < used {
+        return silent(handler, ENDED);
+    }
+    if op == 68 {
+        if script.len() == used {
+            return silent(handler, ENDED);
+        }
+    }
+    handled(handle(handler, &script[used..], log), used)
+}
+
+// What a taking gave: `left` is 3 where it is an event, which the value tells, and 2 where there is none.
+fn taken_outcome(event: TakenEvent) -> Outcome {
+    let mut outcome = ended(0, 0, 0);
+    outcome.left = 2;
+    match event {
+        TakenEvent::Event(e) => {
+            outcome.left = 3;
+            outcome.value = event_number(e);
+        }
+        TakenEvent::Nothing => {}
+        TakenEvent::MalformedRecord => {
+            outcome.number = 21;
+        }
+    }
+    outcome
+}
+
+fn taken(t: Taken, used: usize) -> Turn {
+    let event = t.event;
+    let handler = t.handler;
+    Turn {
+        handler,
+        used,
+        goes_on: true,
+        outcome: taken_outcome(event),
+    }
+}
+
+// A taking from the queue, where the run goes on.
+fn run_take(handler: KeyboardHandler, used: usize) -> Turn {
+    if used == ENDED {
+        return silent(handler, used);
+    }
+    taken(take_event(handler), used)
+}
+
+fn run_left(handler: KeyboardHandler, used: usize) -> Turn {
+    Turn {
+        handler,
+        used,
+        goes_on: false,
+        outcome: with_value(record_number(handler), 0, 0),
+    }
+}
+
+// A turn of an instruction on a record: 65 adds an event, 66 makes the run without answers, 67 and 68 are handler calls, 69 is a taking, 70 answers the waiting events, 71 the record. The others do nothing.
+pub fn run_turn(
+    i: Instruction,
+    handler: KeyboardHandler,
+    used: usize,
+    script: &[u8],
+    log: &mut [u8],
+) -> Turn {
+    let op = i.op;
+    match op {
+        65 => add_event(i, handler, used),
+        66 => run_times(i, handler, script, log),
+        67 => run_handle(op, handler, used, script, log),
+        68 => run_handle(op, handler, used, script, log),
+        69 => run_take(handler, used),
+        70 => waiting(i.times, handler, used),
+        71 => run_left(handler, used),
+        _ => silent(handler, used),
+    }
+}
+
+// What repeated calls leave, and how much of the script is used.
+struct Quiet {
+    handler: KeyboardHandler,
+    used: usize,
+}
+
+// What a handler call leaves, after a taking where `takes` says so.
+fn quieted(done: Handled, before: usize, takes: bool) -> Quiet {
+    let used = plus(before, done.used);
+    let handler = done.handler;
+    if !takes {
+        return Quiet { handler, used };
+    }
+    let t = take_event(handler);
+    let left = t.handler;
+    Quiet {
+        handler: left,
+        used,
+    }
+}
+
+// A handler call that answers nothing, and a taking where `takes` says so.
+fn quiet_turn(quiet: Quiet, takes: bool, script: &[u8], log: &mut [u8]) -> Quiet {
+    let used = quiet.used;
+    if script.len() <= used {
+        return quiet;
+    }
+    quieted(handle(quiet.handler, &script[used..], log), used, takes)
+}
+
+// Handler calls until the script is used, with nothing answered; answers how much was used.
+fn run_quietly(handler: KeyboardHandler, takes: bool, script: &[u8], log: &mut [u8]) -> usize {
+    let mut quiet = Quiet { handler, used: 0 };
+    let mut i = 0;
+    while i < script.len() {
+        if script.len() <= quiet.used {
+            return quiet.used;
+        }
+        let next = quiet_turn(quiet, takes, script, log);
+        quiet = next;
+        i += 1;
+    }
+    quiet.used
+}
+
+// The run so many times from its record, which stays, with nothing answered, for measuring.
+fn run_times(i: Instruction, handler: KeyboardHandler, script: &[u8], log: &mut [u8]) -> Turn {
+    let mut used = 0;
+    let mut n = 0;
+    while n < i.times {
+        used = run_quietly(handler, i.argument == 1, script, log);
+        n += 1;
+    }
+    silent(handler, 0)
+}
+
+// Keyboard initialisation; the value is the record that it gives.
+pub fn call_keyboard_init(script: &[u8], log: &mut [u8]) -> Outcome {
+    let c = keyboard_init(script, log);
+    let answer = c.answer;
+    Outcome {
+        number: completion_number(answer),
+        left: 0,
+        used: c.used,
+        pairs: c.pairs,
+        value: record_number(c.handler),
+    }
+}
+
+// The character, asked for so many times, for measuring.
+fn ascii_times(keycode: Keycode, modifiers: KeyboardModifiers, times: usize) -> Character {
+    let mut character = keycode.to_ascii(modifiers);
+    let mut i = 1;
+    while i < times {
+        let again = keycode.to_ascii(modifiers);
+        character = again;
+        i += 1;
+    }
+    character
+}
+
+// A character's number, or 256.
+fn character_number(character: Character) -> u64 {
+    match character {
+        Character::Ascii(byte) => byte as u64,
+        Character::Absent => 256,
+    }
+}
+
+// The character of a keycode under flags.
+pub fn call_to_ascii(i: Instruction) -> Outcome {
+    let FoundKeycode::Found(keycode) = Keycode::from_byte(i.argument) else {
+        return unknown();
+    };
+    let character = ascii_times(keycode, flags_of(i.state), i.times);
+    with_value(character_number(character), 0, 0)
+}
