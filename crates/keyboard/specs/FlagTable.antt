@@ -5,7 +5,7 @@ use mathlib.Core.List.{List, [], _∷_}
 use Prim.Native.Nat.{ℕ, _^_}
 use lib.Dec.{eqb}
 use lib.ListN.{length}
-use Rattle.keycodes_ascii.specs.Flags.{shiftLeft, shiftRight, controlLeft, controlRight, alt, superKeyLeft, superKeyRight, capsLock, numLock, scrollLock}
+use Rattle.keyboard_modifiers.specs.Flags.{shiftLeft, shiftRight, controlLeft, controlRight, alt, superKeyLeft, superKeyRight, capsLock, numLock, scrollLock}
 use Rattle.keyboard.specs.Strokes.{Stroke, stroke}
 
 -- A lock goes on and off with its presses. A held key is on from its press to its release, after a prefix or not. Of two keys with one code, the right one has the strokes directly after a prefix, the left one the rest.

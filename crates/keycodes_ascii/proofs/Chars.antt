@@ -12,10 +12,10 @@ use Rattle.keycodes_ascii.specs.declared.Character.{Character}
 use Rattle.keycodes_ascii.specs.declared.Character.the-variants.{Ascii, Absent}
 use Rattle.keycodes_ascii.specs.declared.FoundKeycode.{FoundKeycode}
 use Rattle.keycodes_ascii.specs.declared.FoundKeycode.the-variants.{Found, Unknown}
-use Rattle.keycodes_ascii.specs.declared.KeyboardModifiers.{KeyboardModifiers}
+use Rattle.keyboard_modifiers.specs.declared.KeyboardModifiers.{KeyboardModifiers}
 use Rattle.keycodes_ascii.specs.declared.Keycode.{Keycode}
 use Rattle.keycodes_ascii.specs.Keycode.{numberOf, keycodes, keycodeOf}
-use Rattle.keycodes_ascii.specs.Flags.{shiftLeft, shiftRight, capsLock}
+use Rattle.keyboard_modifiers.specs.Flags.{shiftLeft, shiftRight, capsLock}
 use Rattle.keycodes_ascii.specs.Characters.{Writes, letter, sign, same, control, nothing, writes, isLetter, character, characterOf, characterFound, characterAt}
 use Rattle.keycodes_ascii.proofs.Codes.{every-keycode, keycode-number, Has, keycode-has}
 

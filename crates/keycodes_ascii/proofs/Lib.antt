@@ -1,5 +1,4 @@
--- Laws of keycodes, flags and characters.
+-- Laws of keycodes and characters.
 pub mod Codes
 pub mod Set1
-pub mod Modifiers
 pub mod Chars

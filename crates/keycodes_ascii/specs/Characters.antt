@@ -8,10 +8,10 @@ use Rattle.keycodes_ascii.specs.declared.Character.{Character}
 use Rattle.keycodes_ascii.specs.declared.Character.the-variants.{Ascii, Absent}
 use Rattle.keycodes_ascii.specs.declared.FoundKeycode.{FoundKeycode}
 use Rattle.keycodes_ascii.specs.declared.FoundKeycode.the-variants.{Found, Unknown}
-use Rattle.keycodes_ascii.specs.declared.KeyboardModifiers.{KeyboardModifiers}
+use Rattle.keyboard_modifiers.specs.declared.KeyboardModifiers.{KeyboardModifiers}
 use Rattle.keycodes_ascii.specs.declared.Keycode.{Keycode}
 use Rattle.keycodes_ascii.specs.Keycode.{keycodeOf}
-use Rattle.keycodes_ascii.specs.Flags.{shiftLeft, shiftRight, capsLock}
+use Rattle.keyboard_modifiers.specs.Flags.{shiftLeft, shiftRight, capsLock}
 
 -- What a key writes: a letter, small and capital; a sign, without Shift and with it; the same character with Shift or without;
 -- a control character, by its number; nothing.

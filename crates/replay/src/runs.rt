@@ -17,11 +17,11 @@ use keyboard::TakenEvent;
 use keyboard::handle;
 use keyboard::take_event;
 use keyboard_init::keyboard_init;
+use keyboard_modifiers::KeyboardModifiers;
 use keycodes_ascii::Character;
 use keycodes_ascii::FoundKeycode;
 use keycodes_ascii::KeyAction;
 use keycodes_ascii::KeyEvent;
-use keycodes_ascii::KeyboardModifiers;
 use keycodes_ascii::Keycode;
 ghost use Prim.Native.Nat.{_≤_};
 

@@ -5,7 +5,7 @@ use keyboard::KeyboardHandler;
 use keyboard::TakenEvent;
 use keyboard::handle;
 use keyboard::take_event;
-use keycodes_ascii::KeyboardModifiers;
+use keyboard_modifiers::KeyboardModifiers;
 use libc::STDOUT_FILENO;
 
 const CONTROL_PRESSED: u8 = 0x1D;

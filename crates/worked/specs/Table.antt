@@ -4,7 +4,7 @@ use mathlib.Core.List.{List, [], _∷_}
 use lib.IntN.{pos, negℤ}
 use Rattle.keycodes_ascii.specs.declared.KeyAction.the-variants.{Pressed, Released}
 use Rattle.keycodes_ascii.specs.declared.Keycode.the-variants.{A, Num1, Menu, OverflowError}
-use Rattle.keycodes_ascii.specs.Flags.{shiftLeft, controlLeft, controlRight, capsLock, numLock}
+use Rattle.keyboard_modifiers.specs.Flags.{shiftLeft, controlLeft, controlRight, capsLock, numLock}
 use Rattle.ps2_bytes.specs.declared.command.HostToMouseCommand.the-variants.{GetDeviceID}
 use Rattle.ps2_bytes.specs.declared.response.MouseId.the-variants.{Three, Four}
 use Rattle.worked.specs.Positions.{event, writes, noEvent, flags, refused, used, log, scripts, scancodes, xIs, wheelIs, character, mouseSends, Row, row}

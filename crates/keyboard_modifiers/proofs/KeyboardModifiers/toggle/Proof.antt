@@ -1,9 +1,9 @@
--- `keycodes_ascii::KeyboardModifiers::toggle` meets its contract: `^` goes bit by bit.
+-- `keyboard_modifiers::KeyboardModifiers::toggle` meets its contract: `^` goes bit by bit.
 -- Assumes nothing.
 use native.Mathlib.Omega.{arith}
 use Rattle.bits.proofs.Masks.{xor-bitwise}
-use Rattle.keycodes_ascii.proofs.KeyboardModifiers.toggle.Statement.{statement}
-use Rattle.keycodes_ascii.proofs.KeyboardModifiers.toggle.Tie as tie
+use Rattle.keyboard_modifiers.proofs.KeyboardModifiers.toggle.Statement.{statement}
+use Rattle.keyboard_modifiers.proofs.KeyboardModifiers.toggle.Tie as tie
 
 returns : tie.Need-returns
 returns c = let a = c .before .before .args in xor-bitwise 16 (a .self .bits) (a .other .bits) (omega arith) (omega arith)

@@ -1,9 +1,9 @@
--- `keycodes_ascii::KeyboardModifiers::insert` meets its contract: `|` goes bit by bit.
+-- `keyboard_modifiers::KeyboardModifiers::insert` meets its contract: `|` goes bit by bit.
 -- Assumes nothing.
 use native.Mathlib.Omega.{arith}
 use Rattle.bits.proofs.Masks.{or-bitwise}
-use Rattle.keycodes_ascii.proofs.KeyboardModifiers.insert.Statement.{statement}
-use Rattle.keycodes_ascii.proofs.KeyboardModifiers.insert.Tie as tie
+use Rattle.keyboard_modifiers.proofs.KeyboardModifiers.insert.Statement.{statement}
+use Rattle.keyboard_modifiers.proofs.KeyboardModifiers.insert.Tie as tie
 
 returns : tie.Need-returns
 returns c = let a = c .before .before .args in or-bitwise 16 (a .self .bits) (a .other .bits) (omega arith) (omega arith)

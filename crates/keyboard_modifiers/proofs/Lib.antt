@@ -1,0 +1,2 @@
+-- Laws of the modifier flags.
+pub mod Modifiers

@@ -1,0 +1,2 @@
+-- The modifier flags.
+pub mod Flags
