@@ -1,5 +1,5 @@
 // Bytes in and out. A place beyond the end reads as 0, and takes nothing.
-ghost use Prim.Native.Nat.{_≤_};
+ghost use Prim.Native.Nat.{_≤_, _<_};
 ghost use Rattle.io.specs.Counts.{Counts};
 
 // A sum that stops at the largest number.
@@ -31,8 +31,7 @@ fn wide(byte: u8) -> usize
     byte as usize
 }
 
-// The number of two bytes, the low one first.
-pub fn short_at(bytes: &[u8], at: usize) -> usize
+fn short_at(bytes: &[u8], at: usize) -> usize
     ensures { λ r. ⌜ r ≤ 65535 ⌝ }
 {
     wide(byte_at(bytes, at)) + 256 * wide(byte_at(bytes, plus(at, 1)))
@@ -65,17 +64,6 @@ pub fn put_number(out: &mut [u8], at: usize, number: u64) -> usize {
     end
 }
 
-// Puts the first bytes of a slice.
-pub fn put_bytes(out: &mut [u8], at: usize, bytes: &[u8], count: usize) -> usize {
-    let mut end = at;
-    let mut i = 0;
-    while i < count {
-        end = put(out, end, byte_at(bytes, i));
-        i += 1;
-    }
-    end
-}
-
 // Puts so many bytes behind a part that ends the bytes: the part over and over.
 pub fn put_part(bytes: &mut [u8], part: usize, end: usize, count: usize) -> usize {
     let mut to = end;
@@ -86,4 +74,15 @@ pub fn put_part(bytes: &mut [u8], part: usize, end: usize, count: usize) -> usiz
         i += 1;
     }
     to
+}
+
+// How many turns are left of a loop after one, which may be the last.
+pub fn fewer(left: u64, is_last: bool) -> u64
+    requires { ⌜ 0 < left ⌝ }
+    ensures { λ r. ⌜ r < left ⌝ }
+{
+    if is_last {
+        return 0;
+    }
+    left - 1
 }

@@ -316,7 +316,7 @@ fn packet_read(c: PacketRead) -> Outcome {
     }
 }
 
-// What an argument tells. One that tells nothing is taken for another, and `is_known` finds it.
+// What an argument or a state tells. One that tells nothing is taken for another; `is_known` finds it by that, and a mouse's identity is 0 where it is not 3 or 4.
 
 fn set_of(number: u8) -> ScancodeSet {
     match ScancodeSet::from_byte(number) {
@@ -345,11 +345,12 @@ fn keyboard_command(byte: u8) -> HostToKeyboardCommand {
     }
 }
 
-// What 16 to 18 send to the keyboard: a command, a scancode set or lamps.
+// What an argument tells to send to the keyboard: for 16 a command, for 18 and 20 lamps, else a scancode set.
 fn keyboard_value(op: u8, argument: u8) -> HostToKeyboardCommandOrData {
     match op {
         16 => HostToKeyboardCommandOrData::KeyboardCommand(keyboard_command(argument)),
         18 => HostToKeyboardCommandOrData::LEDState(leds_of(argument)),
+        20 => HostToKeyboardCommandOrData::LEDState(leds_of(argument)),
         _ => HostToKeyboardCommandOrData::ScancodeSet(set_of(argument)),
     }
 }
@@ -388,11 +389,12 @@ fn mouse_command(byte: u8) -> HostToMouseCommand {
     }
 }
 
-// What 32 to 34 send to the mouse: a command, a rate or a resolution.
+// What an argument tells to send to the mouse: for 32 a command, for 33 and 38 a rate, else a resolution.
 fn mouse_value(op: u8, argument: u8) -> HostToMouseCommandOrData {
     match op {
         32 => HostToMouseCommandOrData::MouseCommand(mouse_command(argument)),
         33 => HostToMouseCommandOrData::SampleRate(rate_of(argument)),
+        38 => HostToMouseCommandOrData::SampleRate(rate_of(argument)),
         _ => HostToMouseCommandOrData::MouseResolution(resolution_of(argument)),
     }
 }
@@ -404,30 +406,23 @@ fn id_of(state: usize) -> MouseId {
     }
 }
 
-// An argument as it is taken.
-fn taken_argument(op: u8, argument: u8) -> u8 {
+// Whether an operation can be made with an argument.
+fn is_known(op: u8, argument: u8) -> bool {
     match op {
-        7 => set_of(argument).to_byte(),
-        16..=18 => keyboard_value(op, argument).to_byte(),
-        20 => leds_of(argument).to_byte(),
-        21 => set_of(argument).to_byte(),
-        32..=34 => mouse_value(op, argument).to_byte(),
-        38 => rate_of(argument).to_byte(),
-        39 => resolution_of(argument).to_byte(),
-        _ => argument,
+        7 => keyboard_value(op, argument).to_byte() == argument,
+        16..=18 => keyboard_value(op, argument).to_byte() == argument,
+        20..=21 => keyboard_value(op, argument).to_byte() == argument,
+        32..=34 => mouse_value(op, argument).to_byte() == argument,
+        38..=39 => mouse_value(op, argument).to_byte() == argument,
+        _ => is_operation(op),
     }
 }
 
-// Whether there is such an operation, with such an argument and such a state.
-fn is_known(i: Instruction) -> bool {
-    if taken_argument(i.op, i.argument) != i.argument {
-        return false;
-    }
-    let op = i.op;
+fn is_operation(op: u8) -> bool {
     match op {
         1..=8 => true,
         16..=23 => true,
-        32..=42 => id_of(i.state).to_byte() as usize == i.state,
+        32..=42 => true,
         48 => true,
         _ => false,
     }
@@ -442,7 +437,7 @@ fn complete_controller(op: u8, argument: u8, script: &[u8], log: &mut [u8]) -> C
         _ => polling_send(
             script,
             log,
-            HostToDevice::Keyboard(keyboard_value(17, argument)),
+            HostToDevice::Keyboard(keyboard_value(op, argument)),
         ),
     }
 }
@@ -516,7 +511,7 @@ fn call(i: Instruction, script: &[u8], log: &mut [u8]) -> Outcome {
 
 // The call as often as the instruction tells, and the outcome of the last: more than once is for measuring.
 pub fn call_times(i: Instruction, script: &[u8], log: &mut [u8]) -> Outcome {
-    if !is_known(i) {
+    if !is_known(i.op, i.argument) {
         return unknown();
     }
     let mut outcome = call(i, script, log);

@@ -1,4 +1,5 @@
 // A run of handler calls and takings on one record, and what else is on keys.
+use crate::bytes::fewer;
 use crate::bytes::plus;
 use crate::calls::Instruction;
 use crate::calls::Outcome;
@@ -93,26 +94,33 @@ fn with_event(handler: KeyboardHandler, event: KeyEvent) -> KeyboardHandler {
     }
 }
 
-// An event that waits: each turn adds it once.
-fn add_event(i: Instruction, handler: KeyboardHandler, used: usize) -> Turn {
-    let FoundKeycode::Found(keycode) = Keycode::from_byte(i.argument) else {
-        return Turn {
-            handler,
-            used,
-            goes_on: false,
-            outcome: unknown(),
-        };
-    };
-    let event = KeyEvent {
-        keycode,
+// The keycode of a byte; one that has none is taken for the first, which `is_keycode` finds.
+fn keycode_of(byte: u8) -> Keycode {
+    match Keycode::from_byte(byte) {
+        FoundKeycode::Found(keycode) => keycode,
+        FoundKeycode::Unknown => Keycode::OverflowError,
+    }
+}
+
+fn is_keycode(byte: u8) -> bool {
+    keycode_of(byte).to_byte() == byte
+}
+
+fn event_of(i: Instruction) -> KeyEvent {
+    KeyEvent {
+        keycode: keycode_of(i.argument),
         action: action_of(i.room),
         modifiers: flags_of(i.state),
-    };
+    }
+}
+
+// An event that waits: each turn adds it once.
+fn add_event(i: Instruction, handler: KeyboardHandler, used: usize) -> Turn {
     Turn {
-        handler: with_event(handler, event),
+        handler: with_event(handler, event_of(i)),
         used,
         goes_on: true,
-        outcome: ended(254, 0, 0),
+        outcome: ended(if is_keycode(i.argument) { 254 } else { 255 }, 0, 0),
     }
 }
 
@@ -138,28 +146,6 @@ fn record_number(handler: KeyboardHandler) -> u64 {
     bit(handler.keyboard.prefix) + 2 * handler.keyboard.modifiers.bits as u64 + 131072 * count
 }
 
-// The number of the event that waits at a place of the row.
-fn waiting_number(queue: EventQueue, place: usize) -> u64 {
-    let places = queue.places;
-    let at = plus(queue.start, place) % 128;
-    event_number(places[at])
-}
-
-// The events that wait, oldest first: each turn answers one. The times of the instruction are counted down from 128.
-fn waiting(times: usize, handler: KeyboardHandler, used: usize) -> Turn {
-    let queue = handler.queue;
-    let place = (128 - times % 129) % 128;
-    if queue.count <= place {
-        return silent(handler, used);
-    }
-    Turn {
-        handler,
-        used,
-        goes_on: true,
-        outcome: with_value(waiting_number(queue, place), 0, 0),
-    }
-}
-
 fn answer_number(answer: HandlerAnswer) -> u8 {
     match answer {
         HandlerAnswer::Done => 0,
@@ -171,21 +157,13 @@ fn answer_number(answer: HandlerAnswer) -> u8 {
     }
 }
 
-// Whether a run goes on after a handler call: it ends at the first 2, 3 or 21.
-fn goes_on_after(number: u8) -> bool {
-    match number {
-        2 => false,
-        3 => false,
-        21 => false,
-        _ => true,
-    }
-}
-
+// The bytes used after a handler call: a run ends at the first 2, 3 or 21.
 fn used_after(number: u8, before: usize, used: usize) -> usize {
-    if goes_on_after(number) {
-        plus(before, used)
-    } else {
-        ENDED
+    match number {
+        2 => ENDED,
+        3 => ENDED,
+        21 => ENDED,
+        _ => plus(before, used),
     }
 }
 
@@ -194,10 +172,11 @@ fn handled(done: Handled, before: usize) -> Turn {
     let answer = done.answer;
     let number = answer_number(answer);
     let handler = done.handler;
+    let used = used_after(number, before, done.used);
     Turn {
         handler,
-        used: used_after(number, before, done.used),
-        goes_on: goes_on_after(number),
+        used,
+        goes_on: used != ENDED,
         outcome: Outcome {
             number,
             left: bit(done.lamps_failed) as u8,
@@ -244,23 +223,26 @@ fn taken_outcome(event: TakenEvent) -> Outcome {
     outcome
 }
 
-fn taken(t: Taken, used: usize) -> Turn {
+fn taken(t: Taken, used: usize, op: u8) -> Turn {
     let event = t.event;
     let handler = t.handler;
+    let outcome = taken_outcome(event);
     Turn {
         handler,
         used,
-        goes_on: true,
-        outcome: taken_outcome(event),
+        goes_on: if op == 69 { true } else { outcome.left == 3 },
+        outcome,
     }
 }
 
-// A taking from the queue, where the run goes on.
-fn run_take(handler: KeyboardHandler, used: usize) -> Turn {
-    if used == ENDED {
-        return silent(handler, used);
+// A taking from the queue, 69, where the run goes on; 70 takes in any case, until none waits.
+fn run_take(op: u8, handler: KeyboardHandler, used: usize) -> Turn {
+    if op == 69 {
+        if used == ENDED {
+            return silent(handler, used);
+        }
     }
-    taken(take_event(handler), used)
+    taken(take_event(handler), used, op)
 }
 
 fn run_left(handler: KeyboardHandler, used: usize) -> Turn {
@@ -272,7 +254,7 @@ fn run_left(handler: KeyboardHandler, used: usize) -> Turn {
     }
 }
 
-// A turn of an instruction on a record: 65 adds an event, 66 makes the run without answers, 67 and 68 are handler calls, 69 is a taking, 70 answers the waiting events, 71 the record. The others do nothing.
+// A turn of an instruction on a record: 65 adds an event, 66 makes the run without answers, 67 and 68 are handler calls, 69 and 70 takings, 71 answers the record. The others do nothing.
 pub fn run_turn(
     i: Instruction,
     handler: KeyboardHandler,
@@ -284,67 +266,42 @@ pub fn run_turn(
     match op {
         65 => add_event(i, handler, used),
         66 => run_times(i, handler, script, log),
-        67 => run_handle(op, handler, used, script, log),
-        68 => run_handle(op, handler, used, script, log),
-        69 => run_take(handler, used),
-        70 => waiting(i.times, handler, used),
+        67..=68 => run_handle(op, handler, used, script, log),
+        69..=70 => run_take(op, handler, used),
         71 => run_left(handler, used),
         _ => silent(handler, used),
     }
 }
 
-// What repeated calls leave, and how much of the script is used.
-struct Quiet {
-    handler: KeyboardHandler,
-    used: usize,
-}
-
-// What a handler call leaves, after a taking where `takes` says so.
-fn quieted(done: Handled, before: usize, takes: bool) -> Quiet {
-    let used = plus(before, done.used);
-    let handler = done.handler;
-    if !takes {
-        return Quiet { handler, used };
-    }
-    let t = take_event(handler);
-    let left = t.handler;
-    Quiet {
-        handler: left,
-        used,
-    }
-}
-
-// A handler call that answers nothing, and a taking where `takes` says so.
-fn quiet_turn(quiet: Quiet, takes: bool, script: &[u8], log: &mut [u8]) -> Quiet {
-    let used = quiet.used;
+// A turn of a run that answers nothing: a handler call, and a taking where `takes` says so. Where the script is used, the next run begins.
+fn quiet_turn(
+    now: Turn,
+    first: KeyboardHandler,
+    takes: bool,
+    script: &[u8],
+    log: &mut [u8],
+) -> Turn {
+    let used = now.used;
     if script.len() <= used {
-        return quiet;
+        return silent(first, 0);
     }
-    quieted(handle(quiet.handler, &script[used..], log), used, takes)
-}
-
-// Handler calls until the script is used, with nothing answered; answers how much was used.
-fn run_quietly(handler: KeyboardHandler, takes: bool, script: &[u8], log: &mut [u8]) -> usize {
-    let mut quiet = Quiet { handler, used: 0 };
-    let mut i = 0;
-    while i < script.len() {
-        if script.len() <= quiet.used {
-            return quiet.used;
-        }
-        let next = quiet_turn(quiet, takes, script, log);
-        quiet = next;
-        i += 1;
+    let done = handled(handle(now.handler, &script[used..], log), used);
+    if !takes {
+        return done;
     }
-    quiet.used
+    run_take(69, done.handler, done.used)
 }
 
 // The run so many times from its record, which stays, with nothing answered, for measuring.
 fn run_times(i: Instruction, handler: KeyboardHandler, script: &[u8], log: &mut [u8]) -> Turn {
-    let mut used = 0;
-    let mut n = 0;
-    while n < i.times {
-        used = run_quietly(handler, i.argument == 1, script, log);
-        n += 1;
+    let mut now = silent(handler, 0);
+    let mut runs = 0;
+    let mut left = u64::MAX;
+    while 0 < left {
+        let next = quiet_turn(now, handler, i.argument == 1, script, log);
+        now = next;
+        runs = plus(runs, if next.goes_on { 0 } else { 1 });
+        left = fewer(left, i.times <= runs);
     }
     silent(handler, 0)
 }
@@ -384,9 +341,9 @@ fn character_number(character: Character) -> u64 {
 
 // The character of a keycode under flags.
 pub fn call_to_ascii(i: Instruction) -> Outcome {
-    let FoundKeycode::Found(keycode) = Keycode::from_byte(i.argument) else {
+    if !is_keycode(i.argument) {
         return unknown();
-    };
-    let character = ascii_times(keycode, flags_of(i.state), i.times);
+    }
+    let character = ascii_times(keycode_of(i.argument), flags_of(i.state), i.times);
     with_value(character_number(character), 0, 0)
 }

@@ -6,7 +6,7 @@ use crate::call::{Call, Op};
 use crate::device::Rng;
 use crate::generate::{by_chance, kind_by_chance, sweep, Enough};
 use crate::oracle::Oracle;
-use crate::packed::{put_call, put_write, read_answer};
+use crate::packed::{put_call, read_answer};
 use crate::port::Port;
 use std::collections::BTreeMap;
 use std::io::{self, BufRead, Read, Write};
@@ -57,7 +57,6 @@ impl Sender {
     }
 
     fn flush(&mut self) -> Result<(), Enough> {
-        put_write(&mut self.packed);
         // A channel is closed only where the comparison has ended.
         self.to_port.send(std::mem::take(&mut self.packed)).map_err(|_| Enough)?;
         self.to_reader.send(std::mem::take(&mut self.batch)).map_err(|_| Enough)

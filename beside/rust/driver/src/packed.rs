@@ -21,7 +21,10 @@ const UNTIL_USED: u8 = 68;
 const TAKE: u8 = 69;
 const WAITING: u8 = 70;
 const LEFT: u8 = 71;
-const WRITE: u8 = 80;
+
+/// What a taking leaves where there is no event, and where there is one.
+const NONE_TAKEN: u8 = 2;
+const TAKEN: u8 = 3;
 
 /// The refusal's number of a call that the port's program can't make.
 const NO_CALL: u8 = 255;
@@ -90,7 +93,7 @@ fn operation(op: &Op) -> (u8, u8, u16) {
     }
 }
 
-/// Puts the instructions of a call. Their answers come where the program has much to write, or is told to write.
+/// Puts the instructions of a call.
 pub fn put_call(call: &Call, out: &mut Vec<u8>) -> Result<(), String> {
     if call.script.len() > LONGEST_SCRIPT {
         return Err(format!("the port's program takes no script of {} bytes", call.script.len()));
@@ -111,11 +114,12 @@ pub fn put_call(call: &Call, out: &mut Vec<u8>) -> Result<(), String> {
     Ok(())
 }
 
-/// Puts a script as parts, each with the number of bytes that it fills; the first begins it anew.
+/// Puts a script as parts, each with the number of bytes that it fills beyond its own; the first begins it anew.
 fn put_script(script: &[u8], out: &mut Vec<u8>) {
     let mut argument = 1;
     let mut put = |bytes: &[u8], times: usize| {
-        Instruction { op: PART, argument, state: bytes.len() as u16, room: 0, times: bytes.len() * times }.put(out);
+        let (state, beyond) = (bytes.len() as u16, bytes.len() * (times - 1));
+        Instruction { op: PART, argument, state, room: 0, times: beyond }.put(out);
         out.extend(bytes);
         argument = 0;
     };
@@ -155,13 +159,9 @@ fn put_run(call: &Call, handler: &Handler, plan: &[Step], out: &mut Vec<u8>) {
             Step::Take(times) => put(TAKE, 0, 0, 0, times as usize),
         }
     }
-    put(WAITING, 0, 0, 0, QUEUE_PLACES);
     put(LEFT, 0, 0, 0, 1);
-}
-
-/// Tells the program to write what it has answered.
-pub fn put_write(out: &mut Vec<u8>) {
-    Instruction { op: WRITE, ..Default::default() }.put(out);
+    // The last of these takings finds none, which ends the run.
+    put(WAITING, 0, 0, 0, QUEUE_PLACES + 1);
 }
 
 /// An answer: four numbers of 8 bytes, and what was logged.
@@ -263,10 +263,11 @@ pub fn put_answer(op: &Op, answer: &Answer, out: &mut Vec<u8>) -> Result<(), Str
             for d in done {
                 put_done(handle_of(plan), d, out);
             }
-            for event in &left.queue {
-                Packed { op: WAITING, value: event_number(event), ..Default::default() }.put(out);
-            }
             Packed { op: LEFT, value: record_number(left), ..Default::default() }.put(out);
+            for event in &left.queue {
+                taken(WAITING, Some(event)).put(out);
+            }
+            taken(WAITING, None).put(out);
         }
     }
     Ok(())
@@ -297,10 +298,14 @@ fn put_done(handle: u8, done: &Done, out: &mut Vec<u8>) {
         Done::Handled { used, log, end, lamps_failed } => {
             Packed { op: handle, number: *end, left: *lamps_failed as u8, used: *used, value: 0, log: log.clone() }
         }
-        Done::Taken(Some(event)) => Packed { op: TAKE, left: 3, value: event_number(event), ..Default::default() },
-        Done::Taken(None) => Packed { op: TAKE, left: 2, ..Default::default() },
+        Done::Taken(event) => taken(TAKE, event.as_ref()),
     };
     packed.put(out)
+}
+
+fn taken(op: u8, event: Option<&KeyEvent>) -> Packed {
+    let (left, value) = event.map_or((NONE_TAKEN, 0), |event| (TAKEN, event_number(event)));
+    Packed { op, left, value, ..Default::default() }
 }
 
 /// Reads the port's answer to a call of an operation. What is no answer to it is told as an error.
@@ -360,30 +365,25 @@ fn answer_of(op: &Op, packed: Packed) -> Result<Answer, String> {
 
 fn read_run(plan: &[Step], from: &mut impl Read) -> io::Result<Result<Answer, String>> {
     let handle = handle_of(plan);
-    let (mut done, mut queue) = (Vec::new(), Vec::new());
+    let (mut done, mut queue, mut record) = (Vec::new(), Vec::new(), None);
     loop {
-        let Packed { op, number, left, used, value, log } = Packed::read(from)?;
-        match (op, number, left) {
-            (_, end, 0 | 1) if op == handle && end != NO_CALL && value == 0 => {
-                done.push(Done::Handled { used, log, end, lamps_failed: left == 1 });
-                continue;
-            }
-            _ if used != 0 || !log.is_empty() => {}
-            (TAKE, 0, 2) if value == 0 => {
-                done.push(Done::Taken(None));
-                continue;
-            }
-            (TAKE, 0, 3) => {
-                done.push(Done::Taken(Some(event_of(value))));
-                continue;
-            }
-            (WAITING, 0, 0) => {
-                queue.push(event_of(value));
-                continue;
-            }
-            (LEFT, 0, 0) => return Ok(handler_of(value, queue).map(|left| Answer::Run { done, left })),
-            _ => {}
+        let packed = Packed::read(from)?;
+        let plain = packed.number == 0 && packed.used == 0 && packed.log.is_empty();
+        match (packed.op, packed.left, packed.value) {
+            (op, 0 | 1, 0) if op == handle && packed.number != NO_CALL => done.push(Done::Handled {
+                used: packed.used,
+                log: packed.log,
+                end: packed.number,
+                lamps_failed: packed.left == 1,
+            }),
+            (TAKE, NONE_TAKEN, 0) if plain => done.push(Done::Taken(None)),
+            (TAKE, TAKEN, event) if plain => done.push(Done::Taken(Some(event_of(event)))),
+            (LEFT, 0, left) if plain => record = Some(left),
+            (WAITING, TAKEN, event) if plain => queue.push(event_of(event)),
+            (WAITING, NONE_TAKEN, 0) if plain => break,
+            _ => return Ok(Err(format!("no answer to a call of a run: {packed:?}"))),
         }
-        return Ok(Err(format!("no answer to a call of a run: {op} {number} {left} {used} {value} {log:?}")));
     }
+    let record = record.ok_or_else(|| "the run tells no record".to_string());
+    Ok(record.and_then(|number| handler_of(number, queue)).map(|left| Answer::Run { done, left }))
 }

@@ -2,7 +2,7 @@
 
 use crate::answer::{self, Answer};
 use crate::call::{self, Call};
-use crate::packed::{put_answer, put_call, put_write, read_answer};
+use crate::packed::{put_answer, put_call, read_answer};
 use std::io::{self, BufRead, BufReader, BufWriter, Write};
 use std::process::{Child, ChildStdin, ChildStdout, Command, ExitCode, Stdio};
 
@@ -25,7 +25,6 @@ impl Port {
     fn answer(&mut self, call: &Call) -> Result<Answer, String> {
         let mut packed = Vec::new();
         put_call(call, &mut packed)?;
-        put_write(&mut packed);
         let written = self.input.write_all(&packed);
         let answer = written.and_then(|()| read_answer(&call.op, &mut self.output));
         answer.unwrap_or_else(|why| Err(format!("the port's program gives no answer: {why}")))

@@ -7,10 +7,10 @@ use Rattle.replay.proofs.replay.Statement.{statement}
 use Rattle.replay.proofs.replay.Tie as tie
 
 abbrev Inv-loop : tie.InvT-loop
-Inv-loop script₀ log₀ out₀ bytes₀ end₀ left₀ script log out bytes end left = (length script ≡ length script₀) × ((length log ≡ length log₀) × (length out ≡ length out₀))
+Inv-loop script₀ log₀ bytes₀ left₀ script log bytes left = (length script ≡ length script₀) × (length log ≡ length log₀)
 
 abbrev μ-loop : tie.MeasureT-loop
-μ-loop script₀ log₀ out₀ bytes₀ end₀ left₀ script log out bytes end left = left
+μ-loop script₀ log₀ bytes₀ left₀ script log bytes left = left
 
 loop-holds : tie.Need-loop-holds Inv-loop μ-loop
 loop-holds c = search needs
@@ -24,8 +24,8 @@ filled-requires c κs = search needs
 answer-requires : tie.Need-answer-requires Inv-loop μ-loop
 answer-requires c κs = search needs
 
-instructions-left-requires : tie.Need-instructions-left-requires Inv-loop μ-loop
-instructions-left-requires c κs = search needs
+fewer-requires : tie.Need-fewer-requires Inv-loop μ-loop
+fewer-requires c κs = search needs
 
 loop-less : tie.Need-loop-less Inv-loop μ-loop
 loop-less c = search needs
@@ -38,9 +38,6 @@ same-length c = search needs
 
 same-length-2 : tie.Need-same-length-2 Inv-loop μ-loop
 same-length-2 c = search needs
-
-same-length-3 : tie.Need-same-length-3 Inv-loop μ-loop
-same-length-3 c = search needs
 
 returns : tie.Need-returns Inv-loop μ-loop
 returns c = search needs
@@ -55,10 +52,9 @@ replay-spec =
     read-instruction-requires
     filled-requires
     answer-requires
-    instructions-left-requires
+    fewer-requires
     loop-less
     loop-again
     same-length
     same-length-2
-    same-length-3
     returns)

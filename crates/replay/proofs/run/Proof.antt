@@ -7,10 +7,10 @@ use Rattle.replay.proofs.run.Statement.{statement}
 use Rattle.replay.proofs.run.Tie as tie
 
 abbrev Inv-loop : tie.InvT-loop
-Inv-loop script log₀ out₀ end next₀ goes-on₀ handler₀ used₀ at₀ left₀ log out next goes-on handler used at left = (length log ≡ length log₀) × (length out ≡ length out₀)
+Inv-loop script log₀ next₀ goes-on₀ handler₀ used₀ left₀ log next goes-on handler used left = length log ≡ length log₀
 
 abbrev μ-loop : tie.MeasureT-loop
-μ-loop script log₀ out₀ end next₀ goes-on₀ handler₀ used₀ at₀ left₀ log out next goes-on handler used at left = left
+μ-loop script log₀ next₀ goes-on₀ handler₀ used₀ left₀ log next goes-on handler used left = left
 
 begun-requires : tie.Need-begun-requires Inv-loop μ-loop
 begun-requires c κs = search needs
@@ -24,11 +24,14 @@ next-instruction-requires c κs = search needs
 run-turn-requires : tie.Need-run-turn-requires Inv-loop μ-loop
 run-turn-requires c κs = search needs
 
-put-answer-requires : tie.Need-put-answer-requires Inv-loop μ-loop
-put-answer-requires c κs = search needs
+write-answer-requires : tie.Need-write-answer-requires Inv-loop μ-loop
+write-answer-requires c κs = search needs
 
-instructions-left-requires : tie.Need-instructions-left-requires Inv-loop μ-loop
-instructions-left-requires c κs = search needs
+is-over-requires : tie.Need-is-over-requires Inv-loop μ-loop
+is-over-requires c κs = search needs
+
+fewer-requires : tie.Need-fewer-requires Inv-loop μ-loop
+fewer-requires c κs = search needs
 
 loop-less : tie.Need-loop-less Inv-loop μ-loop
 loop-less c = search needs
@@ -38,9 +41,6 @@ loop-again c = search needs
 
 same-length : tie.Need-same-length Inv-loop μ-loop
 same-length c = search needs
-
-same-length-2 : tie.Need-same-length-2 Inv-loop μ-loop
-same-length-2 c = search needs
 
 returns : tie.Need-returns Inv-loop μ-loop
 returns c = search needs
@@ -55,10 +55,10 @@ run-spec =
     loop-holds
     next-instruction-requires
     run-turn-requires
-    put-answer-requires
-    instructions-left-requires
+    write-answer-requires
+    is-over-requires
+    fewer-requires
     loop-less
     loop-again
     same-length
-    same-length-2
     returns)
