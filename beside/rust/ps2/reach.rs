@@ -47,8 +47,16 @@ pub fn polling_receive(c: &PS2Controller) -> Result<u8, &'static str> {
 /// The keyboard's commands, by their bytes.
 pub fn keyboard_commands() -> [HostToKeyboardCommand; 8] {
     use HostToKeyboardCommand::*;
-    [SetLEDStatus, ScancodeSet, IdentifyKeyboard, SetRepeatRateAndDelay, EnableScanning, DisableScanning, ResendByte,
-        ResetAndStartSelfTest]
+    [
+        SetLEDStatus,
+        ScancodeSet,
+        IdentifyKeyboard,
+        SetRepeatRateAndDelay,
+        EnableScanning,
+        DisableScanning,
+        ResendByte,
+        ResetAndStartSelfTest,
+    ]
 }
 
 pub fn command_to_keyboard(k: &PS2Keyboard, value: HostToKeyboardCommandOrData) -> Done {
@@ -62,8 +70,23 @@ pub fn get_keyboard_scancode_set(k: &PS2Keyboard) -> Result<u8, &'static str> {
 /// The mouse's commands, by their bytes.
 pub fn mouse_commands() -> [HostToMouseCommand; 15] {
     use HostToMouseCommand::*;
-    [SetScaling, SetResolution, StatusRequest, SetStreamMode, ReadData, ResetWrapMode, SetWrapMode, SetRemoteMode,
-        GetDeviceID, SampleRate, EnableDataReporting, DisableDataReporting, SetDefaults, ResendByte, Reset]
+    [
+        SetScaling,
+        SetResolution,
+        StatusRequest,
+        SetStreamMode,
+        ReadData,
+        ResetWrapMode,
+        SetWrapMode,
+        SetRemoteMode,
+        GetDeviceID,
+        SampleRate,
+        EnableDataReporting,
+        DisableDataReporting,
+        SetDefaults,
+        ResendByte,
+        Reset,
+    ]
 }
 
 pub fn mouse(controller: &PS2Controller, id: MouseId) -> PS2Mouse<'_> {

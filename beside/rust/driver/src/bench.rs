@@ -5,6 +5,7 @@ use crate::call::{self, Call, ALL_FLAGS, LAST_KEYCODE};
 use crate::device::Rng;
 use crate::packed::{put_call, read_answer};
 use std::io::{self, Read, Write};
+use std::path::Path;
 use std::process::{Child, Command, ExitCode, Stdio};
 use std::thread;
 use std::time::Instant;
@@ -19,6 +20,7 @@ fn processor_time(child: Child) -> io::Result<f64> {
     let (mut status, mut usage) = (0, [0; 18]);
     match unsafe { wait4(child.id() as i32, &mut status, 0, &mut usage) } {
         -1 => Err(io::Error::last_os_error()),
+        _ if status != 0 => Err(io::Error::other("the program failed")),
         _ => Ok((usage[0] + usage[2]) as f64 + (usage[1] + usage[3]) as f64 / 1e6),
     }
 }
@@ -139,35 +141,24 @@ pub fn bench(port: &str, tablekeys: &str, rounds: usize) -> io::Result<ExitCode>
     let own = own.to_str().expect("a path in UTF-8");
     let one = |line: &str| vec![line.to_string()];
     let plain = one("handle script=1E9E*50 log=16 plan=each");
-    let in_place = one("handle_in_place script=1E9E*50 log=16 plan=each");
     let locks = one("handle script=3A0001FA0001FA*100 log=16 plan=each");
     let silent = one(&silent_device());
     let init = one("init script=0333551D001D001C1DFAAA1C3DFAAA0003 log=64");
     let characters = every_character();
     let rows = [
-        ("handler call and taking, plain key, by value", 100, &plain, &plain),
-        ("the same in place", 100, &plain, &in_place),
-        ("lock with its lamp exchange, and taking", 100, &locks, &locks),
-        ("silent device, 525,300 reads", 1, &silent, &silent),
-        ("init", 1, &init, &init),
-        ("to_ascii, all keys and flags", characters.len(), &characters, &characters),
+        ("handler call and taking, plain key, by value", 100, &plain),
+        ("lock with its lamp exchange, and taking", 100, &locks),
+        ("silent device, 525,300 reads", 1, &silent),
+        ("init", 1, &init),
+        ("to_ascii, all keys and flags", characters.len(), &characters),
     ];
 
     println!("{:<44} {:>12} {:>12} {:>8} {:>8} {:>8}", "", "Rust, ns", "port, ns", "ratio", "least", "most");
-    for (name, calls, for_rust, for_port) in rows {
-        let repeated = |lines: &[String], times| -> Vec<u8> {
-            lines.iter().flat_map(|line| format!("{line} repeat={times}\n").into_bytes()).collect()
-        };
-        if for_port[0].starts_with("handle_in_place") {
-            println!("{name:<44} not measured: the port's program has no such operation");
-            continue;
-        }
-        let parsed: Vec<Call> = for_port.iter().map(|line| call::parse(line).expect("a good line")).collect();
-        let rust = Side {
-            program: &[own, "replay"],
-            input: &|times| Ok(repeated(for_rust, times)),
-            error: &line_error,
-        };
+    for (name, calls, lines) in rows {
+        let repeated =
+            |times| Ok(lines.iter().flat_map(|line| format!("{line} repeat={times}\n").into_bytes()).collect());
+        let parsed: Vec<Call> = lines.iter().map(|line| call::parse(line).expect("a good line")).collect();
+        let rust = Side { program: &[own, "replay"], input: &repeated, error: &line_error };
         let port = Side {
             program: &[port],
             input: &|times| packed(&parsed, times),
@@ -175,6 +166,22 @@ pub fn bench(port: &str, tablekeys: &str, rounds: usize) -> io::Result<ExitCode>
         };
         let times = rust.enough()?;
         if let Err(why) = measure(name, calls as f64, times, rounds, &rust, &port) {
+            println!("{name:<44} not measured: {why}");
+        }
+    }
+
+    // The calls in place have a program of their own: rows of calls from a fresh record on, with nothing taken.
+    let in_place = Path::new(own).with_file_name("in_place");
+    let in_place = in_place.to_str().expect("a path in UTF-8");
+    let lock = "3A0001FA0001FA";
+    for (name, script) in [("handler call, plain key, in place", "1E"), ("lock with its lamp exchange, in place", lock)]
+    {
+        let in_a_row = |times| Ok(format!("handle script={script}*100 log=16 plan=auto repeat={times}\n").into_bytes());
+        let input = |times| Ok(format!("{script} 100 {times}\n").into_bytes());
+        let rust = Side { program: &[own, "replay"], input: &in_a_row, error: &line_error };
+        let port = Side { program: &[in_place], input: &input, error: &|_| None };
+        let times = rust.enough()?;
+        if let Err(why) = measure(name, 100.0, times, rounds, &rust, &port) {
             println!("{name:<44} not measured: {why}");
         }
     }

@@ -7,7 +7,6 @@ use crate::oracle::Oracle;
 use crate::packed::LONGEST_SCRIPT;
 use std::collections::BTreeMap;
 
-
 /// How many bytes for a device are answered badly: fewer than its attempts, all four, the next command's too, all.
 const TIMES: [usize; 5] = [1, 3, 4, 5, 1000];
 

@@ -92,7 +92,9 @@ fn main() -> io::Result<ExitCode> {
             compare::compare(port, calls, seed, number(&args, "--damage"))
         }
         _ => {
-            eprintln!("usage: beside replay [--port PROGRAM] | pack [--answers] | tablekeys | sample --calls N --seed S");
+            eprintln!(
+                "usage: beside replay [--port PROGRAM] | pack [--answers] | tablekeys | sample --calls N --seed S"
+            );
             eprintln!("       beside compare --calls N --seed S --port PROGRAM [--damage CALL]");
             eprintln!("       beside bench [--rounds N] --port PROGRAM --tablekeys PROGRAM");
             Ok(ExitCode::from(2))

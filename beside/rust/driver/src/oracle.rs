@@ -122,7 +122,8 @@ fn keyboard_value(found: KeyboardType) -> Value {
 }
 
 fn packet_value(p: MousePacket) -> Value {
-    let buttons = [p.button_left(), p.button_right(), p.button_middle(), p.always_one() == 1, p.button_4(), p.button_5()];
+    let buttons =
+        [p.button_left(), p.button_right(), p.button_middle(), p.always_one() == 1, p.button_4(), p.button_5()];
     Value::Packet(Packet {
         bits: buttons,
         movements: [p.x_movement().into(), p.y_movement().into(), p.scroll_movement().into()],

@@ -246,8 +246,14 @@ pub fn put_answer(op: &Op, answer: &Answer, out: &mut Vec<u8>) -> Result<(), Str
     match answer {
         Answer::Call { end, used, log, value, record } => {
             let (number, ..) = operation(op);
-            let packed =
-                Packed { op: number, number: *end, left: left_of(op, record)?, used: *used, value: 0, log: log.clone() };
+            let packed = Packed {
+                op: number,
+                number: *end,
+                left: left_of(op, record)?,
+                used: *used,
+                value: 0,
+                log: log.clone(),
+            };
             let value = match (value, record) {
                 (Value::Nothing, Record::Handler(handler)) => record_number(handler),
                 (Value::Nothing, _) => 0,

@@ -1,0 +1,2 @@
+-- Laws of handler calls in a row.
+pub mod Calls

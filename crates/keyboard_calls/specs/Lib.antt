@@ -1,0 +1,2 @@
+-- Handler calls in a row.
+pub mod Calls

@@ -1,0 +1,31 @@
+// Handler calls in place, one after another, for a program in Rust to link: `beside/bench` measures them.
+ghost use mathlib.Core.Path.{_≡_};
+ghost use Rattle.keyboard.specs.KeyboardLamps.{keyboardLamps};
+ghost use Rattle.keyboard.specs.Handler.{handled, logLeft};
+ghost use Rattle.keyboard.specs.Record.{fresh};
+ghost use Rattle.keyboard_calls.specs.Calls.{left, called};
+use keyboard::KeyboardHandler;
+use keyboard_in_place::handle_in_place;
+
+// A handler call in place, on a record that this function holds.
+fn call_in_place(mut handler: KeyboardHandler, script: &[u8], log: &mut [u8]) -> KeyboardHandler
+    ensures { λ r. ⌜ (r ≡ handled keyboardLamps handler (now (script .entry)) (now (log .entry)) .handler) × (now (log .exit) ≡ logLeft keyboardLamps handler (now (script .entry)) (now (log .entry))) ⌝ }
+{
+    handle_in_place(&mut handler, script, log);
+    handler
+}
+
+// So many handler calls in place, from a fresh record on; answers how many events then wait.
+#[no_mangle]
+pub extern "C" fn keyboard_calls_in_place(script: &[u8], log: &mut [u8], times: usize) -> usize
+    ensures { λ r. ⌜ (r ≡ called times (now (script .entry)) (left fresh (now (log .entry))) .handler .queue .count) × (now (log .exit) ≡ called times (now (script .entry)) (left fresh (now (log .entry))) .log) ⌝ }
+{
+    let mut handler = KeyboardHandler::fresh();
+    let mut i: usize = 0;
+    while i < times {
+        let next = call_in_place(handler, script, log);
+        handler = next;
+        i += 1;
+    }
+    handler.queue.count
+}
