@@ -12,6 +12,7 @@ pub mod Taking
 pub mod Courses
 pub mod WellFormed
 pub mod Outcomes
+pub mod Effects
 pub mod LampBits
 pub mod Counted
 pub mod Refused

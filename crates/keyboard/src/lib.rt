@@ -1,8 +1,6 @@
 // The keyboard handler's record, its queue of events, and what its calls answer: Theseus's `keyboard`.
 ghost use mathlib.Core.Bool.{true};
 ghost use mathlib.Core.Path.{_≡_};
-ghost use Prim.Native.Nat.{_<_};
-ghost use Rattle.keyboard.specs.Queue.{pushed};
 ghost use Rattle.keyboard.specs.Strokes.{stroke, isPrefix, lowPart};
 ghost use Rattle.keyboard.specs.FlagTable.{flagTable, isLockPress};
 ghost use Rattle.keyboard.specs.FlagsAfter.{flagsAfter};
@@ -12,7 +10,7 @@ ghost use Rattle.keyboard.specs.Events.{keycodeAt, eventOf};
 ghost use Rattle.keyboard.specs.Record.{fresh, wellFormed};
 ghost use Rattle.keyboard.specs.Taking.{taken};
 ghost use Rattle.keyboard.specs.Handler.{isSilent, queued, onByte, handled, logLeft};
-ghost use Rattle.keyboard.specs.Outcomes.{handledOf, handledBy, onKey};
+ghost use Rattle.keyboard.specs.Outcomes.{handledWith, handledOf, handledBy, onKey};
 ghost use Rattle.exchange.specs.Exchange.{play};
 use keyboard_modifiers::KeyboardModifiers;
 use keycodes_ascii::FoundKeycode;
@@ -40,10 +38,11 @@ pub struct KeyboardState {
 }
 
 // The events that wait, in a ring: the oldest is at `start`, and `count` of them follow each other round the end.
+// The places stand last, where no padding touches them: a copy of the record is then not made in two parts.
 pub struct EventQueue {
-    pub places: [KeyEvent; 128],
     pub start: usize,
     pub count: usize,
+    pub places: [KeyEvent; 128],
 }
 
 // The handler record.
@@ -69,6 +68,22 @@ pub struct Handled {
     pub used: usize,
     pub pairs: usize,
     pub handler: KeyboardHandler,
+}
+
+// The event that a call puts into the queue, if any.
+enum NewEvent {
+    Event(KeyEvent),
+    Nothing,
+}
+
+// All that a call does, but for the queue: it is copied and changed in one place, in `handle`.
+struct Effect {
+    answer: HandlerAnswer,
+    lamps_failed: bool,
+    used: usize,
+    pairs: usize,
+    keyboard: KeyboardState,
+    event: NewEvent,
 }
 
 // What a taking from the queue answers: the oldest event, none, or the refusal that document 01 numbers 21.
@@ -100,9 +115,9 @@ impl KeyboardHandler {
                 modifiers: KeyboardModifiers { bits: 0 },
             },
             queue: EventQueue {
-                places: [empty; 128],
                 start: 0,
                 count: 0,
+                places: [empty; 128],
             },
         }
     }
@@ -148,28 +163,11 @@ pub fn take_event(handler: KeyboardHandler) -> Taken
         handler: KeyboardHandler {
             keyboard: keyboard,
             queue: EventQueue {
-                places: places,
                 start: (start + 1) % QUEUE_LENGTH,
                 count: count - 1,
+                places: places,
             },
         },
-    }
-}
-
-// Puts an event behind those that wait, where there is room.
-fn push(queue: EventQueue, event: KeyEvent) -> EventQueue
-    requires { ⌜ (queue .start < 128) × (queue .count < 128) ⌝ }
-    ensures { λ r. ⌜ r ≡ pushed queue event ⌝ }
-{
-    let start = queue.start;
-    let count = queue.count;
-    let place = (start + count) % QUEUE_LENGTH;
-    let mut places = queue.places;
-    places[place] = event;
-    EventQueue {
-        places: places,
-        start: start,
-        count: count + 1,
     }
 }
 
@@ -228,45 +226,42 @@ fn queue_event(
     lamps_failed: bool,
     used: usize,
     pairs: usize,
-) -> Handled
-    requires { ⌜ wellFormed handler ≡ true ⌝ }
-    ensures { λ r. ⌜ r ≡ handledOf (queued handler «scan_code» (modifiers .bits) «lamps_failed») used pairs ⌝ }
+) -> Effect
+    ensures { λ r. ⌜ handledWith (handler .queue) r ≡ handledOf (queued handler «scan_code» (modifiers .bits) «lamps_failed») used pairs ⌝ }
 {
-    let queue = handler.queue;
     let keyboard = KeyboardState {
         prefix: false,
         modifiers,
     };
     match Keycode::from_byte(scan_code & 0x7F) {
         FoundKeycode::Found(keycode) => {
-            if QUEUE_LENGTH <= queue.count {
-                return Handled {
+            if QUEUE_LENGTH <= handler.queue.count {
+                return Effect {
                     answer: HandlerAnswer::QueueFull,
                     lamps_failed,
                     used,
                     pairs,
-                    handler: KeyboardHandler { keyboard, queue },
+                    keyboard,
+                    event: NewEvent::Nothing,
                 };
             }
             let event = event_of(keycode, scan_code, modifiers);
-            let longer = push(queue, event);
-            Handled {
+            Effect {
                 answer: HandlerAnswer::Done,
                 lamps_failed,
                 used,
                 pairs,
-                handler: KeyboardHandler {
-                    keyboard,
-                    queue: longer,
-                },
+                keyboard,
+                event: NewEvent::Event(event),
             }
         }
-        FoundKeycode::Unknown => Handled {
+        FoundKeycode::Unknown => Effect {
             answer: HandlerAnswer::UnknownScancode,
             lamps_failed,
             used,
             pairs,
-            handler: KeyboardHandler { keyboard, queue },
+            keyboard,
+            event: NewEvent::Nothing,
         },
     }
 }
@@ -323,10 +318,11 @@ fn lock_pressed(
     modifiers: KeyboardModifiers,
     script: &[u8],
     log: &mut [u8],
-) -> Handled
-    requires { ⌜ (wellFormed handler ≡ true) × (isLockPress «scan_code» ≡ true) ⌝ }
-    ensures { λ r. ⌜ (r ≡ handledBy handler (play (onKey keyboardLamps handler «scan_code» (modifiers .bits)) (now (script .entry)) (now (log .entry)))) × (now (log .exit) ≡ play (onKey keyboardLamps handler «scan_code» (modifiers .bits)) (now (script .entry)) (now (log .entry)) .log) ⌝ }
+) -> Effect
+    requires { ⌜ isLockPress «scan_code» ≡ true ⌝ }
+    ensures { λ r. ⌜ (handledWith (handler .queue) r ≡ handledBy handler (play (onKey keyboardLamps handler «scan_code» (modifiers .bits)) (now (script .entry)) (now (log .entry)))) × (now (log .exit) ≡ play (onKey keyboardLamps handler «scan_code» (modifiers .bits)) (now (script .entry)) (now (log .entry)) .log) ⌝ }
 {
+    let keyboard = handler.keyboard;
     let lit = set_keyboard_led(script, log, leds(modifiers));
     let used = lit.used;
     let pairs = lit.pairs;
@@ -334,19 +330,21 @@ fn lock_pressed(
     match answer {
         CommandAnswer::Accepted => queue_event(handler, scan_code, modifiers, false, used, pairs),
         CommandAnswer::Refused(e) => match e {
-            Refusal::ScriptUsedUp => Handled {
+            Refusal::ScriptUsedUp => Effect {
                 answer: HandlerAnswer::NoScriptByte,
                 lamps_failed: false,
                 used,
                 pairs,
-                handler,
+                keyboard,
+                event: NewEvent::Nothing,
             },
-            Refusal::LogFull => Handled {
+            Refusal::LogFull => Effect {
                 answer: HandlerAnswer::NoLogRoom,
                 lamps_failed: false,
                 used,
                 pairs,
-                handler,
+                keyboard,
+                event: NewEvent::Nothing,
             },
             Refusal::Failed(f) => queue_event(handler, scan_code, modifiers, true, used, pairs),
         },
@@ -354,24 +352,20 @@ fn lock_pressed(
 }
 
 // A scancode that was read.
-fn on_byte(handler: KeyboardHandler, scan_code: u8, script: &[u8], log: &mut [u8]) -> Handled
-    requires { ⌜ wellFormed handler ≡ true ⌝ }
-    ensures { λ r. ⌜ (r ≡ handledBy handler (play (onByte keyboardLamps handler «scan_code») (now (script .entry)) (now (log .entry)))) × (now (log .exit) ≡ play (onByte keyboardLamps handler «scan_code») (now (script .entry)) (now (log .entry)) .log) ⌝ }
+fn on_byte(handler: KeyboardHandler, scan_code: u8, script: &[u8], log: &mut [u8]) -> Effect
+    ensures { λ r. ⌜ (handledWith (handler .queue) r ≡ handledBy handler (play (onByte keyboardLamps handler «scan_code») (now (script .entry)) (now (log .entry)))) × (now (log .exit) ≡ play (onByte keyboardLamps handler «scan_code») (now (script .entry)) (now (log .entry)) .log) ⌝ }
 {
     let keyboard = handler.keyboard;
     if is_silent(scan_code) {
-        let queue = handler.queue;
         let modifiers = keyboard.modifiers;
         let prefix = is_prefix(scan_code);
-        return Handled {
+        return Effect {
             answer: HandlerAnswer::Done,
             lamps_failed: false,
             used: 0,
             pairs: 0,
-            handler: KeyboardHandler {
-                keyboard: KeyboardState { prefix, modifiers },
-                queue,
-            },
+            keyboard: KeyboardState { prefix, modifiers },
+            event: NewEvent::Nothing,
         };
     }
     let modifiers = modifiers_after(keyboard, scan_code);
@@ -381,17 +375,19 @@ fn on_byte(handler: KeyboardHandler, scan_code: u8, script: &[u8], log: &mut [u8
     queue_event(handler, scan_code, modifiers, false, 0, 0)
 }
 
-// A handler call: one scancode is read without asking the status, and handled.
-pub fn handle(handler: KeyboardHandler, script: &[u8], log: &mut [u8]) -> Handled
-    ensures { λ r. ⌜ (r ≡ handled keyboardLamps handler (now (script .entry)) (now (log .entry))) × (now (log .exit) ≡ logLeft keyboardLamps handler (now (script .entry)) (now (log .entry))) ⌝ }
+// What a handler call does, but for the queue: one scancode is read without asking the status, and handled.
+fn effect_of(handler: KeyboardHandler, script: &[u8], log: &mut [u8]) -> Effect
+    ensures { λ r. ⌜ (handledWith (handler .queue) r ≡ handled keyboardLamps handler (now (script .entry)) (now (log .entry))) × (now (log .exit) ≡ logLeft keyboardLamps handler (now (script .entry)) (now (log .entry))) ⌝ }
 {
+    let keyboard = handler.keyboard;
     if !well_formed(handler) {
-        return Handled {
+        return Effect {
             answer: HandlerAnswer::MalformedRecord,
             lamps_failed: false,
             used: 0,
             pairs: 0,
-            handler,
+            keyboard,
+            event: NewEvent::Nothing,
         };
     }
     let read = read_scancode(script);
@@ -401,21 +397,57 @@ pub fn handle(handler: KeyboardHandler, script: &[u8], log: &mut [u8]) -> Handle
         ByteAnswer::Byte(scan_code) => {
             let after = on_byte(handler, scan_code, &script[used..], log);
             let answer = after.answer;
-            let handler = after.handler;
-            Handled {
+            let keyboard = after.keyboard;
+            let event = after.event;
+            Effect {
                 answer,
                 lamps_failed: after.lamps_failed,
                 used: used + after.used,
                 pairs: after.pairs,
-                handler,
+                keyboard,
+                event,
             }
         }
-        ByteAnswer::Refused(e) => Handled {
+        ByteAnswer::Refused(e) => Effect {
             answer: HandlerAnswer::NoScriptByte,
             lamps_failed: false,
             used,
             pairs: 0,
-            handler,
+            keyboard,
+            event: NewEvent::Nothing,
+        },
+    }
+}
+
+// A handler call.
+pub fn handle(handler: KeyboardHandler, script: &[u8], log: &mut [u8]) -> Handled
+    ensures { λ r. ⌜ (r ≡ handled keyboardLamps handler (now (script .entry)) (now (log .entry))) × (now (log .exit) ≡ logLeft keyboardLamps handler (now (script .entry)) (now (log .entry))) ⌝ }
+{
+    let queue = handler.queue;
+    let start = queue.start;
+    let mut count = queue.count;
+    let mut places = queue.places;
+    let effect = effect_of(handler, script, log);
+    let answer = effect.answer;
+    let keyboard = effect.keyboard;
+    let new = effect.event;
+    if let NewEvent::Event(event) = new {
+        let place = (start + count) % QUEUE_LENGTH;
+        places[place] = event;
+        count += 1;
+    }
+    Handled {
+        answer,
+        lamps_failed: effect.lamps_failed,
+        used: effect.used,
+        pairs: effect.pairs,
+        handler: KeyboardHandler {
+            keyboard,
+            queue: EventQueue {
+                start,
+                count,
+                places,
+            },
         },
     }
 }

@@ -1,80 +1,47 @@
--- `keyboard::handle` meets its contract: 21, then the read, then what its byte does.
+-- `keyboard::handle` meets its contract: the queue with the new event, or as it was.
 -- Assumes nothing.
 use borrow.Author.Needs.{needs}
-use mathlib.Core.Path.{_≡_, sym, ap, _∙_}
-use mathlib.Core.Bool.{true}
 use native.Mathlib.Omega.{arith}
-use borrow.Author.Tests.{not-true, not-false}
-use Rattle.exchange.proofs.Position.{reads-used-le}
-use Rattle.ps2_ports.specs.Ports.{saidByte}
 use Rattle.keyboard.specs.KeyboardLamps.{keyboardLamps}
-use Rattle.keyboard.specs.Record.{wellFormed}
-use Rattle.keyboard.proofs.Outcomes.{call-back, malformed-call, byte-used, byte-call, no-byte}
+use Rattle.keyboard.specs.Queue.{pushed}
+use Rattle.keyboard.proofs.Effects.{event-known, queued-well}
+use Rattle.keyboard.proofs.Ways.{WellFormed}
 use Rattle.keyboard.proofs.handle.Statement.{statement}
 use Rattle.keyboard.proofs.handle.Tie as tie
 
+-- where there is a new event, the record is well formed
+well : (c : tie.After-known-told) → WellFormed (c .before .before .before .before .before .before .before .before .before .before .before .before .args .handler)
+well c = queued-well keyboardLamps _ _ _ _ (c .before .new .given .1) (c .before .before .before .before .before .before .effect-of .ensures .0)
+
+add-place : tie.Need-add-place
+add-place c = omega (arith, well c .start-in, well c .count-in)
+
+add-count : tie.Need-add-count
+add-count c = omega (arith, well c .count-in)
+
 returns : tie.Need-returns
+unfolding pushed
 returns c =
-    let w = c .before in
-    let a = w .before .before .before .args in
-    call-back keyboardLamps (a .handler) _ _ (malformed-call keyboardLamps (a .handler) _ _ (sym (w .well-formed .ensures) ∙ not-true _ (c .if1 .taken)))
-
--- past the first test the record is well formed
-well : (c : tie.Else1) → wellFormed (c .before .before .before .before .args .handler) ≡ true
-well c = sym (c .before .well-formed .ensures) ∙ not-false _ (c .if1 .left)
-
-sub-on-byte : tie.Need-sub-on-byte
-sub-on-byte c = reads-used-le (c .before .before .before .read-scancode .ensures)
-
-on-byte-requires : tie.Need-on-byte-requires
-on-byte-requires c κs = well (c .before .before .before .before .before .before)
-
-add-t17 : tie.Need-add-t17
-add-t17 c =
-    let o = c .before .before .before .before in
-    let m = o .before .before .before .before in
-    let r = m .before .before in
-    let w = r .before in
-    let x = w .before .before .before .before in
-    omega (
-      arith,
-      byte-used keyboardLamps (x .args .handler) (well w) _ _ (r .read-scancode .ensures)
-          _ (ap saidByte (m .answer .given .1)) (o .on-byte .ensures .0),
-      x .good,
-    )
+    let e = c .before .before .before .before .before .before .effect-of .ensures in
+    (event-known _ _ (c .before .new .given .1) (e .0), e .1)
 
 returns-2 : tie.Need-returns-2
 returns-2 c =
-    let o = c .before .before .before .before in
-    let m = o .before .before .before .before in
-    let r = m .before .before in
-    let w = r .before in
-    let x = w .before .before .before .before in
-    byte-call keyboardLamps (x .args .handler) (well w) _ _ (r .read-scancode .ensures)
-    _ (ap saidByte (m .answer .given .1)) (o .on-byte .ensures .0) (o .on-byte .ensures .1)
-
-returns-3 : tie.Need-returns-3
-returns-3 c =
-    let m = c .before in
-    let r = m .before .before in
-    let w = r .before in
-    no-byte keyboardLamps (w .before .before .before .before .args .handler) (well w) _ _ (r .read-scancode .ensures)
-    (m .answer2 .given .0 .0) (ap saidByte (m .answer2 .given .1))
+    let e = c .before .before .before .before .before .effect-of .ensures in
+    (event-known _ _ (c .enum-told .given .1) (e .0), e .1)
 
 pub handle-spec : {M : Type 1} → statement M
 handle-spec =
     tie.close
     (tie.spec
     (λ c κs. search needs)
+    (λ c. search needs)
+    add-place
+    (λ c. search needs)
+    (λ c. search needs)
+    add-count
+    (λ c. search needs)
+    (λ c. search needs)
     returns
-    (λ c κs. search needs)
     (λ c. search needs)
-    sub-on-byte
-    sub-on-byte
-    (λ c. search needs)
-    on-byte-requires
-    add-t17
-    (λ c. search needs)
-    (λ c. search needs)
-    returns-2
-    returns-3)
+    returns-2)

@@ -13,10 +13,10 @@ returns : tie.Need-returns
 returns c =
     let m = c .before in
     let w = m .before .before .before .before in
-    let x = w .before .before .before .before .before in
+    let x = w .before .before .before .before .before .before in
     let a = x .args in
     gives-back (a .handler) _ _ _
-    (lamps-answer keyboardLamps (a .handler) (a .scan-code) (a .modifiers .bits) _ _ (x .pre .1) (w .before .leds .ensures) (w .set-keyboard-led .ensures)
+    (lamps-answer keyboardLamps (a .handler) (a .scan-code) (a .modifiers .bits) _ _ (x .pre) (w .before .leds .ensures) (w .set-keyboard-led .ensures)
     (ap saidCommand (m .enum-told .given .1)))
     (c .queue-event .ensures)
 
@@ -24,10 +24,10 @@ returns-2 : tie.Need-returns-2
 returns-2 c =
     let m = c .before .before .before in
     let w = m .before .before .before .before in
-    let x = w .before .before .before .before .before in
+    let x = w .before .before .before .before .before .before in
     let a = x .args in
     gives-back (a .handler) _ _ _
-    (lamps-no-script keyboardLamps (a .handler) (a .scan-code) (a .modifiers .bits) _ _ (x .pre .1) (w .before .leds .ensures) (w .set-keyboard-led .ensures)
+    (lamps-no-script keyboardLamps (a .handler) (a .scan-code) (a .modifiers .bits) _ _ (x .pre) (w .before .leds .ensures) (w .set-keyboard-led .ensures)
     (ap saidCommand (m .answer .given .1) ∙ ap refused (c .enum-told2 .given .1)))
     refl
 
@@ -35,10 +35,10 @@ returns-3 : tie.Need-returns-3
 returns-3 c =
     let m = c .before .before .before in
     let w = m .before .before .before .before in
-    let x = w .before .before .before .before .before in
+    let x = w .before .before .before .before .before .before in
     let a = x .args in
     gives-back (a .handler) _ _ _
-    (lamps-no-log keyboardLamps (a .handler) (a .scan-code) (a .modifiers .bits) _ _ (x .pre .1) (w .before .leds .ensures) (w .set-keyboard-led .ensures)
+    (lamps-no-log keyboardLamps (a .handler) (a .scan-code) (a .modifiers .bits) _ _ (x .pre) (w .before .leds .ensures) (w .set-keyboard-led .ensures)
     (ap saidCommand (m .answer .given .1) ∙ ap refused (c .enum-told3 .given .1)))
     refl
 
@@ -47,10 +47,10 @@ returns-4 c =
     let f = c .before .before in
     let m = f .before .before .before in
     let w = m .before .before .before .before in
-    let x = w .before .before .before .before .before in
+    let x = w .before .before .before .before .before .before in
     let a = x .args in
     gives-back (a .handler) _ _ _
-    (lamps-answer keyboardLamps (a .handler) (a .scan-code) (a .modifiers .bits) _ _ (x .pre .1) (w .before .leds .ensures) (w .set-keyboard-led .ensures)
+    (lamps-answer keyboardLamps (a .handler) (a .scan-code) (a .modifiers .bits) _ _ (x .pre) (w .before .leds .ensures) (w .set-keyboard-led .ensures)
     (ap saidCommand (m .answer .given .1) ∙ ap refused (f .e .given .1)))
     (c .queue-event2 .ensures)
 

@@ -9,7 +9,7 @@ use Rattle.keyboard.proofs.on_byte.Tie as tie
 
 returns : tie.Need-returns
 returns c =
-    let t = c .before .before .before in
+    let t = c .before .before in
     let i = t .before in
     let a = i .before .before .before .before .args in
     rw (c .is-prefix .ensures)
@@ -19,7 +19,7 @@ lock-pressed-requires : tie.Need-lock-pressed-requires
 lock-pressed-requires c κs =
     let t = c .before in
     let k = t .before in
-    (k .before .before .before .before .before .before .before .pre, sym (k .is-lock-press .ensures) ∙ t .if2 .taken)
+    sym (k .is-lock-press .ensures) ∙ t .if2 .taken
 
 returns-2 : tie.Need-returns-2
 returns-2 c =

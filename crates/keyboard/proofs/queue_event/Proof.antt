@@ -5,7 +5,6 @@ use mathlib.Core.Path.{_≡_, refl, sym, ap, _∙_}
 use borrow.Author.Tests.{lt-ltb, le-ltb}
 use Rattle.keyboard.specs.Handler.{queued}
 use Rattle.keyboard.proofs.Keycodes.{known-low, known-keycode, unknown-low}
-use Rattle.keyboard.proofs.WellFormed.{well-is}
 use Rattle.keyboard.proofs.queue_event.Statement.{statement}
 use Rattle.keyboard.proofs.queue_event.Tie as tie
 
@@ -20,21 +19,15 @@ event-of-requires c κs =
     let k = c .before .before .before in
     known-keycode _ (k .before .before .from-byte .ensures) (k .keycode .given .1)
 
-push-requires : tie.Need-push-requires
-push-requires c κs =
-    let f = c .before in
-    (well-is _ (f .before .before .before .before .before .before .before .pre) .start-in, f .if1 .left)
-
 returns-2 : tie.Need-returns-2
 unfolding queued
 returns-2 c =
-    let f = c .before .before in
+    let f = c .before in
     let k = f .before .before .before in
     rw (
       known-low _ (k .before .before .from-byte .ensures) (k .keycode .given .1),
       lt-ltb _ 128 (f .if1 .left),
-      c .push .ensures,
-      c .before .event-of .ensures,
+      c .event-of .ensures,
     )
 
 returns-3 : tie.Need-returns-3
@@ -49,7 +42,6 @@ queue-event-spec =
     (λ c. search needs)
     returns
     event-of-requires
-    push-requires
     (λ c. search needs)
     returns-2
     returns-3)
