@@ -8,21 +8,35 @@ use std::io::{self, Read, Write};
 use std::path::Path;
 use std::process::{Child, Command, ExitCode, Stdio};
 use std::thread;
-use std::time::Instant;
+
+/// Linux's `rusage`, as words: the first four are seconds and microseconds of user and of system time.
+type Usage = [i64; 18];
 
 extern "C" {
-    fn wait4(pid: i32, status: *mut i32, options: i32, usage: *mut [i64; 18]) -> i32;
+    fn wait4(pid: i32, status: *mut i32, options: i32, usage: *mut Usage) -> i32;
+    fn getrusage(who: i32, usage: *mut Usage) -> i32;
 }
 
-/// Waits for a program to end: the seconds of processor time that it took, which other programs hardly change.
+/// Seconds of processor time, which other programs hardly change.
+fn seconds(usage: Usage) -> f64 {
+    (usage[0] + usage[2]) as f64 + (usage[1] + usage[3]) as f64 / 1e6
+}
+
+/// Waits for a program to end: the seconds that it took.
 fn processor_time(child: Child) -> io::Result<f64> {
-    // The first four numbers of Linux's `rusage` are seconds and microseconds of user and of system time.
     let (mut status, mut usage) = (0, [0; 18]);
     match unsafe { wait4(child.id() as i32, &mut status, 0, &mut usage) } {
         -1 => Err(io::Error::last_os_error()),
         _ if status != 0 => Err(io::Error::other("the program failed")),
-        _ => Ok((usage[0] + usage[2]) as f64 + (usage[1] + usage[3]) as f64 / 1e6),
+        _ => Ok(seconds(usage)),
     }
+}
+
+/// The seconds that this program has taken.
+fn own_time() -> f64 {
+    let mut usage = [0; 18];
+    unsafe { getrusage(0, &mut usage) };
+    seconds(usage)
 }
 
 /// A program of either side, the input with which it makes each call so many times, and what is wrong with its output.
@@ -106,14 +120,15 @@ fn keys() -> Vec<u8> {
     (0..32768).map(|_| 0x02 + rng.below(0x38) as u8).flat_map(|key| [key, key | 0x80]).collect()
 }
 
-/// Nanoseconds to enter a handler by an interrupt frame and to leave it.
-fn entering() -> f64 {
+/// Nanoseconds to enter a handler by an interrupt frame and to leave it, the median of the rounds.
+fn entering(rounds: usize) -> f64 {
     const TIMES: u32 = 1_000_000;
-    let start = Instant::now();
-    for _ in 0..TIMES {
-        interrupts::raise_nothing();
-    }
-    start.elapsed().as_secs_f64() * 1e9 / TIMES as f64
+    let round = |_| {
+        let start = own_time();
+        (0..TIMES).for_each(|_| interrupts::raise_nothing());
+        (own_time() - start) * 1e9 / TIMES as f64
+    };
+    median(&mut (0..rounds).map(round).collect::<Vec<f64>>())
 }
 
 /// Packed calls, for the port's program.
@@ -197,6 +212,6 @@ pub fn bench(port: &str, tablekeys: &str, rounds: usize) -> io::Result<ExitCode>
         Ok(_) => println!("{name:<44} not measured: the two sides write different lines"),
         Err(why) => println!("{name:<44} not measured: {why}"),
     }
-    println!("Of the Rust's handler rows {:.1} ns are the way in and out by an interrupt frame.", entering());
+    println!("Of the Rust's handler rows {:.1} ns are the way in and out by an interrupt frame.", entering(rounds));
     Ok(ExitCode::SUCCESS)
 }
