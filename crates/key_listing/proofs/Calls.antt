@@ -13,17 +13,17 @@ use Rattle.exchange.specs.Exchange.{bind, play}
 use Rattle.exchange.specs.Parts.{part}
 use Rattle.exchange.proofs.Kept.{used-le}
 use Rattle.exchange.proofs.Parts.{part-drop}
-use Rattle.keyboard.specs.declared.HandlerAnswer.{HandlerAnswer}
-use Rattle.keyboard.specs.declared.KeyboardHandler.{KeyboardHandler}
-use Rattle.keyboard.specs.declared.TakenEvent.{TakenEvent}
-use Rattle.keyboard.specs.Answers.{ends2-3-21}
-use Rattle.keyboard.specs.FlagTable.{isLockPress}
-use Rattle.keyboard.specs.Handler.{isSilent, lampExchange, onByte, handle, handled}
-use Rattle.keyboard.specs.KeyboardLamps.{keyboardLamps}
-use Rattle.keyboard.specs.Record.{wellFormed}
-use Rattle.keyboard.specs.Taking.{taken}
-use Rattle.keyboard.proofs.Refused.{malformed-handled}
-use Rattle.keyboard.proofs.Tests.{which}
+use Rattle.keyboard_rule.specs.declared.HandlerAnswer.{HandlerAnswer}
+use Rattle.keyboard_rule.specs.declared.KeyboardHandler.{KeyboardHandler}
+use Rattle.keyboard_rule.specs.declared.TakenEvent.{TakenEvent}
+use Rattle.keyboard_rule.specs.Answers.{ends2-3-21}
+use Rattle.keyboard_rule.specs.FlagTable.{isLockPress}
+use Rattle.keyboard_rule.specs.Handler.{isSilent, lampExchange, onByte, handle, handled}
+use Rattle.keyboard_rule.specs.KeyboardLamps.{keyboardLamps}
+use Rattle.keyboard_rule.specs.Record.{wellFormed}
+use Rattle.keyboard_rule.specs.Taking.{taken}
+use Rattle.keyboard_rule.proofs.Refused.{malformed-handled}
+use Rattle.keyboard_rule.proofs.Tests.{which}
 use Rattle.key_listing.specs.Buffer.{Place, put}
 use Rattle.key_listing.specs.Lines.{takenLine, refusalLine}
 use Rattle.key_listing.specs.Listing.{callOn, callText, recordAfter, callsText, listingFrom}

@@ -12,16 +12,16 @@ use Rattle.keycodes_ascii.specs.declared.Character.{Character}
 use Rattle.keycodes_ascii.specs.declared.KeyAction.{KeyAction}
 use Rattle.keycodes_ascii.specs.declared.KeyEvent.{KeyEvent}
 use Rattle.keycodes_ascii.specs.Characters.{characterOf}
-use Rattle.keyboard.specs.declared.HandlerAnswer.{HandlerAnswer}
-use Rattle.keyboard.specs.declared.KeyboardHandler.{KeyboardHandler}
-use Rattle.keyboard.specs.declared.TakenEvent.{TakenEvent}
-use Rattle.keyboard.specs.Answers.{ends2-3-21}
-use Rattle.keyboard.specs.Events.{eventOf}
-use Rattle.keyboard.specs.Past.{Past, nothing, _▸_}
-use Rattle.keyboard.specs.Said.{flagsSaid}
-use Rattle.keyboard.specs.Taking.{taken}
-use Rattle.keyboard.proofs.AsSaid.{as-fresh, as-well}
-use Rattle.keyboard.proofs.Ways.{As}
+use Rattle.keyboard_rule.specs.declared.HandlerAnswer.{HandlerAnswer}
+use Rattle.keyboard_rule.specs.declared.KeyboardHandler.{KeyboardHandler}
+use Rattle.keyboard_rule.specs.declared.TakenEvent.{TakenEvent}
+use Rattle.keyboard_rule.specs.Answers.{ends2-3-21}
+use Rattle.keyboard_rule.specs.Events.{eventOf}
+use Rattle.keyboard_rule.specs.Past.{Past, nothing, _▸_}
+use Rattle.keyboard_rule.specs.Said.{flagsSaid}
+use Rattle.keyboard_rule.specs.Taking.{taken}
+use Rattle.keyboard_rule.proofs.AsSaid.{as-fresh, as-well}
+use Rattle.keyboard_rule.proofs.Ways.{As}
 use Rattle.key_listing.specs.Text.{digits, decimal}
 use Rattle.key_listing.specs.Lines.{actionText, characterText, eventLine, takenLine, refusalLine}
 use Rattle.key_listing.specs.Listing.{scriptLimit, callOn, recordAfter, callsText, listing}

@@ -10,27 +10,27 @@ use lib.ListN.{replicate}
 use Rattle.exchange.specs.Exchange.{End, play}
 use Rattle.exchange.proofs.Bounds.{within-room}
 use Rattle.keycodes_ascii.specs.declared.KeyEvent.{KeyEvent}
-use Rattle.keyboard.specs.declared.HandlerAnswer.{HandlerAnswer}
-use Rattle.keyboard.specs.declared.KeyboardHandler.{KeyboardHandler}
-use Rattle.keyboard.specs.declared.TakenEvent.{TakenEvent}
-use Rattle.keyboard.specs.Counted.{count, ranOut, scancode, scancodeAfter}
-use Rattle.keyboard.specs.Events.{eventOf}
-use Rattle.keyboard.specs.FlagTable.{isLockPress}
-use Rattle.keyboard.specs.FlagsAfter.{flagsThen}
-use Rattle.keyboard.specs.Handler.{Outcome, isSilent, queued, handled, endOutcome}
-use Rattle.keyboard.specs.KeyboardLamps.{keyboardLamps}
-use Rattle.keyboard.specs.Lamps.{lampsLit}
-use Rattle.keyboard.specs.Past.{Past, _▸_}
-use Rattle.keyboard.specs.Row.{lessMet, givenTo, eventOfCall, first, rest, newly}
-use Rattle.keyboard.specs.Said.{flagsSaid, gives, eventGiven}
-use Rattle.keyboard.specs.Taking.{taken}
-use Rattle.keyboard.proofs.AsSaid.{as-well, as-length, as-taken, as-handled, scanned-said}
-use Rattle.keyboard.proofs.Courses.{course}
-use Rattle.keyboard.proofs.KeyboardHistory.{within-keyboard-handle}
-use Rattle.keyboard.proofs.Queued.{queued-way}
-use Rattle.keyboard.proofs.Row.{given-none, given-one}
-use Rattle.keyboard.proofs.Silent.{silent-gives, key-gives}
-use Rattle.keyboard.proofs.Ways.{As, Queued, is-unknown, is-full, is-queued, Course, malformed, no-script, no-log, at-silent, at-key, endOf}
+use Rattle.keyboard_rule.specs.declared.HandlerAnswer.{HandlerAnswer}
+use Rattle.keyboard_rule.specs.declared.KeyboardHandler.{KeyboardHandler}
+use Rattle.keyboard_rule.specs.declared.TakenEvent.{TakenEvent}
+use Rattle.keyboard_rule.specs.Counted.{count, ranOut, scancode, scancodeAfter}
+use Rattle.keyboard_rule.specs.Events.{eventOf}
+use Rattle.keyboard_rule.specs.FlagTable.{isLockPress}
+use Rattle.keyboard_rule.specs.FlagsAfter.{flagsThen}
+use Rattle.keyboard_rule.specs.Handler.{Outcome, isSilent, queued, handled, endOutcome}
+use Rattle.keyboard_rule.specs.KeyboardLamps.{keyboardLamps}
+use Rattle.keyboard_rule.specs.Lamps.{lampsLit}
+use Rattle.keyboard_rule.specs.Past.{Past, _▸_}
+use Rattle.keyboard_rule.specs.Row.{lessMet, givenTo, eventOfCall, first, rest, newly}
+use Rattle.keyboard_rule.specs.Said.{flagsSaid, gives, eventGiven}
+use Rattle.keyboard_rule.specs.Taking.{taken}
+use Rattle.keyboard_rule.proofs.AsSaid.{as-well, as-length, as-taken, as-handled, scanned-said}
+use Rattle.keyboard_rule.proofs.Courses.{course}
+use Rattle.keyboard_rule.proofs.KeyboardHistory.{within-keyboard-handle}
+use Rattle.keyboard_rule.proofs.Queued.{queued-way}
+use Rattle.keyboard_rule.proofs.Row.{given-none, given-one}
+use Rattle.keyboard_rule.proofs.Silent.{silent-gives, key-gives}
+use Rattle.keyboard_rule.proofs.Ways.{As, Queued, is-unknown, is-full, is-queued, Course, malformed, no-script, no-log, at-silent, at-key, endOf}
 use Rattle.key_listing.specs.Listing.{callOn, recordAfter}
 
 -- the ends of such a call, with what the taking after it brings

@@ -13,14 +13,14 @@ use Rattle.keycodes_ascii.specs.Characters.{characterOf}
 use Rattle.ps2_polling.specs.Polling.{sendTry, pollingSend, poll, pollingReceive, pollingSendReceive}
 use Rattle.ps2_command.specs.Command.{attempt, command}
 use Rattle.ps2_keyboard.specs.Keyboard.{commandToKeyboard, setLedBy, setKeyboardLed}
-use Rattle.keyboard.specs.Events.{keycodeAt, eventOf}
-use Rattle.keyboard.specs.FlagTable.{flagTable, flagLimit, isOf, pressesLock}
-use Rattle.keyboard.specs.FlagsAfter.{flagsAfter, flagsThen}
-use Rattle.keyboard.specs.Handler.{queued, lampExchange, onByte, handle, handled}
-use Rattle.keyboard.specs.Lamps.{lampsLit}
-use Rattle.keyboard.specs.Queue.{pushed, withoutOldest}
-use Rattle.keyboard.specs.Record.{wellFormed}
-use Rattle.keyboard.specs.Taking.{taken}
+use Rattle.keyboard_rule.specs.Events.{keycodeAt, eventOf}
+use Rattle.keyboard_rule.specs.FlagTable.{flagTable, flagLimit, isOf, pressesLock}
+use Rattle.keyboard_rule.specs.FlagsAfter.{flagsAfter, flagsThen}
+use Rattle.keyboard_rule.specs.Handler.{queued, lampExchange, onByte, handle, handled}
+use Rattle.keyboard_rule.specs.Lamps.{lampsLit}
+use Rattle.keyboard_rule.specs.Queue.{pushed, withoutOldest}
+use Rattle.keyboard_rule.specs.Record.{wellFormed}
+use Rattle.keyboard_rule.specs.Taking.{taken}
 use Rattle.key_listing.specs.Text.{ascii, decimal}
 use Rattle.key_listing.specs.Lines.{eventLine, refusalLine}
 use Rattle.key_listing.specs.Listing.{callText, recordAfter, callsText, listing}

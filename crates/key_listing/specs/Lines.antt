@@ -9,9 +9,9 @@ use Rattle.keycodes_ascii.specs.declared.KeyAction.{KeyAction}
 use Rattle.keycodes_ascii.specs.declared.KeyEvent.{KeyEvent}
 use Rattle.keycodes_ascii.specs.Keycode.{numberOf}
 use Rattle.keycodes_ascii.specs.Characters.{characterOf}
-use Rattle.keyboard.specs.declared.HandlerAnswer.{HandlerAnswer}
-use Rattle.keyboard.specs.declared.TakenEvent.{TakenEvent}
-use Rattle.keyboard.specs.Answers.{answerNumber}
+use Rattle.keyboard_rule.specs.declared.HandlerAnswer.{HandlerAnswer}
+use Rattle.keyboard_rule.specs.declared.TakenEvent.{TakenEvent}
+use Rattle.keyboard_rule.specs.Answers.{answerNumber}
 use Rattle.key_listing.specs.Text.{ascii, digits, decimal}
 
 -- "P or R".

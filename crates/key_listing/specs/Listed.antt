@@ -5,12 +5,12 @@ use mathlib.Core.List.{List, [], _∷_, _++_}
 use mathlib.Core.Path.{_≡_}
 use Prim.Native.Nat.{ℕ}
 use lib.ListN.{drop}
-use Rattle.keyboard.specs.declared.HandlerAnswer.{HandlerAnswer}
-use Rattle.keyboard.specs.Events.{eventOf}
-use Rattle.keyboard.specs.FlagTable.{isLockPress}
-use Rattle.keyboard.specs.Handler.{isSilent}
-use Rattle.keyboard.specs.Past.{Past, _▸_}
-use Rattle.keyboard.specs.Said.{flagsSaid, gives}
+use Rattle.keyboard_rule.specs.declared.HandlerAnswer.{HandlerAnswer}
+use Rattle.keyboard_rule.specs.Events.{eventOf}
+use Rattle.keyboard_rule.specs.FlagTable.{isLockPress}
+use Rattle.keyboard_rule.specs.Handler.{isSilent}
+use Rattle.keyboard_rule.specs.Past.{Past, _▸_}
+use Rattle.keyboard_rule.specs.Said.{flagsSaid, gives}
 use Rattle.key_listing.specs.Lines.{eventLine, refusalLine}
 
 -- What is left of a script behind the byte b: all of it, but for the bytes that the lamp exchange of a lock read, of whose number nothing is said here.

@@ -4,13 +4,13 @@ use mathlib.Core.Bool.{cond}
 use mathlib.Core.List.{List, [], _∷_, _++_}
 use Prim.Native.Nat.{ℕ, zero, suc}
 use lib.ListN.{length, take, drop, replicate}
-use Rattle.keyboard.specs.declared.Handled.{Handled}
-use Rattle.keyboard.specs.declared.KeyboardHandler.{KeyboardHandler}
-use Rattle.keyboard.specs.Answers.{ends2-3-21}
-use Rattle.keyboard.specs.Handler.{handled}
-use Rattle.keyboard.specs.KeyboardLamps.{keyboardLamps}
-use Rattle.keyboard.specs.Record.{fresh}
-use Rattle.keyboard.specs.Taking.{taken}
+use Rattle.keyboard_rule.specs.declared.Handled.{Handled}
+use Rattle.keyboard_rule.specs.declared.KeyboardHandler.{KeyboardHandler}
+use Rattle.keyboard_rule.specs.Answers.{ends2-3-21}
+use Rattle.keyboard_rule.specs.Handler.{handled}
+use Rattle.keyboard_rule.specs.KeyboardLamps.{keyboardLamps}
+use Rattle.keyboard_rule.specs.Record.{fresh}
+use Rattle.keyboard_rule.specs.Taking.{taken}
 use Rattle.key_listing.specs.Lines.{takenLine, refusalLine}
 
 -- "Reads the first 65,536 script bytes from standard input and ignores more."

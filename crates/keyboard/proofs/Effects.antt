@@ -9,19 +9,19 @@ use native.Mathlib.Omega.{arith}
 use Rattle.exchange.specs.Exchange.{Exchange}
 use Rattle.exchange.specs.Answer.{Answer}
 use Rattle.keyboard.specs.declared.Effect.{Effect}
-use Rattle.keyboard.specs.declared.EventQueue.{EventQueue}
-use Rattle.keyboard.specs.declared.Handled.{Handled}
-use Rattle.keyboard.specs.declared.KeyboardHandler.{KeyboardHandler}
+use Rattle.keyboard_rule.specs.declared.EventQueue.{EventQueue}
+use Rattle.keyboard_rule.specs.declared.Handled.{Handled}
+use Rattle.keyboard_rule.specs.declared.KeyboardHandler.{KeyboardHandler}
 use Rattle.keyboard.specs.declared.NewEvent.{NewEvent}
 use Rattle.keycodes_ascii.specs.declared.KeyEvent.{KeyEvent}
-use Rattle.keyboard.specs.Queue.{pushed}
-use Rattle.keyboard.specs.Record.{wellFormed}
-use Rattle.keyboard.specs.Handler.{handled}
-use Rattle.keyboard.specs.Outcomes.{handledWith}
-use Rattle.keyboard.proofs.Outcomes.{call-back, malformed-call}
-use Rattle.keyboard.proofs.Tests.{which}
-use Rattle.keyboard.proofs.Ways.{WellFormed}
-use Rattle.keyboard.proofs.WellFormed.{well-is}
+use Rattle.keyboard_rule.specs.Queue.{pushed}
+use Rattle.keyboard_rule.specs.Record.{wellFormed}
+use Rattle.keyboard_rule.specs.Handler.{handled}
+use Rattle.keyboard.specs.Effects.{handledWith}
+use Rattle.keyboard_rule.proofs.Outcomes.{call-back, malformed-call}
+use Rattle.keyboard_rule.proofs.Tests.{which}
+use Rattle.keyboard_rule.proofs.Ways.{WellFormed}
+use Rattle.keyboard_rule.proofs.WellFormed.{well-is}
 
 -- an effect with this event in the place of its own
 abbrev effectOf : Effect → NewEvent → Effect

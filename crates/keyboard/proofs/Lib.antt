@@ -1,25 +1,2 @@
--- Laws of the queue, of the flags and of the handler's meaning, and the history rule.
-pub mod Tests
-pub mod Ways
-pub mod Ring
-pub mod Row
-pub mod Flags
-pub mod Silent
-pub mod Untouched
-pub mod Keycodes
-pub mod Queued
-pub mod Taking
-pub mod Courses
-pub mod WellFormed
-pub mod Outcomes
+-- What the code's calls come to; the other laws that the proofs cite are in crates/keyboard_rule.
 pub mod Effects
-pub mod LampBits
-pub mod Counted
-pub mod Refused
-pub mod Bounds
-pub mod AsSaid
-pub mod History
-pub mod KeyboardHistory
-pub mod Meaning
-pub mod Witness
-pub mod Worked

@@ -1,18 +1,26 @@
-// The keyboard handler's record, its queue of events, and what its calls answer: Theseus's `keyboard`.
+// The code of the handler call and of the taking from the queue: Theseus's `keyboard`.
 ghost use mathlib.Core.Bool.{true};
 ghost use mathlib.Core.Path.{_≡_};
-ghost use Rattle.keyboard.specs.Strokes.{stroke, isPrefix, lowPart};
-ghost use Rattle.keyboard.specs.FlagTable.{flagTable, isLockPress};
-ghost use Rattle.keyboard.specs.FlagsAfter.{flagsAfter};
-ghost use Rattle.keyboard.specs.Lamps.{lampsLit};
-ghost use Rattle.keyboard.specs.KeyboardLamps.{keyboardLamps};
-ghost use Rattle.keyboard.specs.Events.{keycodeAt, eventOf};
-ghost use Rattle.keyboard.specs.Record.{fresh, wellFormed};
-ghost use Rattle.keyboard.specs.Taking.{taken};
-ghost use Rattle.keyboard.specs.Handler.{isSilent, queued, onByte, handled, logLeft};
-ghost use Rattle.keyboard.specs.Outcomes.{handledWith, handledOf, handledBy, onKey};
+ghost use Rattle.keyboard_rule.specs.Strokes.{stroke, isPrefix, lowPart};
+ghost use Rattle.keyboard_rule.specs.FlagTable.{flagTable, isLockPress};
+ghost use Rattle.keyboard_rule.specs.FlagsAfter.{flagsAfter};
+ghost use Rattle.keyboard_rule.specs.Lamps.{lampsLit};
+ghost use Rattle.keyboard_rule.specs.KeyboardLamps.{keyboardLamps};
+ghost use Rattle.keyboard_rule.specs.Events.{keycodeAt, eventOf};
+ghost use Rattle.keyboard_rule.specs.Record.{wellFormed};
+ghost use Rattle.keyboard_rule.specs.Taking.{taken};
+ghost use Rattle.keyboard_rule.specs.Handler.{isSilent, queued, onByte, handled, logLeft};
+ghost use Rattle.keyboard_rule.specs.Outcomes.{handledOf, handledBy, onKey};
+ghost use Rattle.keyboard.specs.Effects.{handledWith};
 ghost use Rattle.exchange.specs.Exchange.{play};
 use keyboard_modifiers::KeyboardModifiers;
+use keyboard_rule::EventQueue;
+use keyboard_rule::Handled;
+use keyboard_rule::HandlerAnswer;
+use keyboard_rule::KeyboardHandler;
+use keyboard_rule::KeyboardState;
+use keyboard_rule::Taken;
+use keyboard_rule::TakenEvent;
 use keycodes_ascii::FoundKeycode;
 use keycodes_ascii::KEY_RELEASED_OFFSET;
 use keycodes_ascii::KeyAction;
@@ -31,45 +39,6 @@ const QUEUE_LENGTH: usize = 128;
 // The flags are the bits below this one.
 const FLAG_LIMIT: u16 = 1 << 10;
 
-// What the handler remembers of one keyboard: whether the last byte was a prefix, the keys that are held and the locks that are on.
-pub struct KeyboardState {
-    pub prefix: bool,
-    pub modifiers: KeyboardModifiers,
-}
-
-// The events that wait, in a ring: the oldest is at `start`, and `count` of them follow each other round the end.
-// The places stand last, where no padding touches them: a copy of the record is then not made in two parts.
-pub struct EventQueue {
-    pub start: usize,
-    pub count: usize,
-    pub places: [KeyEvent; 128],
-}
-
-// The handler record.
-pub struct KeyboardHandler {
-    pub keyboard: KeyboardState,
-    pub queue: EventQueue,
-}
-
-// How a handler call ends: done, or with the refusal that document 01 numbers 2, 3, 19, 20 or 21.
-pub enum HandlerAnswer {
-    Done,
-    NoScriptByte,
-    NoLogRoom,
-    UnknownScancode,
-    QueueFull,
-    MalformedRecord,
-}
-
-// What a handler call gives back. A lamp exchange that failed, document 01's 14, is shown beside the answer.
-pub struct Handled {
-    pub answer: HandlerAnswer,
-    pub lamps_failed: bool,
-    pub used: usize,
-    pub pairs: usize,
-    pub handler: KeyboardHandler,
-}
-
 // The event that a call puts into the queue, if any.
 enum NewEvent {
     Event(KeyEvent),
@@ -84,43 +53,6 @@ struct Effect {
     pairs: usize,
     keyboard: KeyboardState,
     event: NewEvent,
-}
-
-// What a taking from the queue answers: the oldest event, none, or the refusal that document 01 numbers 21.
-pub enum TakenEvent {
-    Event(KeyEvent),
-    Nothing,
-    MalformedRecord,
-}
-
-// What a taking gives back.
-pub struct Taken {
-    pub event: TakenEvent,
-    pub handler: KeyboardHandler,
-}
-
-impl KeyboardHandler {
-    // A fresh record: no prefix, no flag, an empty queue.
-    pub fn fresh() -> KeyboardHandler
-        ensures { λ r. ⌜ r ≡ fresh ⌝ }
-    {
-        let empty = KeyEvent {
-            keycode: Keycode::OverflowError,
-            action: KeyAction::Pressed,
-            modifiers: KeyboardModifiers { bits: 0 },
-        };
-        KeyboardHandler {
-            keyboard: KeyboardState {
-                prefix: false,
-                modifiers: KeyboardModifiers { bits: 0 },
-            },
-            queue: EventQueue {
-                start: 0,
-                count: 0,
-                places: [empty; 128],
-            },
-        }
-    }
 }
 
 // Whether a record has no flag above bit 9, and a start and a count that the queue's places allow.

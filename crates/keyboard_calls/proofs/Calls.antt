@@ -5,10 +5,10 @@ use mathlib.Core.List.{List}
 use native.Mathlib.Numerals.{add-one}
 use native.Mathlib.Omega.{arith}
 use Prim.Native.Nat.{ℕ, _+_, _≤_}
-use Rattle.keyboard.specs.declared.KeyboardHandler.{KeyboardHandler}
-use Rattle.keyboard.specs.KeyboardLamps.{keyboardLamps}
-use Rattle.keyboard.specs.Handler.{handled, logLeft}
-use Rattle.keyboard.specs.Record.{fresh}
+use Rattle.keyboard_rule.specs.declared.KeyboardHandler.{KeyboardHandler}
+use Rattle.keyboard_rule.specs.KeyboardLamps.{keyboardLamps}
+use Rattle.keyboard_rule.specs.Handler.{handled, logLeft}
+use Rattle.keyboard_rule.specs.Record.{fresh}
 use Rattle.keyboard_calls.specs.Calls.{Left, left, oneMore, called}
 
 pub none-called : (script log : List ℕ) {h : KeyboardHandler} → h ≡ fresh → left h log ≡ called 0 script (left fresh log)

@@ -2,9 +2,9 @@
 -- Assumes nothing.
 use mathlib.Core.List.{List}
 use Prim.Native.Nat.{ℕ, zero, suc}
-use Rattle.keyboard.specs.declared.KeyboardHandler.{KeyboardHandler}
-use Rattle.keyboard.specs.KeyboardLamps.{keyboardLamps}
-use Rattle.keyboard.specs.Handler.{handled, logLeft}
+use Rattle.keyboard_rule.specs.declared.KeyboardHandler.{KeyboardHandler}
+use Rattle.keyboard_rule.specs.KeyboardLamps.{keyboardLamps}
+use Rattle.keyboard_rule.specs.Handler.{handled, logLeft}
 
 -- What a call leaves: the record and the log.
 pub record Left : Type 0 where

@@ -1,11 +1,11 @@
 // Handler calls in place, one after another, for a program in Rust to link: `beside/bench` measures them.
 ghost use mathlib.Core.Path.{_≡_};
-ghost use Rattle.keyboard.specs.KeyboardLamps.{keyboardLamps};
-ghost use Rattle.keyboard.specs.Handler.{handled, logLeft};
-ghost use Rattle.keyboard.specs.Record.{fresh};
+ghost use Rattle.keyboard_rule.specs.KeyboardLamps.{keyboardLamps};
+ghost use Rattle.keyboard_rule.specs.Handler.{handled, logLeft};
+ghost use Rattle.keyboard_rule.specs.Record.{fresh};
 ghost use Rattle.keyboard_calls.specs.Calls.{left, called};
-use keyboard::KeyboardHandler;
 use keyboard_in_place::handle_in_place;
+use keyboard_rule::KeyboardHandler;
 
 // A handler call in place, on a record that this function holds.
 fn call_in_place(mut handler: KeyboardHandler, script: &[u8], log: &mut [u8]) -> KeyboardHandler

@@ -4,11 +4,11 @@ use mathlib.Core.Path.{_≡_, _∙_}
 use mathlib.Core.Bool.{true}
 use mathlib.Core.List.{List}
 use Prim.Native.Nat.{ℕ}
-use Rattle.keyboard.specs.declared.KeyboardHandler.{KeyboardHandler}
-use Rattle.keyboard.specs.Answers.{ends2-3-21}
-use Rattle.keyboard.specs.KeyboardLamps.{keyboardLamps}
-use Rattle.keyboard.specs.Handler.{handled}
-use Rattle.keyboard.proofs.Refused.{left-as-passed}
+use Rattle.keyboard_rule.specs.declared.KeyboardHandler.{KeyboardHandler}
+use Rattle.keyboard_rule.specs.Answers.{ends2-3-21}
+use Rattle.keyboard_rule.specs.KeyboardLamps.{keyboardLamps}
+use Rattle.keyboard_rule.specs.Handler.{handled}
+use Rattle.keyboard_rule.proofs.Refused.{left-as-passed}
 use Rattle.keyboard_in_place.specs.declared.HandledInPlace.{HandledInPlace}
 use Rattle.keyboard_in_place.specs.InPlace.{inPlace}
 

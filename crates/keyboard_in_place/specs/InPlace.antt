@@ -1,6 +1,6 @@
 -- What the handler call in place gives back.
 -- Assumes nothing.
-use Rattle.keyboard.specs.declared.Handled.{Handled}
+use Rattle.keyboard_rule.specs.declared.Handled.{Handled}
 use Rattle.keyboard_in_place.specs.declared.HandledInPlace.{HandledInPlace}
 
 -- All that the by-value call gives back but the record.

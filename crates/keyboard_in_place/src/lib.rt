@@ -1,11 +1,11 @@
 // The handler call on a record that lies behind a reference: it stores what the by-value call returns.
 ghost use mathlib.Core.Path.{_≡_};
-ghost use Rattle.keyboard.specs.KeyboardLamps.{keyboardLamps};
-ghost use Rattle.keyboard.specs.Handler.{handled, logLeft};
+ghost use Rattle.keyboard_rule.specs.KeyboardLamps.{keyboardLamps};
+ghost use Rattle.keyboard_rule.specs.Handler.{handled, logLeft};
 ghost use Rattle.keyboard_in_place.specs.InPlace.{inPlace};
-use keyboard::HandlerAnswer;
-use keyboard::KeyboardHandler;
 use keyboard::handle;
+use keyboard_rule::HandlerAnswer;
+use keyboard_rule::KeyboardHandler;
 
 // What the call gives back beside the record, which it changes in place.
 pub struct HandledInPlace {

@@ -16,13 +16,13 @@ use Rattle.ps2_command.specs.Command.{attempt, command, commandToPort2}
 use Rattle.ps2_keyboard.specs.Keyboard.{commandToKeyboard, setLedBy, setKeyboardLed}
 use Rattle.ps2_mouse.specs.Mouse.{commandToMouse}
 use Rattle.ps2_packet_reading.specs.Reading.{readMousePacket}
-use Rattle.keyboard.specs.Events.{keycodeAt, eventOf}
-use Rattle.keyboard.specs.FlagTable.{flagTable, flagLimit, isOf, pressesLock}
-use Rattle.keyboard.specs.FlagsAfter.{flagsAfter, flagsThen}
-use Rattle.keyboard.specs.Handler.{queued, lampExchange, onByte, handle, handled, logLeft}
-use Rattle.keyboard.specs.Lamps.{lampsLit}
-use Rattle.keyboard.specs.Queue.{round, pushed}
-use Rattle.keyboard.specs.Record.{wellFormed}
+use Rattle.keyboard_rule.specs.Events.{keycodeAt, eventOf}
+use Rattle.keyboard_rule.specs.FlagTable.{flagTable, flagLimit, isOf, pressesLock}
+use Rattle.keyboard_rule.specs.FlagsAfter.{flagsAfter, flagsThen}
+use Rattle.keyboard_rule.specs.Handler.{queued, lampExchange, onByte, handle, handled, logLeft}
+use Rattle.keyboard_rule.specs.Lamps.{lampsLit}
+use Rattle.keyboard_rule.specs.Queue.{round, pushed}
+use Rattle.keyboard_rule.specs.Record.{wellFormed}
 use Rattle.worked.specs.Holds.{All, all, _&_, RowHolds}
 use Rattle.worked.specs.Table.{table}
 

@@ -16,13 +16,13 @@ use Rattle.ps2_bytes.specs.declared.response.MouseId.the-variants.{Zero}
 use Rattle.ps2_packet.specs.Packet.{common, xMovement, wheel}
 use Rattle.ps2_mouse.specs.Mouse.{mouseCommand}
 use Rattle.ps2_packet_reading.specs.Reading.{readMousePacket}
-use Rattle.keyboard.specs.declared.Handled.{Handled}
-use Rattle.keyboard.specs.declared.KeyboardHandler.{KeyboardHandler}
-use Rattle.keyboard.specs.Answers.{answerNumber}
-use Rattle.keyboard.specs.Handler.{handled, logLeft}
-use Rattle.keyboard.specs.KeyboardLamps.{keyboardLamps}
-use Rattle.keyboard.specs.Queue.{waiting}
-use Rattle.keyboard.specs.Record.{fresh}
+use Rattle.keyboard_rule.specs.declared.Handled.{Handled}
+use Rattle.keyboard_rule.specs.declared.KeyboardHandler.{KeyboardHandler}
+use Rattle.keyboard_rule.specs.Answers.{answerNumber}
+use Rattle.keyboard_rule.specs.Handler.{handled, logLeft}
+use Rattle.keyboard_rule.specs.KeyboardLamps.{keyboardLamps}
+use Rattle.keyboard_rule.specs.Queue.{waiting}
+use Rattle.keyboard_rule.specs.Record.{fresh}
 use Rattle.worked.specs.Positions.{Seen, event, writes, noEvent, flags, refused, used, log, Position, scripts, xIs, wheelIs, character, mouseSends, Row, row}
 
 -- The word in which these flags are set, and no other.

@@ -2,10 +2,10 @@
 -- Assumes nothing.
 use borrow.Author.Needs.{needs}
 use mathlib.Core.Path.{sym, ap, _∙_}
-use Rattle.keyboard.specs.declared.Handled.{Handled}
-use Rattle.keyboard.specs.declared.Taken.{Taken}
-use Rattle.keyboard.specs.Answers.{ends2-3-21}
-use Rattle.keyboard.specs.Taking.{taken}
+use Rattle.keyboard_rule.specs.declared.Handled.{Handled}
+use Rattle.keyboard_rule.specs.declared.Taken.{Taken}
+use Rattle.keyboard_rule.specs.Answers.{ends2-3-21}
+use Rattle.keyboard_rule.specs.Taking.{taken}
 use Rattle.key_listing.specs.Listing.{recordAfter}
 use Rattle.key_listing.proofs.Buffer.{put-then}
 use Rattle.key_listing.proofs.Calls.{call-text}

@@ -3,7 +3,7 @@
 use borrow.Author.Needs.{needs}
 use mathlib.Core.Path.{_≡_, sym, _∙_}
 use borrow.Author.Tests.{ne-eqb}
-use Rattle.keyboard.specs.Answers.{answerNumber}
+use Rattle.keyboard_rule.specs.Answers.{answerNumber}
 use Rattle.key_listing.specs.Lines.{refusalLine}
 use Rattle.key_listing.proofs.Buffer.{put-none, put-then}
 use Rattle.key_listing.proofs.put_refusal.Statement.{statement}

@@ -7,9 +7,9 @@ use native.Mathlib.Omega.{arith}
 use borrow.Author.Tests.{not-true, not-false}
 use Rattle.exchange.proofs.Position.{reads-used-le}
 use Rattle.ps2_ports.specs.Ports.{saidByte}
-use Rattle.keyboard.specs.KeyboardLamps.{keyboardLamps}
-use Rattle.keyboard.specs.Record.{wellFormed}
-use Rattle.keyboard.proofs.Outcomes.{call-back, malformed-call, byte-used, byte-call, no-byte}
+use Rattle.keyboard_rule.specs.KeyboardLamps.{keyboardLamps}
+use Rattle.keyboard_rule.specs.Record.{wellFormed}
+use Rattle.keyboard_rule.proofs.Outcomes.{call-back, malformed-call, byte-used, byte-call, no-byte}
 use Rattle.keyboard.proofs.effect_of.Statement.{statement}
 use Rattle.keyboard.proofs.effect_of.Tie as tie
 

@@ -2,10 +2,10 @@
 -- Assumes nothing.
 use borrow.Author.Needs.{needs}
 use native.Mathlib.Omega.{arith}
-use Rattle.keyboard.specs.KeyboardLamps.{keyboardLamps}
-use Rattle.keyboard.specs.Queue.{pushed}
+use Rattle.keyboard_rule.specs.KeyboardLamps.{keyboardLamps}
+use Rattle.keyboard_rule.specs.Queue.{pushed}
 use Rattle.keyboard.proofs.Effects.{event-known, queued-well}
-use Rattle.keyboard.proofs.Ways.{WellFormed}
+use Rattle.keyboard_rule.proofs.Ways.{WellFormed}
 use Rattle.keyboard.proofs.handle.Statement.{statement}
 use Rattle.keyboard.proofs.handle.Tie as tie
 

@@ -2,8 +2,8 @@
 -- Assumes nothing.
 use mathlib.Core.Path.{sym}
 use native.Mathlib.Omega.{arith}
-use Rattle.keyboard.specs.FlagTable.{flagTable, isOf, pressesLock}
-use Rattle.keyboard.proofs.Untouched.{no-lock}
+use Rattle.keyboard_rule.specs.FlagTable.{flagTable, isOf, pressesLock}
+use Rattle.keyboard_rule.proofs.Untouched.{no-lock}
 use Rattle.keyboard.proofs.is_lock_press.Statement.{statement}
 use Rattle.keyboard.proofs.is_lock_press.Tie as tie
 

@@ -1,8 +1,8 @@
 -- `keyboard::leds` meets its contract: each lamp is put as its lock's flag is.
 -- Assumes nothing.
 use borrow.Author.Needs.{needs}
-use Rattle.keyboard.specs.Lamps.{lampsLit}
-use Rattle.keyboard.proofs.LampBits.{lamps-put}
+use Rattle.keyboard_rule.specs.Lamps.{lampsLit}
+use Rattle.keyboard_rule.proofs.LampBits.{lamps-put}
 use Rattle.keyboard.proofs.leds.Statement.{statement}
 use Rattle.keyboard.proofs.leds.Tie as tie
 

@@ -4,8 +4,8 @@ use borrow.Author.Needs.{needs}
 use mathlib.Core.Path.{refl, ap, _∙_}
 use Rattle.ps2_ports.specs.Refusals.{refused}
 use Rattle.ps2_command.specs.Command.{saidCommand}
-use Rattle.keyboard.specs.KeyboardLamps.{keyboardLamps}
-use Rattle.keyboard.proofs.Outcomes.{gives-back, lamps-answer, lamps-no-script, lamps-no-log}
+use Rattle.keyboard_rule.specs.KeyboardLamps.{keyboardLamps}
+use Rattle.keyboard_rule.proofs.Outcomes.{gives-back, lamps-answer, lamps-no-script, lamps-no-log}
 use Rattle.keyboard.proofs.lock_pressed.Statement.{statement}
 use Rattle.keyboard.proofs.lock_pressed.Tie as tie
 

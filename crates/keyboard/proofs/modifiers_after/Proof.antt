@@ -8,9 +8,9 @@ use mathlib.Core.Logic.{⊎-elim}
 use lib.Dec.{lit<}
 use Rattle.bits.specs.Bits.{bitwise, without}
 use Rattle.bits.proofs.Masks.{bitwise-set, bitwise-clear, bitwise-flip}
-use Rattle.keyboard.specs.FlagTable.{flagTable, isOf}
-use Rattle.keyboard.specs.FlagsAfter.{flagsAfter}
-use Rattle.keyboard.proofs.Untouched.{other-byte}
+use Rattle.keyboard_rule.specs.FlagTable.{flagTable, isOf}
+use Rattle.keyboard_rule.specs.FlagsAfter.{flagsAfter}
+use Rattle.keyboard_rule.proofs.Untouched.{other-byte}
 use Rattle.keyboard.proofs.modifiers_after.Statement.{statement}
 use Rattle.keyboard.proofs.modifiers_after.Tie as tie
 

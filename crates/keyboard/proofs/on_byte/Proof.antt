@@ -2,8 +2,8 @@
 -- Assumes nothing.
 use borrow.Author.Needs.{needs}
 use mathlib.Core.Path.{refl, sym, _∙_}
-use Rattle.keyboard.specs.KeyboardLamps.{keyboardLamps}
-use Rattle.keyboard.proofs.Outcomes.{gives-back, silent-byte, key-byte, no-lamps}
+use Rattle.keyboard_rule.specs.KeyboardLamps.{keyboardLamps}
+use Rattle.keyboard_rule.proofs.Outcomes.{gives-back, silent-byte, key-byte, no-lamps}
 use Rattle.keyboard.proofs.on_byte.Statement.{statement}
 use Rattle.keyboard.proofs.on_byte.Tie as tie
 

@@ -3,8 +3,8 @@
 use borrow.Author.Needs.{needs}
 use mathlib.Core.Path.{_≡_, refl, sym, ap, _∙_}
 use borrow.Author.Tests.{lt-ltb, le-ltb}
-use Rattle.keyboard.specs.Handler.{queued}
-use Rattle.keyboard.proofs.Keycodes.{known-low, known-keycode, unknown-low}
+use Rattle.keyboard_rule.specs.Handler.{queued}
+use Rattle.keyboard_rule.proofs.Keycodes.{known-low, known-keycode, unknown-low}
 use Rattle.keyboard.proofs.queue_event.Statement.{statement}
 use Rattle.keyboard.proofs.queue_event.Tie as tie
 

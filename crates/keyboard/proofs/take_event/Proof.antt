@@ -5,10 +5,10 @@ use native.Mathlib.Omega.{arith}
 use mathlib.Core.Path.{_≡_, refl, sym, _∙_}
 use mathlib.Core.Bool.{true}
 use borrow.Author.Tests.{eq-eqb, ne-eqb, not-true, not-false}
-use Rattle.keyboard.specs.Queue.{withoutOldest}
-use Rattle.keyboard.specs.Record.{wellFormed}
-use Rattle.keyboard.proofs.Taking.{taken-malformed, taken-none, taken-one}
-use Rattle.keyboard.proofs.WellFormed.{well-is}
+use Rattle.keyboard_rule.specs.Queue.{withoutOldest}
+use Rattle.keyboard_rule.specs.Record.{wellFormed}
+use Rattle.keyboard_rule.proofs.Taking.{taken-malformed, taken-none, taken-one}
+use Rattle.keyboard_rule.proofs.WellFormed.{well-is}
 use Rattle.keyboard.proofs.take_event.Statement.{statement}
 use Rattle.keyboard.proofs.take_event.Tie as tie
 

@@ -1,8 +1,8 @@
 -- `keyboard::well_formed` meets its contract: question 21, one part after another.
 -- Assumes nothing.
 use borrow.Author.Tests.{lt-ltb, le-ltb}
-use Rattle.keyboard.specs.FlagTable.{flagTable, flagLimit}
-use Rattle.keyboard.specs.Record.{wellFormed}
+use Rattle.keyboard_rule.specs.FlagTable.{flagTable, flagLimit}
+use Rattle.keyboard_rule.specs.Record.{wellFormed}
 use Rattle.keyboard.proofs.well_formed.Statement.{statement}
 use Rattle.keyboard.proofs.well_formed.Tie as tie
 

@@ -44,11 +44,11 @@ use denote.Triple.Spec.{Meets, tripleOf}
 use denote.Triple.Table.{entered, cited}
 use denote.Triple.Walked.{says, Stays, stay-none, stay-none-slice, gave-slice, walkOf, AllGo, goes-none, goes-none-slice, goes-gave-slice, Walks, ends-at, walked, walk-meets}
 use denote.Exit.{yes}
-use Rattle.keyboard.specs.declared.KeyboardHandler.{KeyboardHandler}
-use Rattle.keyboard.specs.KeyboardLamps.{keyboardLamps}
-use Rattle.keyboard.specs.Handler.{handled, logLeft}
-use Rattle.keyboard.proofs.KeyboardHandler as T
-use Rattle.keyboard.proofs.KeyboardHandler.Laws as T′
+use Rattle.keyboard_rule.specs.declared.KeyboardHandler.{KeyboardHandler}
+use Rattle.keyboard_rule.specs.KeyboardLamps.{keyboardLamps}
+use Rattle.keyboard_rule.specs.Handler.{handled, logLeft}
+use Rattle.keyboard_rule.proofs.KeyboardHandler as T
+use Rattle.keyboard_rule.proofs.KeyboardHandler.Laws as T′
 use Rattle.keyboard_in_place.specs.declared.HandledInPlace.{HandledInPlace}
 use Rattle.keyboard_in_place.specs.InPlace.{inPlace}
 use Rattle.keyboard_in_place.proofs.FieldOf.{field-of}

@@ -42,14 +42,14 @@ use denote.Triple.Spec.{Meets, tripleOf}
 use denote.Triple.Table.{entered, cited}
 use denote.Triple.Walked.{says, Stays, stay-ref, stay-none-slice, gave-slice, walkOf, AllGo, goes-ref, goes-none-slice, goes-gave-slice, Walks, ends-at, walked, walk-meets}
 use denote.Exit.{yes}
-use Rattle.keyboard.specs.declared.KeyboardHandler.{KeyboardHandler}
-use Rattle.keyboard.specs.declared.Handled.{Handled}
-use Rattle.keyboard.specs.KeyboardLamps.{keyboardLamps}
-use Rattle.keyboard.specs.Handler.{handled, logLeft}
-use Rattle.keyboard.proofs.KeyboardHandler as T
-use Rattle.keyboard.proofs.KeyboardHandler.Laws as T′
-use Rattle.keyboard.proofs.Handled as S
-use Rattle.keyboard.proofs.Handled.Laws as S′
+use Rattle.keyboard_rule.specs.declared.KeyboardHandler.{KeyboardHandler}
+use Rattle.keyboard_rule.specs.declared.Handled.{Handled}
+use Rattle.keyboard_rule.specs.KeyboardLamps.{keyboardLamps}
+use Rattle.keyboard_rule.specs.Handler.{handled, logLeft}
+use Rattle.keyboard_rule.proofs.KeyboardHandler as T
+use Rattle.keyboard_rule.proofs.KeyboardHandler.Laws as T′
+use Rattle.keyboard_rule.proofs.Handled as S
+use Rattle.keyboard_rule.proofs.Handled.Laws as S′
 use Rattle.keyboard.proofs.handle as handle
 use Rattle.keyboard.proofs.handle.Symbol as handle-def
 use Rattle.keyboard.proofs.handle.Symbol.{name as #keyboard·handle}

@@ -1,0 +1,83 @@
+// The keyboard handler's record, its queue of events, and what its calls answer: Theseus's `keyboard`. The code of the calls is in crates/keyboard.
+ghost use mathlib.Core.Path.{_≡_};
+ghost use Rattle.keyboard_rule.specs.Record.{fresh};
+use keyboard_modifiers::KeyboardModifiers;
+use keycodes_ascii::KeyAction;
+use keycodes_ascii::KeyEvent;
+use keycodes_ascii::Keycode;
+
+// What the handler remembers of one keyboard: whether the last byte was a prefix, the keys that are held and the locks that are on.
+pub struct KeyboardState {
+    pub prefix: bool,
+    pub modifiers: KeyboardModifiers,
+}
+
+// The events that wait, in a ring: the oldest is at `start`, and `count` of them follow each other round the end.
+// The places stand last, where no padding touches them: a copy of the record is then not made in two parts.
+pub struct EventQueue {
+    pub start: usize,
+    pub count: usize,
+    pub places: [KeyEvent; 128],
+}
+
+// The handler record.
+pub struct KeyboardHandler {
+    pub keyboard: KeyboardState,
+    pub queue: EventQueue,
+}
+
+// How a handler call ends: done, or with the refusal that document 01 numbers 2, 3, 19, 20 or 21.
+pub enum HandlerAnswer {
+    Done,
+    NoScriptByte,
+    NoLogRoom,
+    UnknownScancode,
+    QueueFull,
+    MalformedRecord,
+}
+
+// What a handler call gives back. A lamp exchange that failed, document 01's 14, is shown beside the answer.
+pub struct Handled {
+    pub answer: HandlerAnswer,
+    pub lamps_failed: bool,
+    pub used: usize,
+    pub pairs: usize,
+    pub handler: KeyboardHandler,
+}
+
+// What a taking from the queue answers: the oldest event, none, or the refusal that document 01 numbers 21.
+pub enum TakenEvent {
+    Event(KeyEvent),
+    Nothing,
+    MalformedRecord,
+}
+
+// What a taking gives back.
+pub struct Taken {
+    pub event: TakenEvent,
+    pub handler: KeyboardHandler,
+}
+
+impl KeyboardHandler {
+    // A fresh record: no prefix, no flag, an empty queue.
+    pub fn fresh() -> KeyboardHandler
+        ensures { λ r. ⌜ r ≡ fresh ⌝ }
+    {
+        let empty = KeyEvent {
+            keycode: Keycode::OverflowError,
+            action: KeyAction::Pressed,
+            modifiers: KeyboardModifiers { bits: 0 },
+        };
+        KeyboardHandler {
+            keyboard: KeyboardState {
+                prefix: false,
+                modifiers: KeyboardModifiers { bits: 0 },
+            },
+            queue: EventQueue {
+                start: 0,
+                count: 0,
+                places: [empty; 128],
+            },
+        }
+    }
+}
