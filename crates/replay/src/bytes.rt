@@ -31,15 +31,11 @@ fn wide(byte: u8) -> usize
     byte as usize
 }
 
-fn short_at(bytes: &[u8], at: usize) -> usize
+// The number of two bytes, the low one first.
+pub fn short_at(bytes: &[u8], at: usize) -> usize
     ensures { λ r. ⌜ r ≤ 65535 ⌝ }
 {
     wide(byte_at(bytes, at)) + 256 * wide(byte_at(bytes, plus(at, 1)))
-}
-
-// The number of four bytes, the low ones first.
-pub fn number_at(bytes: &[u8], at: usize) -> usize {
-    short_at(bytes, at) + 65536 * short_at(bytes, plus(at, 2))
 }
 
 // Puts a byte, and answers the place after it.

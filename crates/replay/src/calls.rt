@@ -316,7 +316,7 @@ fn packet_read(c: PacketRead) -> Outcome {
     }
 }
 
-// What an argument or a state tells. One that tells nothing is taken for another; `is_known` finds it by that, and a mouse's identity is 0 where it is not 3 or 4.
+// What an argument tells. One that tells nothing is taken for another, by which `is_known` finds it.
 
 fn set_of(number: u8) -> ScancodeSet {
     match ScancodeSet::from_byte(number) {
@@ -345,12 +345,11 @@ fn keyboard_command(byte: u8) -> HostToKeyboardCommand {
     }
 }
 
-// What an argument tells to send to the keyboard: for 16 a command, for 18 and 20 lamps, else a scancode set.
+// What an argument tells to send to the keyboard: for 8 a command, for 10 and 11 lamps, else a scancode set.
 fn keyboard_value(op: u8, argument: u8) -> HostToKeyboardCommandOrData {
     match op {
-        16 => HostToKeyboardCommandOrData::KeyboardCommand(keyboard_command(argument)),
-        18 => HostToKeyboardCommandOrData::LEDState(leds_of(argument)),
-        20 => HostToKeyboardCommandOrData::LEDState(leds_of(argument)),
+        8 => HostToKeyboardCommandOrData::KeyboardCommand(keyboard_command(argument)),
+        10..=11 => HostToKeyboardCommandOrData::LEDState(leds_of(argument)),
         _ => HostToKeyboardCommandOrData::ScancodeSet(set_of(argument)),
     }
 }
@@ -389,124 +388,97 @@ fn mouse_command(byte: u8) -> HostToMouseCommand {
     }
 }
 
-// What an argument tells to send to the mouse: for 32 a command, for 33 and 38 a rate, else a resolution.
+// What an argument tells to send to the mouse: for 12 a command, for 13 and 15 a rate, else a resolution.
 fn mouse_value(op: u8, argument: u8) -> HostToMouseCommandOrData {
     match op {
-        32 => HostToMouseCommandOrData::MouseCommand(mouse_command(argument)),
-        33 => HostToMouseCommandOrData::SampleRate(rate_of(argument)),
-        38 => HostToMouseCommandOrData::SampleRate(rate_of(argument)),
+        12 => HostToMouseCommandOrData::MouseCommand(mouse_command(argument)),
+        13 => HostToMouseCommandOrData::SampleRate(rate_of(argument)),
+        15 => HostToMouseCommandOrData::SampleRate(rate_of(argument)),
         _ => HostToMouseCommandOrData::MouseResolution(resolution_of(argument)),
     }
 }
 
-fn id_of(state: usize) -> MouseId {
+// A mouse of an identity; 0 where it is none.
+fn mouse_of(state: usize) -> PS2Mouse {
     match MouseId::from_byte((state % 256) as u8) {
-        MouseIdByte::Listed(id) => id,
-        MouseIdByte::Unlisted => MouseId::Zero,
+        MouseIdByte::Listed(id) => PS2Mouse { id },
+        MouseIdByte::Unlisted => PS2Mouse::new(),
     }
 }
 
-// Whether an operation can be made with an argument.
+// Whether an argument is one of those that an operation takes. The operations that take none have 0.
 fn is_known(op: u8, argument: u8) -> bool {
     match op {
-        7 => keyboard_value(op, argument).to_byte() == argument,
-        16..=18 => keyboard_value(op, argument).to_byte() == argument,
-        20..=21 => keyboard_value(op, argument).to_byte() == argument,
-        32..=34 => mouse_value(op, argument).to_byte() == argument,
-        38..=39 => mouse_value(op, argument).to_byte() == argument,
-        _ => is_operation(op),
+        12..=18 => mouse_value(op, argument).to_byte() == argument,
+        _ => keyboard_value(op, argument).to_byte() == argument,
     }
 }
 
-fn is_operation(op: u8) -> bool {
+// The operations that end with no value, 1 to 7.
+fn complete(op: u8, argument: u8, script: &[u8], log: &mut [u8]) -> Completed {
     match op {
-        1..=8 => true,
-        16..=23 => true,
-        32..=42 => true,
-        48 => true,
-        _ => false,
-    }
-}
-
-// The controller's operations that complete, without a value: 2 to 4, and 7.
-fn complete_controller(op: u8, argument: u8, script: &[u8], log: &mut [u8]) -> Completed {
-    match op {
-        2 => test(script, log),
-        3 => test_port1(script, log),
-        4 => test_port2(script, log),
-        _ => polling_send(
+        1 => test(script, log),
+        2 => test_port1(script, log),
+        3 => test_port2(script, log),
+        4 => polling_send(
             script,
             log,
             HostToDevice::Keyboard(keyboard_value(op, argument)),
         ),
+        5 => reset_keyboard(script, log),
+        6 => set_keyboard_scancode_set(script, log, set_of(argument)),
+        _ => PS2Mouse::reset(script, log),
     }
 }
 
-// The controller's operations, 1 to 8.
-fn call_controller(op: u8, argument: u8, state: usize, script: &[u8], log: &mut [u8]) -> Outcome {
+// The operations that are one command, 8 to 18.
+fn command(op: u8, argument: u8, script: &[u8], log: &mut [u8]) -> Commanded {
     match op {
-        1 => initialized(init(controller_of(state), script, log)),
-        5 => written(write_config(log, ControllerConfigurationByte::from_byte(argument))),
-        6 => config_read(read_config(script, log)),
-        8 => received(polling_receive(script)),
-        _ => completed(complete_controller(op, argument, script, log)),
+        8..=10 => command_to_keyboard(script, log, keyboard_value(op, argument)),
+        11 => set_keyboard_led(script, log, leds_of(argument)),
+        12..=14 => PS2Mouse::command_to_mouse(script, log, mouse_value(op, argument)),
+        15 => PS2Mouse::set_mouse_sampling_rate(script, log, rate_of(argument)),
+        16 => PS2Mouse::mouse_resolution(script, log, resolution_of(argument)),
+        17 => PS2Mouse::enable_mouse_packet_streaming(script, log),
+        _ => PS2Mouse::disable_mouse_packet_streaming(script, log),
     }
 }
 
-// The keyboard's operations that are one command: 16 to 18, and 20.
-fn command_keyboard(op: u8, argument: u8, script: &[u8], log: &mut [u8]) -> Commanded {
+// The configuration, which is the state, and the operations that ask for a value, 19 to 24.
+fn ask(op: u8, state: usize, script: &[u8], log: &mut [u8]) -> Outcome {
     match op {
-        20 => set_keyboard_led(script, log, leds_of(argument)),
-        _ => command_to_keyboard(script, log, keyboard_value(op, argument)),
-    }
-}
-
-// The keyboard's operations, 16 to 23.
-fn call_keyboard(op: u8, argument: u8, script: &[u8], log: &mut [u8]) -> Outcome {
-    match op {
-        19 => completed(reset_keyboard(script, log)),
-        21 => completed(set_keyboard_scancode_set(script, log, set_of(argument))),
+        19 => written(write_config(
+            log,
+            ControllerConfigurationByte::from_byte((state % 256) as u8),
+        )),
+        20 => config_read(read_config(script, log)),
+        21 => received(polling_receive(script)),
         22 => set_asked(get_keyboard_scancode_set(script, log)),
         23 => detected(keyboard_detect(script, log)),
-        _ => commanded(command_keyboard(op, argument, script, log)),
+        _ => identified(PS2Mouse::mouse_id(script, log)),
     }
 }
 
-// The mouse's operations that are one command: 32 to 34, and 36 to 39.
-fn command_mouse(op: u8, argument: u8, script: &[u8], log: &mut [u8]) -> Commanded {
+// The operations on a record, which is the state, 25 to 27, and keyboard initialisation, 28.
+fn on_record(op: u8, state: usize, script: &[u8], log: &mut [u8]) -> Outcome {
     match op {
-        36 => PS2Mouse::enable_mouse_packet_streaming(script, log),
-        37 => PS2Mouse::disable_mouse_packet_streaming(script, log),
-        38 => PS2Mouse::set_mouse_sampling_rate(script, log, rate_of(argument)),
-        39 => PS2Mouse::mouse_resolution(script, log, resolution_of(argument)),
-        _ => PS2Mouse::command_to_mouse(script, log, mouse_value(op, argument)),
-    }
-}
-
-// The mouse's operations, 32 to 42.
-fn call_mouse(op: u8, argument: u8, state: usize, script: &[u8], log: &mut [u8]) -> Outcome {
-    let mouse = PS2Mouse { id: id_of(state) };
-    match op {
-        35 => completed(PS2Mouse::reset(script, log)),
-        40 => identified(PS2Mouse::mouse_id(script, log)),
-        41 => mouse_left(set_mouse_id(mouse, script, log)),
-        42 => packet_read(mouse.read_mouse_packet(script)),
-        _ => commanded(command_mouse(op, argument, script, log)),
+        25 => initialized(init(controller_of(state), script, log)),
+        26 => mouse_left(set_mouse_id(mouse_of(state), script, log)),
+        27 => packet_read(mouse_of(state).read_mouse_packet(script)),
+        _ => call_keyboard_init(script, log),
     }
 }
 
 // The call that an instruction tells.
 fn call(i: Instruction, script: &[u8], log: &mut [u8]) -> Outcome {
-    if i.op < 16 {
-        return call_controller(i.op, i.argument, i.state, script, log);
+    let op = i.op;
+    match op {
+        1..=7 => completed(complete(op, i.argument, script, log)),
+        8..=18 => commanded(command(op, i.argument, script, log)),
+        19..=24 => ask(op, i.state, script, log),
+        25..=28 => on_record(op, i.state, script, log),
+        _ => unknown(),
     }
-    if i.op < 32 {
-        return call_keyboard(i.op, i.argument, script, log);
-    }
-    if i.op < 48 {
-        return call_mouse(i.op, i.argument, i.state, script, log);
-    }
-    call_keyboard_init(script, log)
 }
 
 // The call as often as the instruction tells, and the outcome of the last: more than once is for measuring.

@@ -5,10 +5,10 @@ mod runs;
 
 use bytes::byte_at;
 use bytes::fewer;
-use bytes::number_at;
 use bytes::plus;
 use bytes::put_number;
 use bytes::put_part;
+use bytes::short_at;
 use bytes::within;
 use calls::Instruction;
 use calls::Outcome;
@@ -22,21 +22,20 @@ use runs::run_turn;
 // Room for the longest script that a handler call or a command reads.
 const SCRIPT_SPACE: usize = 1200000;
 
-// Reads an instruction of 12 bytes; at the end of the input it is the last one, 255.
+// Reads an instruction of 10 bytes; at the end of the input it is the last one, 255.
 fn read_instruction() -> Instruction {
-    let mut head = [0u8; 12];
+    let mut head = [0u8; 10];
     let got = io::read_full(STDIN_FILENO, &mut head);
-    instruction_of(&head, got == 12)
+    instruction_of(&head, got == 10)
 }
 
 fn instruction_of(head: &[u8], is_whole: bool) -> Instruction {
-    let first = number_at(head, 0);
     Instruction {
         op: if is_whole { byte_at(head, 0) } else { 255 },
         argument: byte_at(head, 1),
-        state: first / 65536,
-        room: number_at(head, 4),
-        times: number_at(head, 8),
+        state: short_at(head, 2),
+        room: short_at(head, 4),
+        times: short_at(head, 6) + 65536 * short_at(head, 8),
     }
 }
 
@@ -94,10 +93,10 @@ fn write_answer(op: u8, o: Outcome, log: &[u8]) {
     io::write_all(STDOUT_FILENO, &log[..logged]);
 }
 
-// Whether a run is over after a turn: its last instruction, 70, goes on no more, or the input has ended.
+// Whether a run is over after a turn: its last instruction, 36, goes on no more, or the input has ended.
 fn is_over(op: u8, goes_on: bool) -> bool {
     match op {
-        70 => !goes_on,
+        36 => !goes_on,
         255 => true,
         _ => false,
     }
@@ -122,21 +121,21 @@ fn run(i: Instruction, script: &[u8], log: &mut [u8]) {
     }
 }
 
-// The outcome of an instruction that is no part of a run: 49 asks for a character, the others are calls on the ports.
+// The outcome of an instruction that is no part of a run: 29 asks for a character, the others are calls on the ports.
 fn outcome_of(i: Instruction, script: &[u8], log: &mut [u8]) -> Outcome {
-    if i.op == 49 {
+    if i.op == 29 {
         return call_to_ascii(i);
     }
     call_times(i, script, log)
 }
 
-// Answers an instruction: 64 begins a run; a part of a script, 0, and the end have no answer.
+// Answers an instruction: 30 begins a run; a part of a script, 0, and the end have no answer.
 fn answer_within(i: Instruction, script: &[u8], log: &mut [u8]) {
     let op = i.op;
     match op {
         0 => {}
         255 => {}
-        64 => run(i, script, log),
+        30 => run(i, script, log),
         _ => write_answer(op, outcome_of(i, script, log), log),
     }
 }

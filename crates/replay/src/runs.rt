@@ -94,7 +94,7 @@ fn with_event(handler: KeyboardHandler, event: KeyEvent) -> KeyboardHandler {
     }
 }
 
-// The keycode of a byte; one that has none is taken for the first, which `is_keycode` finds.
+// The keycode of a byte; one that has none is taken for the first, which `keycode_end` finds.
 fn keycode_of(byte: u8) -> Keycode {
     match Keycode::from_byte(byte) {
         FoundKeycode::Found(keycode) => keycode,
@@ -102,8 +102,13 @@ fn keycode_of(byte: u8) -> Keycode {
     }
 }
 
-fn is_keycode(byte: u8) -> bool {
-    keycode_of(byte).to_byte() == byte
+// How a call ends that asks for the keycode of a byte: with nothing to answer, or with 255 where there is none.
+fn keycode_end(byte: u8) -> u8 {
+    if keycode_of(byte).to_byte() == byte {
+        254
+    } else {
+        255
+    }
 }
 
 fn event_of(i: Instruction) -> KeyEvent {
@@ -120,7 +125,7 @@ fn add_event(i: Instruction, handler: KeyboardHandler, used: usize) -> Turn {
         handler: with_event(handler, event_of(i)),
         used,
         goes_on: true,
-        outcome: ended(if is_keycode(i.argument) { 254 } else { 255 }, 0, 0),
+        outcome: ended(keycode_end(i.argument), 0, 0),
     }
 }
 
@@ -187,7 +192,7 @@ fn handled(done: Handled, before: usize) -> Turn {
     }
 }
 
-// A handler call, 67, on what is left of the script, with the whole log; 68 is made only where the script is not used up, and ends the run where it is.
+// A handler call, 33, on what is left of the script, with the whole log; 34 is made only where the script is not used up, and ends the run where it is.
 fn run_handle(
     op: u8,
     handler: KeyboardHandler,
@@ -198,7 +203,7 @@ fn run_handle(
     if script.len() < used {
         return silent(handler, ENDED);
     }
-    if op == 68 {
+    if op == 34 {
         if script.len() == used {
             return silent(handler, ENDED);
         }
@@ -223,6 +228,11 @@ fn taken_outcome(event: TakenEvent) -> Outcome {
     outcome
 }
 
+// Whether a taking's next turn is to be made: 36 takes until none waits.
+fn takes_on(op: u8, left: u8) -> bool {
+    if op == 36 { left == 3 } else { true }
+}
+
 fn taken(t: Taken, used: usize, op: u8) -> Turn {
     let event = t.event;
     let handler = t.handler;
@@ -230,14 +240,14 @@ fn taken(t: Taken, used: usize, op: u8) -> Turn {
     Turn {
         handler,
         used,
-        goes_on: if op == 69 { true } else { outcome.left == 3 },
+        goes_on: takes_on(op, outcome.left),
         outcome,
     }
 }
 
-// A taking from the queue, 69, where the run goes on; 70 takes in any case, until none waits.
+// A taking from the queue, 35, where the run goes on; 36 takes in any case, until none waits.
 fn run_take(op: u8, handler: KeyboardHandler, used: usize) -> Turn {
-    if op == 69 {
+    if op == 35 {
         if used == ENDED {
             return silent(handler, used);
         }
@@ -254,7 +264,7 @@ fn run_left(handler: KeyboardHandler, used: usize) -> Turn {
     }
 }
 
-// A turn of an instruction on a record: 65 adds an event, 66 makes the run without answers, 67 and 68 are handler calls, 69 and 70 takings, 71 answers the record. The others do nothing.
+// A turn of an instruction on a record: 31 adds an event, 32 makes the run without answers, 33 and 34 are handler calls, 35 and 36 takings, 37 answers the record. The others do nothing.
 pub fn run_turn(
     i: Instruction,
     handler: KeyboardHandler,
@@ -264,11 +274,11 @@ pub fn run_turn(
 ) -> Turn {
     let op = i.op;
     match op {
-        65 => add_event(i, handler, used),
-        66 => run_times(i, handler, script, log),
-        67..=68 => run_handle(op, handler, used, script, log),
-        69..=70 => run_take(op, handler, used),
-        71 => run_left(handler, used),
+        31 => add_event(i, handler, used),
+        32 => run_times(i, handler, script, log),
+        33..=34 => run_handle(op, handler, used, script, log),
+        35..=36 => run_take(op, handler, used),
+        37 => run_left(handler, used),
         _ => silent(handler, used),
     }
 }
@@ -289,7 +299,7 @@ fn quiet_turn(
     if !takes {
         return done;
     }
-    run_take(69, done.handler, done.used)
+    run_take(35, done.handler, done.used)
 }
 
 // The run so many times from its record, which stays, with nothing answered, for measuring.
@@ -341,7 +351,7 @@ fn character_number(character: Character) -> u64 {
 
 // The character of a keycode under flags.
 pub fn call_to_ascii(i: Instruction) -> Outcome {
-    if !is_keycode(i.argument) {
+    if keycode_end(i.argument) == 255 {
         return unknown();
     }
     let character = ascii_times(keycode_of(i.argument), flags_of(i.state), i.times);

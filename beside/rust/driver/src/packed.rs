@@ -1,4 +1,4 @@
-//! Calls and answers as the port's program reads and writes them: instructions of 12 bytes, and answers of 32 with what was
+//! Calls and answers as the port's program reads and writes them: instructions of 10 bytes, and answers of 32 with what was
 //! logged behind them. tests/traces/README.md tells the format, crates/replay is the program.
 
 use crate::answer::*;
@@ -11,16 +11,15 @@ pub const LARGEST_ROOM: usize = 4096;
 
 /// The instructions that are no operation on the ports.
 const PART: u8 = 0;
-const KEYBOARD_INIT: u8 = 48;
-const TO_ASCII: u8 = 49;
-const RECORD: u8 = 64;
-const EVENT: u8 = 65;
-const RUNS: u8 = 66;
-const HANDLE: u8 = 67;
-const UNTIL_USED: u8 = 68;
-const TAKE: u8 = 69;
-const WAITING: u8 = 70;
-const LEFT: u8 = 71;
+const TO_ASCII: u8 = 29;
+const RECORD: u8 = 30;
+const EVENT: u8 = 31;
+const RUNS: u8 = 32;
+const HANDLE: u8 = 33;
+const UNTIL_USED: u8 = 34;
+const TAKE: u8 = 35;
+const WAITING: u8 = 36;
+const LEFT: u8 = 37;
 
 /// What a taking leaves where there is no event, and where there is one.
 const NONE_TAKEN: u8 = 2;
@@ -29,7 +28,7 @@ const TAKEN: u8 = 3;
 /// The refusal's number of a call that the port's program can't make.
 const NO_CALL: u8 = 255;
 
-/// An instruction of 12 bytes, numbers with their low byte first.
+/// An instruction of 10 bytes, numbers with their low byte first.
 #[derive(Default)]
 struct Instruction {
     op: u8,
@@ -43,7 +42,7 @@ impl Instruction {
     fn put(&self, out: &mut Vec<u8>) {
         out.extend([self.op, self.argument]);
         out.extend(self.state.to_le_bytes());
-        out.extend((self.room as u32).to_le_bytes());
+        out.extend((self.room as u16).to_le_bytes());
         out.extend((self.times as u32).to_le_bytes());
     }
 }
@@ -53,41 +52,34 @@ fn operation(op: &Op) -> (u8, u8, u16) {
     use KeyboardOp as K;
     use MouseOp as M;
     match *op {
-        Op::Init(c) => (1, 0, c.init as u16 | (c.kbd as u16) << 1 | (c.mouse as u16) << 2),
-        Op::ControllerTest => (2, 0, 0),
-        Op::TestPort1 => (3, 0, 0),
-        Op::TestPort2 => (4, 0, 0),
-        Op::WriteConfig(byte) => (5, byte, 0),
-        Op::ReadConfig => (6, 0, 0),
-        Op::PollingSend(set) => (7, set, 0),
-        Op::PollingReceive => (8, 0, 0),
-        Op::Keyboard(op) => match op {
-            K::Command(byte) => (16, byte, 0),
-            K::DataSet(set) => (17, set, 0),
-            K::DataLed(lamps) => (18, lamps, 0),
-            K::Reset => (19, 0, 0),
-            K::SetLed(lamps) => (20, lamps, 0),
-            K::SetScancodeSet(set) => (21, set, 0),
-            K::GetScancodeSet => (22, 0, 0),
-            K::Detect => (23, 0, 0),
-        },
-        Op::Mouse(op, id) => {
-            let (number, argument) = match op {
-                M::Command(byte) => (32, byte),
-                M::DataRate(rate) => (33, rate),
-                M::DataResolution(resolution) => (34, resolution),
-                M::Reset => (35, 0),
-                M::Enable => (36, 0),
-                M::Disable => (37, 0),
-                M::SetSamplingRate(rate) => (38, rate),
-                M::Resolution(resolution) => (39, resolution),
-                M::Id => (40, 0),
-                M::SetId => (41, 0),
-                M::ReadPacket => (42, 0),
-            };
-            (number, argument, id.unwrap_or(0) as u16)
-        }
-        Op::KeyboardInit => (KEYBOARD_INIT, 0, 0),
+        Op::ControllerTest => (1, 0, 0),
+        Op::TestPort1 => (2, 0, 0),
+        Op::TestPort2 => (3, 0, 0),
+        Op::PollingSend(set) => (4, set, 0),
+        Op::Keyboard(K::Reset) => (5, 0, 0),
+        Op::Keyboard(K::SetScancodeSet(set)) => (6, set, 0),
+        Op::Mouse(M::Reset, _) => (7, 0, 0),
+        Op::Keyboard(K::Command(byte)) => (8, byte, 0),
+        Op::Keyboard(K::DataSet(set)) => (9, set, 0),
+        Op::Keyboard(K::DataLed(lamps)) => (10, lamps, 0),
+        Op::Keyboard(K::SetLed(lamps)) => (11, lamps, 0),
+        Op::Mouse(M::Command(byte), _) => (12, byte, 0),
+        Op::Mouse(M::DataRate(rate), _) => (13, rate, 0),
+        Op::Mouse(M::DataResolution(resolution), _) => (14, resolution, 0),
+        Op::Mouse(M::SetSamplingRate(rate), _) => (15, rate, 0),
+        Op::Mouse(M::Resolution(resolution), _) => (16, resolution, 0),
+        Op::Mouse(M::Enable, _) => (17, 0, 0),
+        Op::Mouse(M::Disable, _) => (18, 0, 0),
+        Op::WriteConfig(byte) => (19, 0, byte as u16),
+        Op::ReadConfig => (20, 0, 0),
+        Op::PollingReceive => (21, 0, 0),
+        Op::Keyboard(K::GetScancodeSet) => (22, 0, 0),
+        Op::Keyboard(K::Detect) => (23, 0, 0),
+        Op::Mouse(M::Id, _) => (24, 0, 0),
+        Op::Init(c) => (25, 0, c.init as u16 | (c.kbd as u16) << 1 | (c.mouse as u16) << 2),
+        Op::Mouse(M::SetId, id) => (26, 0, id.unwrap_or(0) as u16),
+        Op::Mouse(M::ReadPacket, id) => (27, 0, id.unwrap_or(0) as u16),
+        Op::KeyboardInit => (28, 0, 0),
         Op::ToAscii(keycode, flags) => (TO_ASCII, keycode, flags),
         Op::Handle(..) => unreachable!("a run has no number of its own"),
     }
@@ -104,7 +96,9 @@ pub fn put_call(call: &Call, out: &mut Vec<u8>) -> Result<(), String> {
     if call.repeat > u32::MAX as u64 {
         return Err(format!("the port's program repeats no call {} times", call.repeat));
     }
-    put_script(&call.script, out);
+    if !matches!(call.op, Op::ToAscii(..)) {
+        put_script(&call.script, out);
+    }
     if let Op::Handle(handler, plan) = &call.op {
         put_run(call, handler, plan, out);
     } else {
