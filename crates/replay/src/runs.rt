@@ -1,5 +1,4 @@
 // A run of handler calls and takings on one record, and what else is on keys.
-use crate::bytes::fewer;
 use crate::bytes::plus;
 use crate::calls::Instruction;
 use crate::calls::Outcome;
@@ -283,35 +282,58 @@ pub fn run_turn(
     }
 }
 
-// A turn of a run that answers nothing: a handler call, and a taking where `takes` says so. Where the script is used, the next run begins.
-fn quiet_turn(
-    now: Turn,
-    first: KeyboardHandler,
-    takes: bool,
-    script: &[u8],
-    log: &mut [u8],
-) -> Turn {
-    let used = now.used;
-    if script.len() <= used {
-        return silent(first, 0);
-    }
-    let done = handled(handle(now.handler, &script[used..], log), used);
+// What repeated calls leave, and how much of the script is used.
+struct Quiet {
+    handler: KeyboardHandler,
+    used: usize,
+}
+
+// What a handler call leaves, after a taking where `takes` says so.
+fn quieted(done: Handled, before: usize, takes: bool) -> Quiet {
+    let used = plus(before, done.used);
+    let handler = done.handler;
     if !takes {
-        return done;
+        return Quiet { handler, used };
     }
-    run_take(35, done.handler, done.used)
+    let t = take_event(handler);
+    let left = t.handler;
+    Quiet {
+        handler: left,
+        used,
+    }
+}
+
+// A handler call that answers nothing, and a taking where `takes` says so.
+fn quiet_turn(quiet: Quiet, takes: bool, script: &[u8], log: &mut [u8]) -> Quiet {
+    let used = quiet.used;
+    if script.len() <= used {
+        return quiet;
+    }
+    quieted(handle(quiet.handler, &script[used..], log), used, takes)
+}
+
+// Handler calls until the script is used, with nothing answered; answers how much was used.
+fn run_quietly(handler: KeyboardHandler, takes: bool, script: &[u8], log: &mut [u8]) -> usize {
+    let mut quiet = Quiet { handler, used: 0 };
+    let mut i = 0;
+    while i < script.len() {
+        if script.len() <= quiet.used {
+            return quiet.used;
+        }
+        let next = quiet_turn(quiet, takes, script, log);
+        quiet = next;
+        i += 1;
+    }
+    quiet.used
 }
 
 // The run so many times from its record, which stays, with nothing answered, for measuring.
 fn run_times(i: Instruction, handler: KeyboardHandler, script: &[u8], log: &mut [u8]) -> Turn {
-    let mut now = silent(handler, 0);
-    let mut runs = 0;
-    let mut left = u64::MAX;
-    while 0 < left {
-        let next = quiet_turn(now, handler, i.argument == 1, script, log);
-        now = next;
-        runs = plus(runs, if next.goes_on { 0 } else { 1 });
-        left = fewer(left, i.times <= runs);
+    let mut used = 0;
+    let mut n = 0;
+    while n < i.times {
+        used = run_quietly(handler, i.argument == 1, script, log);
+        n += 1;
     }
     silent(handler, 0)
 }

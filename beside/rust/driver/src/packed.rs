@@ -29,7 +29,6 @@ const TAKEN: u8 = 3;
 const NO_CALL: u8 = 255;
 
 /// An instruction of 10 bytes, numbers with their low byte first.
-#[derive(Default)]
 struct Instruction {
     op: u8,
     argument: u8,
@@ -192,7 +191,7 @@ impl Packed {
     }
 }
 
-/// What a packet's number, a movement's and an event's tell, and the numbers.
+/// The bits of a movement in a packet's number.
 const MOVEMENT_BITS: u32 = 17;
 
 fn packet_of(number: u64) -> Packet {
@@ -239,15 +238,7 @@ fn handler_of(number: u64, queue: Vec<KeyEvent>) -> Result<Handler, String> {
 pub fn put_answer(op: &Op, answer: &Answer, out: &mut Vec<u8>) -> Result<(), String> {
     match answer {
         Answer::Call { end, used, log, value, record } => {
-            let (number, ..) = operation(op);
-            let packed = Packed {
-                op: number,
-                number: *end,
-                left: left_of(op, record)?,
-                used: *used,
-                value: 0,
-                log: log.clone(),
-            };
+            let left = left_of(op, record)?;
             let value = match (value, record) {
                 (Value::Nothing, Record::Handler(handler)) => record_number(handler),
                 (Value::Nothing, _) => 0,
@@ -256,7 +247,7 @@ pub fn put_answer(op: &Op, answer: &Answer, out: &mut Vec<u8>) -> Result<(), Str
                 (Value::Packet(packet), _) => packet_number(packet),
                 (Value::Character(character), _) => character.map_or(256, u64::from),
             };
-            Packed { value, ..packed }.put(out);
+            Packed { op: operation(op).0, number: *end, left, used: *used, value, log: log.clone() }.put(out);
         }
         Answer::Run { done, left } => {
             let Op::Handle(_, plan) = op else { return Err("this operation has no run".to_string()) };

@@ -1,5 +1,6 @@
 -- `replay::runs::run_times` is safe and ends.
 -- Assumes nothing.
+use Prim.Native.Nat.{_-_}
 use mathlib.Core.Path.{_≡_}
 use borrow.Author.Needs.{needs}
 use lib.ListN.{length}
@@ -7,25 +8,19 @@ use Rattle.replay.proofs.runs.run_times.Statement.{statement}
 use Rattle.replay.proofs.runs.run_times.Tie as tie
 
 abbrev Inv-loop : tie.InvT-loop
-Inv-loop i handler script log₀ now₀ runs₀ left₀ log now runs left = length log ≡ length log₀
+Inv-loop i handler script log₀ used₀ n₀ log used n = length log ≡ length log₀
 
 abbrev μ-loop : tie.MeasureT-loop
-μ-loop i handler script log₀ now₀ runs₀ left₀ log now runs left = left
-
-silent-requires : tie.Need-silent-requires Inv-loop μ-loop
-silent-requires c κs = search needs
+μ-loop i handler script log₀ used₀ n₀ log used n = i .times - n
 
 loop-holds : tie.Need-loop-holds Inv-loop μ-loop
 loop-holds c = search needs
 
-quiet-turn-requires : tie.Need-quiet-turn-requires Inv-loop μ-loop
-quiet-turn-requires c κs = search needs
+run-quietly-requires : tie.Need-run-quietly-requires Inv-loop μ-loop
+run-quietly-requires c κs = search needs
 
-plus-requires : tie.Need-plus-requires Inv-loop μ-loop
-plus-requires c κs = search needs
-
-fewer-requires : tie.Need-fewer-requires Inv-loop μ-loop
-fewer-requires c κs = search needs
+add-n : tie.Need-add-n Inv-loop μ-loop
+add-n c = search needs
 
 loop-less : tie.Need-loop-less Inv-loop μ-loop
 loop-less c = search needs
@@ -33,8 +28,8 @@ loop-less c = search needs
 loop-again : tie.Need-loop-again Inv-loop μ-loop
 loop-again c = search needs
 
-silent-requires-2 : tie.Need-silent-requires-2 Inv-loop μ-loop
-silent-requires-2 c κs = search needs
+silent-requires : tie.Need-silent-requires Inv-loop μ-loop
+silent-requires c κs = search needs
 
 same-length : tie.Need-same-length Inv-loop μ-loop
 same-length c = search needs
@@ -48,13 +43,11 @@ run-times-spec =
     (tie.spec
     Inv-loop
     μ-loop
-    silent-requires
     loop-holds
-    quiet-turn-requires
-    plus-requires
-    fewer-requires
+    run-quietly-requires
+    add-n
     loop-less
     loop-again
-    silent-requires-2
+    silent-requires
     same-length
     returns)
