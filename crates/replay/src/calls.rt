@@ -349,7 +349,8 @@ fn keyboard_command(byte: u8) -> HostToKeyboardCommand {
 fn keyboard_value(op: u8, argument: u8) -> HostToKeyboardCommandOrData {
     match op {
         8 => HostToKeyboardCommandOrData::KeyboardCommand(keyboard_command(argument)),
-        10..=11 => HostToKeyboardCommandOrData::LEDState(leds_of(argument)),
+        10 => HostToKeyboardCommandOrData::LEDState(leds_of(argument)),
+        11 => HostToKeyboardCommandOrData::LEDState(leds_of(argument)),
         _ => HostToKeyboardCommandOrData::ScancodeSet(set_of(argument)),
     }
 }
@@ -406,12 +407,15 @@ fn mouse_of(state: usize) -> PS2Mouse {
     }
 }
 
-// Whether an argument is one of those that an operation takes. The operations that take none have 0.
+// Whether there is such an operation and it takes such an argument. Those that take none have 0.
 fn is_known(op: u8, argument: u8) -> bool {
-    match op {
-        12..=18 => mouse_value(op, argument).to_byte() == argument,
-        _ => keyboard_value(op, argument).to_byte() == argument,
+    if 28 < op {
+        return false;
     }
+    if op < 12 {
+        return keyboard_value(op, argument).to_byte() == argument;
+    }
+    mouse_value(op, argument).to_byte() == argument
 }
 
 // The operations that end with no value, 1 to 7.
@@ -431,16 +435,23 @@ fn complete(op: u8, argument: u8, script: &[u8], log: &mut [u8]) -> Completed {
     }
 }
 
+// A byte to the keyboard, 8 to 10, or to the mouse, 12 to 14.
+fn send(op: u8, argument: u8, script: &[u8], log: &mut [u8]) -> Commanded {
+    if op < 12 {
+        return command_to_keyboard(script, log, keyboard_value(op, argument));
+    }
+    PS2Mouse::command_to_mouse(script, log, mouse_value(op, argument))
+}
+
 // The operations that are one command, 8 to 18.
 fn command(op: u8, argument: u8, script: &[u8], log: &mut [u8]) -> Commanded {
     match op {
-        8..=10 => command_to_keyboard(script, log, keyboard_value(op, argument)),
         11 => set_keyboard_led(script, log, leds_of(argument)),
-        12..=14 => PS2Mouse::command_to_mouse(script, log, mouse_value(op, argument)),
         15 => PS2Mouse::set_mouse_sampling_rate(script, log, rate_of(argument)),
         16 => PS2Mouse::mouse_resolution(script, log, resolution_of(argument)),
         17 => PS2Mouse::enable_mouse_packet_streaming(script, log),
-        _ => PS2Mouse::disable_mouse_packet_streaming(script, log),
+        18 => PS2Mouse::disable_mouse_packet_streaming(script, log),
+        _ => send(op, argument, script, log),
     }
 }
 
@@ -471,14 +482,16 @@ fn on_record(op: u8, state: usize, script: &[u8], log: &mut [u8]) -> Outcome {
 
 // The call that an instruction tells.
 fn call(i: Instruction, script: &[u8], log: &mut [u8]) -> Outcome {
-    let op = i.op;
-    match op {
-        1..=7 => completed(complete(op, i.argument, script, log)),
-        8..=18 => commanded(command(op, i.argument, script, log)),
-        19..=24 => ask(op, i.state, script, log),
-        25..=28 => on_record(op, i.state, script, log),
-        _ => unknown(),
+    if i.op < 8 {
+        return completed(complete(i.op, i.argument, script, log));
     }
+    if i.op < 19 {
+        return commanded(command(i.op, i.argument, script, log));
+    }
+    if i.op < 25 {
+        return ask(i.op, i.state, script, log);
+    }
+    on_record(i.op, i.state, script, log)
 }
 
 // The call as often as the instruction tells, and the outcome of the last: more than once is for measuring.
