@@ -58,7 +58,7 @@ use ps2_ports::read_config;
 use ps2_ports::write_config;
 ghost use Prim.Native.Nat.{_≤_};
 
-// An instruction: its operation, an argument, a state (the controller's bits, a mouse's identity, or flags), the log's room, and how often it is meant.
+// An instruction: its operation, an argument, a state (the controller's bits or configuration, or flags), the log's room, and how often it is meant.
 pub struct Instruction {
     pub op: u8,
     pub argument: u8,
@@ -399,11 +399,10 @@ fn mouse_value(op: u8, argument: u8) -> HostToMouseCommandOrData {
     }
 }
 
-// A mouse of an identity; 0 where it is none.
-fn mouse_of(state: usize) -> PS2Mouse {
-    match MouseId::from_byte((state % 256) as u8) {
-        MouseIdByte::Listed(id) => PS2Mouse { id },
-        MouseIdByte::Unlisted => PS2Mouse::new(),
+fn id_of(byte: u8) -> MouseId {
+    match MouseId::from_byte(byte) {
+        MouseIdByte::Listed(id) => id,
+        MouseIdByte::Unlisted => MouseId::Zero,
     }
 }
 
@@ -415,7 +414,10 @@ fn is_known(op: u8, argument: u8) -> bool {
     if op < 12 {
         return keyboard_value(op, argument).to_byte() == argument;
     }
-    mouse_value(op, argument).to_byte() == argument
+    if op < 26 {
+        return mouse_value(op, argument).to_byte() == argument;
+    }
+    id_of(argument).to_byte() == argument
 }
 
 // The operations that end with no value, 1 to 7.
@@ -455,7 +457,7 @@ fn command(op: u8, argument: u8, script: &[u8], log: &mut [u8]) -> Commanded {
     }
 }
 
-// The configuration, which is the state, and the operations that ask for a value, 19 to 24.
+// The operations that ask for a value, and those on the controller's configuration and record, which are the state, 19 to 25.
 fn ask(op: u8, state: usize, script: &[u8], log: &mut [u8]) -> Outcome {
     match op {
         19 => written(write_config(
@@ -466,16 +468,17 @@ fn ask(op: u8, state: usize, script: &[u8], log: &mut [u8]) -> Outcome {
         21 => received(polling_receive(script)),
         22 => set_asked(get_keyboard_scancode_set(script, log)),
         23 => detected(keyboard_detect(script, log)),
-        _ => identified(PS2Mouse::mouse_id(script, log)),
+        24 => identified(PS2Mouse::mouse_id(script, log)),
+        _ => initialized(init(controller_of(state), script, log)),
     }
 }
 
-// The operations on a record, which is the state, 25 to 27, and keyboard initialisation, 28.
-fn on_record(op: u8, state: usize, script: &[u8], log: &mut [u8]) -> Outcome {
+// The mouse's operations that need its identity, 26 and 27, and keyboard initialisation, 28.
+fn on_device(op: u8, id: MouseId, script: &[u8], log: &mut [u8]) -> Outcome {
+    let mouse = PS2Mouse { id };
     match op {
-        25 => initialized(init(controller_of(state), script, log)),
-        26 => mouse_left(set_mouse_id(mouse_of(state), script, log)),
-        27 => packet_read(mouse_of(state).read_mouse_packet(script)),
+        26 => mouse_left(set_mouse_id(mouse, script, log)),
+        27 => packet_read(mouse.read_mouse_packet(script)),
         _ => call_keyboard_init(script, log),
     }
 }
@@ -488,10 +491,10 @@ fn call(i: Instruction, script: &[u8], log: &mut [u8]) -> Outcome {
     if i.op < 19 {
         return commanded(command(i.op, i.argument, script, log));
     }
-    if i.op < 25 {
+    if i.op < 26 {
         return ask(i.op, i.state, script, log);
     }
-    on_record(i.op, i.state, script, log)
+    on_device(i.op, id_of(i.argument), script, log)
 }
 
 // The call as often as the instruction tells, and the outcome of the last: more than once is for measuring.

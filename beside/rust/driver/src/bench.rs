@@ -4,12 +4,12 @@
 use crate::call::{self, Call, ALL_FLAGS, LAST_KEYCODE};
 use crate::device::Rng;
 use crate::packed::{put_call, read_answer};
-use std::io::{self, Read, Write};
+use std::fs::{self, File};
+use std::io;
 use std::path::Path;
-use std::process::{Child, Command, ExitCode, Stdio};
-use std::thread;
+use std::process::{Child, Command, ExitCode};
 
-/// Linux's `rusage`, as words: the first two are seconds and microseconds of user time.
+/// Linux's `rusage`, as words: the first four are seconds and microseconds of user and of system time.
 type Usage = [i64; 18];
 
 extern "C" {
@@ -17,9 +17,9 @@ extern "C" {
     fn getrusage(who: i32, usage: *mut Usage) -> i32;
 }
 
-/// Seconds of processor time outside the system, which other programs hardly change. A call makes no system call.
+/// Seconds of processor time, which other programs hardly change.
 fn seconds(usage: Usage) -> f64 {
-    usage[0] as f64 + usage[1] as f64 / 1e6
+    (usage[0] + usage[2]) as f64 + (usage[1] + usage[3]) as f64 / 1e6
 }
 
 /// Waits for a program to end: the seconds that it took.
@@ -47,21 +47,19 @@ struct Side<'a> {
 }
 
 impl Side<'_> {
-    /// The seconds that the program takes, and what it writes.
+    /// The seconds that the program takes, and what it writes. It reads and writes files, so that it waits for nobody.
     fn run(&self, times: u64) -> io::Result<(f64, Vec<u8>)> {
-        let input = (self.input)(times).map_err(io::Error::other)?;
+        let file = |name: &str| std::env::temp_dir().join(format!("beside-{}-{name}", std::process::id()));
+        let (input, output) = (file("input"), file("output"));
+        fs::write(&input, (self.input)(times).map_err(io::Error::other)?)?;
         let mut command = Command::new(self.program[0]);
-        let mut child = command.args(&self.program[1..]).stdin(Stdio::piped()).stdout(Stdio::piped()).spawn()?;
-        let (mut stdin, mut stdout) = (child.stdin.take().unwrap(), child.stdout.take().unwrap());
-        let mut output = Vec::new();
-        thread::scope(|scope| {
-            scope.spawn(move || stdin.write_all(&input));
-            stdout.read_to_end(&mut output)
-        })?;
-        let seconds = processor_time(child)?;
-        match (self.error)(&output) {
+        command.args(&self.program[1..]).stdin(File::open(&input)?).stdout(File::create(&output)?);
+        let seconds = command.spawn().and_then(processor_time);
+        let written = fs::read(&output)?;
+        fs::remove_file(&input).and(fs::remove_file(&output))?;
+        match (self.error)(&written) {
             Some(why) => Err(io::Error::other(why)),
-            None => Ok((seconds, output)),
+            None => Ok((seconds?, written)),
         }
     }
 
