@@ -1,5 +1,6 @@
 // The keyboard handler's record, its queue of events, and what its calls answer: Theseus's `keyboard`. The code of the calls is in crates/keyboard.
 ghost use mathlib.Core.Path.{_≡_};
+ghost use Rattle.keyboard_rule.specs.Answers.{answerNumber};
 ghost use Rattle.keyboard_rule.specs.Record.{fresh};
 use keyboard_modifiers::KeyboardModifiers;
 use keycodes_ascii::KeyAction;
@@ -34,6 +35,22 @@ pub enum HandlerAnswer {
     UnknownScancode,
     QueueFull,
     MalformedRecord,
+}
+
+impl HandlerAnswer {
+    // The number that document 01 gives to a refusal, and 0 where there is none.
+    pub fn number(self) -> u8
+        ensures { λ r. ⌜ r ≡ answerNumber self ⌝ }
+    {
+        match self {
+            HandlerAnswer::Done => 0,
+            HandlerAnswer::NoScriptByte => 2,
+            HandlerAnswer::NoLogRoom => 3,
+            HandlerAnswer::UnknownScancode => 19,
+            HandlerAnswer::QueueFull => 20,
+            HandlerAnswer::MalformedRecord => 21,
+        }
+    }
 }
 
 // What a handler call gives back. A lamp exchange that failed, document 01's 14, is shown beside the answer.

@@ -4,12 +4,19 @@ use Prim.Native.Nat.{ℕ}
 use mathlib.Core.List.{List}
 use mathlib.Core.Path.{_≡_, refl}
 use Rattle.exchange.specs.Exchange.{Exchange, done, bind, End, played, play, Reads, Writes}
-use Rattle.exchange.specs.Answer.{Answer, gives, refuses, onGiven}
+use Rattle.exchange.specs.Answer.{Answer, gives, refuses, answered, onGiven}
 use Rattle.exchange.specs.Repeat.{Turn, found, foundEnd}
 use Rattle.exchange.proofs.Calls.{bind-done, bind-no-script, bind-no-log, reads-no-script, reads-done}
-use Rattle.ps2_ports.specs.Refusals.{refused}
+use Rattle.ps2_ports.specs.Refusals.{refusalNumber, refused}
 use Rattle.ps2_ports.specs.declared.Refusal.{Refusal}
 use Rattle.ps2_ports.specs.declared.Refusal.the-variants.{ScriptUsedUp, LogFull, Failed}
+
+-- the number of a refusal is the answer of the play's end that it says
+pub refused-number : {A : Type 0} (x : Refusal) → answered {A = A} (refused x) ≡ refuses (refusalNumber x)
+unfolding answered
+refused-number ScriptUsedUp = refl
+refused-number LogFull = refl
+refused-number (Failed f) = refl
 
 module _ {A B : Type 0} (t : Exchange (Answer A)) (g : A → Exchange (Answer B)) where
   pub bind-refused : (s l : List ℕ) {e : End (Answer A)} {u w : ℕ} {l′ : List ℕ} → played e u w l′ ≡ play t s l

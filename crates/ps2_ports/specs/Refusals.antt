@@ -29,6 +29,12 @@ numberOf PacketsNotStopped = 16
 numberOf PacketsNotStarted = 17
 numberOf KeyboardNotDetected = 18
 
+-- The number of each refusal: a used-up script is 2, a full log 3.
+abbrev pub refusalNumber : Refusal → ℕ
+refusalNumber ScriptUsedUp = 2
+refusalNumber LogFull = 3
+refusalNumber (Failed f) = numberOf f
+
 -- What a refusal says of the end of a play: 2 is the end of the script, 3 the end of the log, and any other number is the operation's own answer.
 abbrev pub refused : {A : Type 0} → Refusal → End (Answer A)
 refused ScriptUsedUp = noScript

@@ -2,7 +2,7 @@
 ghost use mathlib.Core.Path.{_≡_};
 ghost use Rattle.exchange.specs.Exchange.{Port, number, play, played, Reads, Writes};
 ghost use Rattle.ps2_ports.specs.Ports.{readPort, readData, readStatus, flushOutputBuffer, writePort, writeCommand, writeData, readConfig, writeConfig, saidByte, saidStatus, saidConfig};
-ghost use Rattle.ps2_ports.specs.Refusals.{saidDone};
+ghost use Rattle.ps2_ports.specs.Refusals.{refusalNumber, numberOf, saidDone};
 use ps2_bytes::HostToControllerCommand;
 use ps2_bytes::WritableData;
 use ps2_layouts::ControllerConfigurationByte;
@@ -39,6 +39,45 @@ pub enum Refusal {
     ScriptUsedUp,
     LogFull,
     Failed(Failure),
+}
+
+impl Failure {
+    // The number that document 01 gives to this failure.
+    pub fn number(self) -> u8
+        ensures { λ r. ⌜ r ≡ numberOf self ⌝ }
+    {
+        match self {
+            Failure::AlreadyInitialized => 1,
+            Failure::InputBufferFull => 4,
+            Failure::NoResponse => 5,
+            Failure::SelfTestFailed => 6,
+            Failure::NotAcknowledged => 7,
+            Failure::ControllerTestFailed => 8,
+            Failure::PortTestFailed => 9,
+            Failure::ResetFailed => 10,
+            Failure::NoSetOrIdentity => 11,
+            Failure::UnknownKeyboard => 12,
+            Failure::FirstIdentityFour => 13,
+            Failure::LedsNotSet => 14,
+            Failure::RateOrResolutionNotSet => 15,
+            Failure::PacketsNotStopped => 16,
+            Failure::PacketsNotStarted => 17,
+            Failure::KeyboardNotDetected => 18,
+        }
+    }
+}
+
+impl Refusal {
+    // The number that document 01 gives to this refusal.
+    pub fn number(self) -> u8
+        ensures { λ r. ⌜ r ≡ refusalNumber self ⌝ }
+    {
+        match self {
+            Refusal::ScriptUsedUp => 2,
+            Refusal::LogFull => 3,
+            Refusal::Failed(failure) => failure.number(),
+        }
+    }
 }
 
 // The answer of an operation that gives nothing but its success.

@@ -51,7 +51,6 @@ use ps2_ports::Completed;
 use ps2_ports::Completion;
 use ps2_ports::ConfigAnswer;
 use ps2_ports::ConfigRead;
-use ps2_ports::Failure;
 use ps2_ports::Refusal;
 use ps2_ports::Written;
 use ps2_ports::read_config;
@@ -102,46 +101,17 @@ pub fn with_value(value: u64, used: usize, pairs: usize) -> Outcome {
     }
 }
 
-fn failure_number(failure: Failure) -> u8 {
-    match failure {
-        Failure::AlreadyInitialized => 1,
-        Failure::InputBufferFull => 4,
-        Failure::NoResponse => 5,
-        Failure::SelfTestFailed => 6,
-        Failure::NotAcknowledged => 7,
-        Failure::ControllerTestFailed => 8,
-        Failure::PortTestFailed => 9,
-        Failure::ResetFailed => 10,
-        Failure::NoSetOrIdentity => 11,
-        Failure::UnknownKeyboard => 12,
-        Failure::FirstIdentityFour => 13,
-        Failure::LedsNotSet => 14,
-        Failure::RateOrResolutionNotSet => 15,
-        Failure::PacketsNotStopped => 16,
-        Failure::PacketsNotStarted => 17,
-        Failure::KeyboardNotDetected => 18,
-    }
-}
-
-fn refusal_number(refusal: Refusal) -> u8 {
-    match refusal {
-        Refusal::ScriptUsedUp => 2,
-        Refusal::LogFull => 3,
-        Refusal::Failed(failure) => failure_number(failure),
-    }
-}
-
 pub fn completion_number(answer: Completion) -> u8 {
     match answer {
         Completion::Done => 0,
-        Completion::Refused(e) => refusal_number(e),
+        Completion::Refused(e) => e.number(),
     }
 }
 
 fn command_number(answer: CommandAnswer) -> u8 {
     match answer {
         CommandAnswer::Accepted => 0,
-        CommandAnswer::Refused(e) => refusal_number(e),
+        CommandAnswer::Refused(e) => e.number(),
     }
 }
 
@@ -156,7 +126,7 @@ fn commanded(c: Commanded) -> Outcome {
 }
 
 fn refused(refusal: Refusal, used: usize, pairs: usize) -> Outcome {
-    ended(refusal_number(refusal), used, pairs)
+    ended(refusal.number(), used, pairs)
 }
 
 pub fn bit(is_set: bool) -> u64
