@@ -13,7 +13,6 @@ use keyboard_init::keyboard_init;
 use keyboard_modifiers::KeyboardModifiers;
 use keyboard_rule::EventQueue;
 use keyboard_rule::Handled;
-use keyboard_rule::HandlerAnswer;
 use keyboard_rule::KeyboardHandler;
 use keyboard_rule::KeyboardState;
 use keyboard_rule::Taken;
@@ -150,17 +149,6 @@ fn record_number(handler: KeyboardHandler) -> u64 {
     bit(handler.keyboard.prefix) + 2 * handler.keyboard.modifiers.bits as u64 + 131072 * count
 }
 
-fn answer_number(answer: HandlerAnswer) -> u8 {
-    match answer {
-        HandlerAnswer::Done => 0,
-        HandlerAnswer::NoScriptByte => 2,
-        HandlerAnswer::NoLogRoom => 3,
-        HandlerAnswer::UnknownScancode => 19,
-        HandlerAnswer::QueueFull => 20,
-        HandlerAnswer::MalformedRecord => 21,
-    }
-}
-
 // The bytes used after a handler call: a run ends at the first 2, 3 or 21.
 fn used_after(number: u8, before: usize, used: usize) -> usize {
     match number {
@@ -174,7 +162,7 @@ fn used_after(number: u8, before: usize, used: usize) -> usize {
 // What a handler call leaves; `left` is 1 where a lamp exchange failed.
 fn handled(done: Handled, before: usize) -> Turn {
     let answer = done.answer;
-    let number = answer_number(answer);
+    let number = answer.number();
     let handler = done.handler;
     let used = used_after(number, before, done.used);
     Turn {
@@ -263,7 +251,7 @@ fn run_left(handler: KeyboardHandler, used: usize) -> Turn {
     }
 }
 
-// A turn of an instruction on a record: 31 adds an event, 32 makes the run without answers, 33 and 34 are handler calls, 35 and 36 takings, 37 answers the record. The others do nothing.
+// A turn of an instruction on a record: 31 adds an event, 33 and 34 are handler calls, 35 and 36 takings, 37 answers the record. The others do nothing.
 pub fn run_turn(
     i: Instruction,
     handler: KeyboardHandler,
@@ -274,68 +262,11 @@ pub fn run_turn(
     let op = i.op;
     match op {
         31 => add_event(i, handler, used),
-        32 => run_times(i, handler, script, log),
         33..=34 => run_handle(op, handler, used, script, log),
         35..=36 => run_take(op, handler, used),
         37 => run_left(handler, used),
         _ => silent(handler, used),
     }
-}
-
-// What repeated calls leave, and how much of the script is used.
-struct Quiet {
-    handler: KeyboardHandler,
-    used: usize,
-}
-
-// What a handler call leaves, after a taking where `takes` says so.
-fn quieted(done: Handled, before: usize, takes: bool) -> Quiet {
-    let used = plus(before, done.used);
-    let handler = done.handler;
-    if !takes {
-        return Quiet { handler, used };
-    }
-    let t = take_event(handler);
-    let left = t.handler;
-    Quiet {
-        handler: left,
-        used,
-    }
-}
-
-// A handler call that answers nothing, and a taking where `takes` says so.
-fn quiet_turn(quiet: Quiet, takes: bool, script: &[u8], log: &mut [u8]) -> Quiet {
-    let used = quiet.used;
-    if script.len() <= used {
-        return quiet;
-    }
-    quieted(handle(quiet.handler, &script[used..], log), used, takes)
-}
-
-// Handler calls until the script is used, with nothing answered; answers how much was used.
-fn run_quietly(handler: KeyboardHandler, takes: bool, script: &[u8], log: &mut [u8]) -> usize {
-    let mut quiet = Quiet { handler, used: 0 };
-    let mut i = 0;
-    while i < script.len() {
-        if script.len() <= quiet.used {
-            return quiet.used;
-        }
-        let next = quiet_turn(quiet, takes, script, log);
-        quiet = next;
-        i += 1;
-    }
-    quiet.used
-}
-
-// The run so many times from its record, which stays, with nothing answered, for measuring.
-fn run_times(i: Instruction, handler: KeyboardHandler, script: &[u8], log: &mut [u8]) -> Turn {
-    let mut used = 0;
-    let mut n = 0;
-    while n < i.times {
-        used = run_quietly(handler, i.argument == 1, script, log);
-        n += 1;
-    }
-    silent(handler, 0)
 }
 
 // Keyboard initialisation; the value is the record that it gives.

@@ -153,20 +153,37 @@ pub fn bench(port: &str, tablekeys: &str, rounds: usize) -> io::Result<ExitCode>
     let own = std::env::current_exe()?;
     let own = own.to_str().expect("a path in UTF-8");
     let one = |line: &str| vec![line.to_string()];
-    let plain = one("handle script=1E9E*50 log=16 plan=each");
-    let locks = one("handle script=3A0001FA0001FA*100 log=16 plan=each");
+    println!("{:<44} {:>12} {:>12} {:>8} {:>8} {:>8}", "", "Rust, ns", "port, ns", "ratio", "least", "most");
+
+    // Handler calls have a program of their own: rows of calls from a fresh record on, with nothing taken.
+    let program = Path::new(own).with_file_name("calls");
+    let program = program.to_str().expect("a path in UTF-8");
+    let (key, lock) = ("1E", "3A0001FA0001FA");
+    let rows = [
+        ("handler call, plain key, by value", "value", key),
+        ("handler call, plain key, in place", "place", key),
+        ("lock with its lamp exchange, by value", "value", lock),
+        ("lock with its lamp exchange, in place", "place", lock),
+    ];
+    for (name, way, script) in rows {
+        let in_a_row = |times| Ok(format!("handle script={script}*100 log=16 plan=auto repeat={times}\n").into_bytes());
+        let input = |times| Ok(format!("{way} {script} 100 {times}\n").into_bytes());
+        let rust = Side { program: &[own, "replay"], input: &in_a_row, error: &line_error };
+        let port = Side { program: &[program], input: &input, error: &|_| None };
+        let times = rust.enough()?;
+        if let Err(why) = measure(name, 100.0, times, rounds, &rust, &port) {
+            println!("{name:<44} not measured: {why}");
+        }
+    }
+
     let silent = one(&silent_device());
     let init = one("init script=0333551D001D001C1DFAAA1C3DFAAA0003 log=64");
     let characters = every_character();
     let rows = [
-        ("handler call and taking, plain key, by value", 100, &plain),
-        ("lock with its lamp exchange, and taking", 100, &locks),
         ("silent device, 525,300 reads", 1, &silent),
         ("init", 1, &init),
         ("to_ascii, all keys and flags", characters.len(), &characters),
     ];
-
-    println!("{:<44} {:>12} {:>12} {:>8} {:>8} {:>8}", "", "Rust, ns", "port, ns", "ratio", "least", "most");
     for (name, calls, lines) in rows {
         let repeated =
             |times| Ok(lines.iter().flat_map(|line| format!("{line} repeat={times}\n").into_bytes()).collect());
@@ -179,22 +196,6 @@ pub fn bench(port: &str, tablekeys: &str, rounds: usize) -> io::Result<ExitCode>
         };
         let times = rust.enough()?;
         if let Err(why) = measure(name, calls as f64, times, rounds, &rust, &port) {
-            println!("{name:<44} not measured: {why}");
-        }
-    }
-
-    // The calls in place have a program of their own: rows of calls from a fresh record on, with nothing taken.
-    let in_place = Path::new(own).with_file_name("in_place");
-    let in_place = in_place.to_str().expect("a path in UTF-8");
-    let lock = "3A0001FA0001FA";
-    for (name, script) in [("handler call, plain key, in place", "1E"), ("lock with its lamp exchange, in place", lock)]
-    {
-        let in_a_row = |times| Ok(format!("handle script={script}*100 log=16 plan=auto repeat={times}\n").into_bytes());
-        let input = |times| Ok(format!("{script} 100 {times}\n").into_bytes());
-        let rust = Side { program: &[own, "replay"], input: &in_a_row, error: &line_error };
-        let port = Side { program: &[in_place], input: &input, error: &|_| None };
-        let times = rust.enough()?;
-        if let Err(why) = measure(name, 100.0, times, rounds, &rust, &port) {
             println!("{name:<44} not measured: {why}");
         }
     }

@@ -197,7 +197,7 @@ fn parse_op(name: &str, args: &[&str], state: Option<&str>, plan: Option<&str>) 
         "read_mouse_packet" => count(0).and_then(|()| mouse(M::ReadPacket)),
         "keyboard_init" => none(Op::KeyboardInit),
         // The Rust has one handler; the port has also an entry that changes the record in place.
-        "handle" | "handle_in_place" => none(Op::Handle(parse_handler(state)?, parse_plan(plan.unwrap_or("auto"))?)),
+        "handle" => none(Op::Handle(parse_handler(state)?, parse_plan(plan.unwrap_or("auto"))?)),
         "to_ascii" => {
             count(2)?;
             let keycode = hex(args[0], 2)? as u8;

@@ -14,7 +14,6 @@ const PART: u8 = 0;
 const TO_ASCII: u8 = 29;
 const RECORD: u8 = 30;
 const EVENT: u8 = 31;
-const RUNS: u8 = 32;
 const HANDLE: u8 = 33;
 const UNTIL_USED: u8 = 34;
 const TAKE: u8 = 35;
@@ -98,6 +97,9 @@ pub fn put_call(call: &Call, out: &mut Vec<u8>) -> Result<(), String> {
     if !matches!(call.op, Op::ToAscii(..)) {
         put_script(&call.script, out);
     }
+    if call.repeat > 1 && matches!(call.op, Op::Handle(..)) {
+        return Err("the port's program repeats no run".to_string());
+    }
     if let Op::Handle(handler, plan) = &call.op {
         put_run(call, handler, plan, out);
     } else {
@@ -129,15 +131,11 @@ fn put_script(script: &[u8], out: &mut Vec<u8>) {
 
 fn put_run(call: &Call, handler: &Handler, plan: &[Step], out: &mut Vec<u8>) {
     let bytes = call.script.len();
-    let (ext, takes) = (handler.ext as u8, (plan == [Step::Each]) as u8);
     let mut put = |op, argument, state, room, times| Instruction { op, argument, state, room, times }.put(out);
-    put(RECORD, ext, handler.flags, call.room, 1);
+    put(RECORD, handler.ext as u8, handler.flags, call.room, 1);
     for alike in handler.queue.chunk_by(|a, b| a == b) {
         let KeyEvent { keycode, released, flags } = alike[0];
         put(EVENT, keycode, flags, released as usize, alike.len());
-    }
-    if call.repeat > 1 {
-        put(RUNS, takes, 0, 0, call.repeat as usize - 1);
     }
     for step in plan {
         match *step {
