@@ -1,18 +1,21 @@
 // The code of the handler call and of the taking from the queue: Theseus's `keyboard`.
 ghost use mathlib.Core.Bool.{true};
 ghost use mathlib.Core.Path.{_≡_};
-ghost use Rattle.keyboard_rule.specs.Strokes.{stroke, isPrefix, lowPart};
-ghost use Rattle.keyboard_rule.specs.FlagTable.{flagTable, isLockPress};
-ghost use Rattle.keyboard_rule.specs.FlagsAfter.{flagsAfter};
-ghost use Rattle.keyboard_rule.specs.Lamps.{lampsLit};
+ghost use Rattle.keyboard_rule.specs.Strokes.{lowPart};
+ghost use Rattle.keyboard_rule.specs.FlagTable.{isLockPress};
 ghost use Rattle.keyboard_rule.specs.KeyboardLamps.{keyboardLamps};
 ghost use Rattle.keyboard_rule.specs.Events.{keycodeAt, eventOf};
 ghost use Rattle.keyboard_rule.specs.Record.{wellFormed};
 ghost use Rattle.keyboard_rule.specs.Taking.{taken};
-ghost use Rattle.keyboard_rule.specs.Handler.{isSilent, queued, onByte, handled, logLeft};
+ghost use Rattle.keyboard_rule.specs.Handler.{queued, onByte, handled, logLeft};
 ghost use Rattle.keyboard_rule.specs.Outcomes.{handledOf, handledBy, onKey};
 ghost use Rattle.keyboard.specs.Effects.{handledWith};
 ghost use Rattle.exchange.specs.Exchange.{play};
+use keyboard_bytes::is_lock_press;
+use keyboard_bytes::is_prefix;
+use keyboard_bytes::is_silent;
+use keyboard_bytes::leds;
+use keyboard_bytes::modifiers_after;
 use keyboard_modifiers::KeyboardModifiers;
 use keyboard_rule::EventQueue;
 use keyboard_rule::Handled;
@@ -29,7 +32,6 @@ use keycodes_ascii::Keycode;
 use ps2_command::CommandAnswer;
 use ps2_keyboard::read_scancode;
 use ps2_keyboard::set_keyboard_led;
-use ps2_layouts::LEDState;
 use ps2_ports::ByteAnswer;
 use ps2_ports::Refusal;
 
@@ -103,36 +105,6 @@ pub fn take_event(handler: KeyboardHandler) -> Taken
     }
 }
 
-// The flags just after a scancode. A lock goes over at its press; a prefix directly before tells right Control from left.
-fn modifiers_after(keyboard: KeyboardState, scan_code: u8) -> KeyboardModifiers
-    ensures { λ r. ⌜ r .bits ≡ flagsAfter flagTable (stroke «scan_code» (keyboard .prefix)) (keyboard .modifiers .bits) ⌝ }
-{
-    let modifiers = keyboard.modifiers;
-    let control = if keyboard.prefix {
-        KeyboardModifiers::CONTROL_RIGHT
-    } else {
-        KeyboardModifiers::CONTROL_LEFT
-    };
-    match scan_code {
-        0x1D => modifiers.insert(control),
-        0x38 => modifiers.insert(KeyboardModifiers::ALT),
-        0x2A => modifiers.insert(KeyboardModifiers::SHIFT_LEFT),
-        0x36 => modifiers.insert(KeyboardModifiers::SHIFT_RIGHT),
-        0x5B => modifiers.insert(KeyboardModifiers::SUPER_KEY_LEFT),
-        0x5C => modifiers.insert(KeyboardModifiers::SUPER_KEY_RIGHT),
-        0x9D => modifiers.remove(control),
-        0xB8 => modifiers.remove(KeyboardModifiers::ALT),
-        0xAA => modifiers.remove(KeyboardModifiers::SHIFT_LEFT),
-        0xB6 => modifiers.remove(KeyboardModifiers::SHIFT_RIGHT),
-        0xDB => modifiers.remove(KeyboardModifiers::SUPER_KEY_LEFT),
-        0xDC => modifiers.remove(KeyboardModifiers::SUPER_KEY_RIGHT),
-        0x3A => modifiers.toggle(KeyboardModifiers::CAPS_LOCK),
-        0x46 => modifiers.toggle(KeyboardModifiers::SCROLL_LOCK),
-        0x45 => modifiers.toggle(KeyboardModifiers::NUM_LOCK),
-        _ => modifiers,
-    }
-}
-
 // The event of a scancode whose low part is this keycode's number.
 fn event_of(keycode: Keycode, scan_code: u8, modifiers: KeyboardModifiers) -> KeyEvent
     requires { ⌜ keycodeAt (lowPart «scan_code») ≡ keycode ⌝ }
@@ -195,51 +167,6 @@ fn queue_event(
             keyboard,
             event: NewEvent::Nothing,
         },
-    }
-}
-
-// The lamps of the locks that are on.
-fn leds(modifiers: KeyboardModifiers) -> LEDState
-    ensures { λ r. ⌜ r .bits ≡ lampsLit (modifiers .bits) ⌝ }
-{
-    LEDState::new()
-        .with_scroll_lock(modifiers.is_scroll_lock())
-        .with_number_lock(modifiers.is_num_lock())
-        .with_caps_lock(modifiers.is_caps_lock())
-}
-
-// E0 and E1 say that the next byte belongs to an extended key.
-fn is_prefix(scan_code: u8) -> bool
-    ensures { λ r. ⌜ r ≡ isPrefix «scan_code» ⌝ }
-{
-    if scan_code == 0xE0 {
-        return true;
-    }
-    scan_code == 0xE1
-}
-
-// The prefixes, 00 (an error of the port) and FA (an acknowledgement) are no key's.
-fn is_silent(scan_code: u8) -> bool
-    ensures { λ r. ⌜ r ≡ isSilent «scan_code» ⌝ }
-{
-    if is_prefix(scan_code) {
-        return true;
-    }
-    if scan_code == 0x00 {
-        return true;
-    }
-    scan_code == 0xFA
-}
-
-// The press of Caps Lock, Num Lock or Scroll Lock.
-fn is_lock_press(scan_code: u8) -> bool
-    ensures { λ r. ⌜ r ≡ isLockPress «scan_code» ⌝ }
-{
-    match scan_code {
-        0x3A => true,
-        0x45 => true,
-        0x46 => true,
-        _ => false,
     }
 }
 

@@ -16,7 +16,7 @@ use Rattle.exchange.specs.Exchange.{Exchange, play}
 use Rattle.exchange.specs.Answer.{Answer}
 use Rattle.keycodes_ascii.specs.declared.Keycode.{Keycode}
 use Rattle.keycodes_ascii.specs.Keycode.{numberOf, keycodeOf, numbered, keycodes}
-use Rattle.keycodes_ascii.specs.Set1.{releaseOf}
+use Rattle.scancode_set1.specs.Set1.{releaseOf}
 use Rattle.keyboard_rule.specs.Past.{Past, nothing, _▸_, onto}
 use Rattle.keyboard_rule.specs.Strokes.{stroke, lowPart, isPress, prefixSaid, strokes}
 use Rattle.keyboard_rule.specs.FlagTable.{Kind, lock, held, left, right, FlagRow, flagRow, flagTable, isOf, has, isLockPress}

@@ -7,7 +7,7 @@ use Prim.Native.Nat.{ℕ, suc, _<_}
 use lib.Dec.{eqb}
 use lib.ListN.{getD}
 use Rattle.bits.specs.Bits.{odd}
-use Rattle.keycodes_ascii.specs.Set1.{releaseOf}
+use Rattle.scancode_set1.specs.Set1.{releaseOf}
 use Rattle.keyboard_rule.specs.Past.{Past, nothing, _▸_, onto}
 use Rattle.keyboard_rule.specs.Strokes.{prefixSaid}
 use Rattle.keyboard_rule.specs.FlagTable.{Kind, lock, held, left, right}

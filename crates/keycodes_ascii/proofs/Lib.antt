@@ -1,4 +1,3 @@
 -- Laws of keycodes and characters.
 pub mod Codes
-pub mod Set1
 pub mod Chars

@@ -1,4 +1,3 @@
--- Keycodes, their set 1 codes and the characters.
+-- Keycodes and the characters.
 pub mod Keycode
-pub mod Set1
 pub mod Characters

@@ -1,10 +1,10 @@
--- `keyboard::is_silent` meets its contract.
+-- `keyboard_bytes::is_silent` meets its contract.
 -- Assumes nothing.
 use borrow.Author.Needs.{needs}
 use mathlib.Core.Path.{sym, _∙_}
 use borrow.Author.Tests.{eq-eqb, ne-eqb}
-use Rattle.keyboard.proofs.is_silent.Statement.{statement}
-use Rattle.keyboard.proofs.is_silent.Tie as tie
+use Rattle.keyboard_bytes.proofs.is_silent.Statement.{statement}
+use Rattle.keyboard_bytes.proofs.is_silent.Tie as tie
 
 returns : tie.Need-returns
 returns c = rw (sym (c .before .is-prefix .ensures) ∙ c .if1 .taken)

@@ -9,12 +9,12 @@ use lib.Dec.{T, eqb}
 use lib.Text.{eqt}
 use Rattle.bits.specs.Table.{listed}
 use Rattle.bits.proofs.Every.{each}
 use Rattle.keycodes_ascii.specs.declared.FoundKeycode.{FoundKeycode}
 use Rattle.keycodes_ascii.specs.declared.FoundKeycode.the-variants.{Found, Unknown}
 use Rattle.keycodes_ascii.specs.declared.Keycode.{Keycode}
 use Rattle.keycodes_ascii.specs.Keycode.{numberOf, keycodes, numbered, keycodeOf}
-use Rattle.keycodes_ascii.specs.Set1.{set1, set1AfterE0, releaseOf, Listed, key, keyAfterE0, releaseOfKey, releaseOfKeyAfterE0, notListed, listedAs, unlisted}
+use Rattle.scancode_set1.specs.Set1.{set1, set1AfterE0, releaseOf, Listed, key, keyAfterE0, releaseOfKey, releaseOfKeyAfterE0, notListed, listedAs, unlisted}
 use Rattle.keycodes_ascii.proofs.Codes.{every-keycode}
 
 -- whether a number is in neither table
 unfoldable pub nowhere : ℕ → Bool

@@ -1,11 +1,11 @@
--- `keyboard::is_lock_press` meets its contract: three bytes press a lock, and no other does.
+-- `keyboard_bytes::is_lock_press` meets its contract: three bytes press a lock, and no other does.
 -- Assumes nothing.
 use mathlib.Core.Path.{sym}
 use native.Mathlib.Omega.{arith}
 use Rattle.keyboard_rule.specs.FlagTable.{flagTable, isOf, pressesLock}
 use Rattle.keyboard_rule.proofs.Untouched.{no-lock}
-use Rattle.keyboard.proofs.is_lock_press.Statement.{statement}
-use Rattle.keyboard.proofs.is_lock_press.Tie as tie
+use Rattle.keyboard_bytes.proofs.is_lock_press.Statement.{statement}
+use Rattle.keyboard_bytes.proofs.is_lock_press.Tie as tie
 
 returns : tie.Need-returns
 unfolding flagTable isOf pressesLock

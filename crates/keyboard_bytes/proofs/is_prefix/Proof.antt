@@ -1,8 +1,8 @@
--- `keyboard::is_prefix` meets its contract.
+-- `keyboard_bytes::is_prefix` meets its contract.
 -- Assumes nothing.
 use borrow.Author.Tests.{eq-eqb, ne-eqb}
-use Rattle.keyboard.proofs.is_prefix.Statement.{statement}
-use Rattle.keyboard.proofs.is_prefix.Tie as tie
+use Rattle.keyboard_bytes.proofs.is_prefix.Statement.{statement}
+use Rattle.keyboard_bytes.proofs.is_prefix.Tie as tie
 
 returns : tie.Need-returns
 returns c = rw (eq-eqb _ 0xE0 (c .if1 .taken))

@@ -1,4 +1,4 @@
--- `keyboard::modifiers_after` meets its contract: each arm changes the flag of its byte's row of the table, and a byte of no row none.
+-- `keyboard_bytes::modifiers_after` meets its contract: each arm changes the flag of its byte's row of the table, and a byte of no row none.
 -- Assumes nothing.
 use borrow.Author.Needs.{needs}
 use mathlib.Core.Path.{_≡_, refl, sym, ap, _∙_}
@@ -11,8 +11,8 @@ use Rattle.bits.proofs.Masks.{bitwise-set, bitwise-clear, bitwise-flip}
 use Rattle.keyboard_rule.specs.FlagTable.{flagTable, isOf}
 use Rattle.keyboard_rule.specs.FlagsAfter.{flagsAfter}
 use Rattle.keyboard_rule.proofs.Untouched.{other-byte}
-use Rattle.keyboard.proofs.modifiers_after.Statement.{statement}
-use Rattle.keyboard.proofs.modifiers_after.Tie as tie
+use Rattle.keyboard_bytes.proofs.modifiers_after.Statement.{statement}
+use Rattle.keyboard_bytes.proofs.modifiers_after.Tie as tie
 
 returns : tie.Need-returns
 unfolding flagsAfter flagTable isOf

@@ -1,10 +1,10 @@
--- `keyboard::leds` meets its contract: each lamp is put as its lock's flag is.
+-- `keyboard_bytes::leds` meets its contract: each lamp is put as its lock's flag is.
 -- Assumes nothing.
 use borrow.Author.Needs.{needs}
 use Rattle.keyboard_rule.specs.Lamps.{lampsLit}
 use Rattle.keyboard_rule.proofs.LampBits.{lamps-put}
-use Rattle.keyboard.proofs.leds.Statement.{statement}
-use Rattle.keyboard.proofs.leds.Tie as tie
+use Rattle.keyboard_bytes.proofs.leds.Statement.{statement}
+use Rattle.keyboard_bytes.proofs.leds.Tie as tie
 
 returns : tie.Need-returns
 unfolding lampsLit

@@ -1,0 +1,2 @@
+-- The keycodes go by set 1.
+pub mod Set1

@@ -1,0 +1,2 @@
+-- Scan code set 1.
+pub mod Set1
