@@ -240,10 +240,12 @@ fn effect_of(handler: KeyboardHandler, script: &[u8], log: &mut [u8]) -> Effect
 {
     let keyboard = handler.keyboard;
     if !well_formed(handler) {
+        // This is asked before a byte is read.
+        let used = 0;
         return Effect {
             answer: HandlerAnswer::MalformedRecord,
             lamps_failed: false,
-            used: 0,
+            used,
             pairs: 0,
             keyboard,
             event: NewEvent::Nothing,

@@ -26,8 +26,8 @@ well c = sym (c .before .well-formed .ensures) ∙ not-false _ (c .if1 .left)
 sub-on-byte : tie.Need-sub-on-byte
 sub-on-byte c = reads-used-le (c .before .before .before .read-scancode .ensures)
 
-add-t20 : tie.Need-add-t20
-add-t20 c =
+add-t21 : tie.Need-add-t21
+add-t21 c =
     let o = c .before .before .before .before in
     let m = o .before .before .before .before in
     let r = m .before .before in
@@ -70,7 +70,7 @@ effect-of-spec =
     sub-on-byte
     (λ c. search needs)
     (λ c κs. search needs)
-    add-t20
+    add-t21
     (λ c. search needs)
     (λ c. search needs)
     returns-2
