@@ -24,10 +24,10 @@ use Rattle.keyboard_rule.specs.Record.{wellFormed}
 use Rattle.keyboard_rule.specs.Taking.{taken}
 use Rattle.keyboard_rule.proofs.Refused.{malformed-handled}
 use Rattle.keyboard_rule.proofs.Tests.{which}
-use Rattle.key_listing.specs.Buffer.{Place, put}
+use Rattle.buffer.specs.Buffer.{Place, put}
 use Rattle.key_listing.specs.Lines.{takenLine, refusalLine}
 use Rattle.key_listing.specs.Listing.{callOn, callText, recordAfter, callsText, listingFrom}
-use Rattle.key_listing.proofs.Buffer.{put-append}
+use Rattle.buffer.proofs.Buffer.{put-append}
 
 -- ---- the bytes that a call uses
 

@@ -1,5 +1,4 @@
--- Laws of texts in a buffer and of the listing.
-pub mod Buffer
+-- Laws of the listing.
 pub mod Calls
 pub mod Steps
 pub mod Listing

@@ -1,6 +1,5 @@
--- What the program tablekeys prints, and what a buffer holds of it.
+-- What the program tablekeys prints.
 pub mod Text
 pub mod Lines
 pub mod Listing
-pub mod Buffer
 pub mod Listed

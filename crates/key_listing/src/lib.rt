@@ -2,12 +2,14 @@
 ghost use mathlib.Core.Path.{_≡_};
 ghost use mathlib.Core.List.{[], _∷_};
 ghost use Prim.Native.Nat.{_<_};
-ghost use Rattle.keyboard_rule.specs.Answers.{answerNumber, ends2-3-21};
+ghost use Rattle.keyboard_rule.specs.Answers.{ends2-3-21};
 ghost use Rattle.keyboard_rule.specs.Record.{fresh};
 ghost use Rattle.key_listing.specs.Text.{digit as Text·digit, digits, decimal};
 ghost use Rattle.key_listing.specs.Lines.{actionText, characterText, eventLine, takenLine, refusalLine};
 ghost use Rattle.key_listing.specs.Listing.{callOn, callText, recordAfter, listingFrom, listing};
-ghost use Rattle.key_listing.specs.Buffer.{Holds, place, put as Buffer·put};
+ghost use Rattle.buffer.specs.Buffer.{Holds, place, put};
+use buffer::put_byte;
+use buffer::put_text;
 use keyboard::handle;
 use keyboard::take_event;
 use keyboard_rule::HandlerAnswer;
@@ -40,7 +42,7 @@ pub fn list_keys(script: &[u8], out: &mut [u8]) -> usize
 
 // The same of a script that is used to its end.
 fn list_calls(script: &[u8], out: &mut [u8]) -> usize
-    ensures { λ r. ⌜ place r (now (out .exit)) ≡ Buffer·put (listingFrom fresh (now (script .entry))) (place 0 (now (out .entry))) ⌝ }
+    ensures { λ r. ⌜ place r (now (out .exit)) ≡ put (listingFrom fresh (now (script .entry))) (place 0 (now (out .entry))) ⌝ }
 {
     let mut handler = KeyboardHandler::fresh();
     let mut used: usize = 0;
@@ -60,7 +62,7 @@ fn list_calls(script: &[u8], out: &mut [u8]) -> usize
 
 // One handler call on what is left of the script, and the taking after it. What they print is put into `out` from `at` on.
 fn call_once(handler: KeyboardHandler, script: &[u8], out: &mut [u8], at: usize) -> Called
-    ensures { λ r. ⌜ (r .«is_last» ≡ ends2-3-21 (callOn handler (now (script .entry)) .answer)) × (r .used ≡ callOn handler (now (script .entry)) .used) × (r .handler ≡ recordAfter handler (now (script .entry))) × (place (r .at) (now (out .exit)) ≡ Buffer·put (callText handler (now (script .entry))) (place at (now (out .entry)))) ⌝ }
+    ensures { λ r. ⌜ (r .«is_last» ≡ ends2-3-21 (callOn handler (now (script .entry)) .answer)) × (r .used ≡ callOn handler (now (script .entry)) .used) × (r .handler ≡ recordAfter handler (now (script .entry))) × (place (r .at) (now (out .exit)) ≡ put (callText handler (now (script .entry))) (place at (now (out .entry)))) ⌝ }
 {
     let mut log = [0u8; 16];
     let call = handle(handler, script, &mut log);
@@ -95,36 +97,22 @@ fn is_last(answer: HandlerAnswer) -> bool
     }
 }
 
-// The number of an answer; 0 is no refusal.
-fn answer_number(answer: HandlerAnswer) -> u16
-    ensures { λ r. ⌜ r ≡ answerNumber answer ⌝ }
-{
-    match answer {
-        HandlerAnswer::Done => 0,
-        HandlerAnswer::NoScriptByte => 2,
-        HandlerAnswer::NoLogRoom => 3,
-        HandlerAnswer::UnknownScancode => 19,
-        HandlerAnswer::QueueFull => 20,
-        HandlerAnswer::MalformedRecord => 21,
-    }
-}
-
 // Puts the number of a refusal; an answer that is none puts nothing.
 fn put_refusal(out: &mut [u8], at: usize, answer: HandlerAnswer) -> usize
-    ensures { λ r. ⌜ place r (now (out .exit)) ≡ Buffer·put (refusalLine answer) (place at (now (out .entry))) ⌝ }
+    ensures { λ r. ⌜ place r (now (out .exit)) ≡ put (refusalLine answer) (place at (now (out .entry))) ⌝ }
 {
-    let number = answer_number(answer);
+    let number = answer.number();
     if number == 0 {
         return at;
     }
     let word = put_text(out, at, b"refused ");
-    let digits = put_decimal(out, word, number);
-    put(out, digits, b'\n')
+    let digits = put_decimal(out, word, widened(number));
+    put_byte(out, digits, b'\n')
 }
 
 // Puts the line of an event that was taken; where none was, nothing.
 fn put_taken(out: &mut [u8], at: usize, event: TakenEvent) -> usize
-    ensures { λ r. ⌜ place r (now (out .exit)) ≡ Buffer·put (takenLine event) (place at (now (out .entry))) ⌝ }
+    ensures { λ r. ⌜ place r (now (out .exit)) ≡ put (takenLine event) (place at (now (out .entry))) ⌝ }
 {
     match event {
         TakenEvent::Event(e) => put_event(out, at, e),
@@ -135,38 +123,38 @@ fn put_taken(out: &mut [u8], at: usize, event: TakenEvent) -> usize
 
 // Puts the line of an event: keycode, P or R, flags, character.
 fn put_event(out: &mut [u8], at: usize, event: KeyEvent) -> usize
-    ensures { λ r. ⌜ place r (now (out .exit)) ≡ Buffer·put (eventLine event) (place at (now (out .entry))) ⌝ }
+    ensures { λ r. ⌜ place r (now (out .exit)) ≡ put (eventLine event) (place at (now (out .entry))) ⌝ }
 {
     let keycode = event.keycode;
     let action = event.action;
     let modifiers = event.modifiers;
     let code = put_two_digits(out, at, keycode.to_byte());
-    let space = put(out, code, b' ');
+    let space = put_byte(out, code, b' ');
     let letter = put_action(out, space, action);
-    let space2 = put(out, letter, b' ');
+    let space2 = put_byte(out, letter, b' ');
     let flags = put_three_digits(out, space2, modifiers.bits);
-    let space3 = put(out, flags, b' ');
+    let space3 = put_byte(out, flags, b' ');
     let character = put_character(out, space3, keycode.to_ascii(modifiers));
-    put(out, character, b'\n')
+    put_byte(out, character, b'\n')
 }
 
 // Puts P for a press, R for a release.
 fn put_action(out: &mut [u8], at: usize, action: KeyAction) -> usize
-    ensures { λ r. ⌜ place r (now (out .exit)) ≡ Buffer·put (actionText action) (place at (now (out .entry))) ⌝ }
+    ensures { λ r. ⌜ place r (now (out .exit)) ≡ put (actionText action) (place at (now (out .entry))) ⌝ }
 {
     match action {
-        KeyAction::Pressed => put(out, at, b'P'),
-        KeyAction::Released => put(out, at, b'R'),
+        KeyAction::Pressed => put_byte(out, at, b'P'),
+        KeyAction::Released => put_byte(out, at, b'R'),
     }
 }
 
 // Puts a character's number in decimal, or - where there is none.
 fn put_character(out: &mut [u8], at: usize, character: Character) -> usize
-    ensures { λ r. ⌜ place r (now (out .exit)) ≡ Buffer·put (characterText character) (place at (now (out .entry))) ⌝ }
+    ensures { λ r. ⌜ place r (now (out .exit)) ≡ put (characterText character) (place at (now (out .entry))) ⌝ }
 {
     match character {
         Character::Ascii(c) => put_decimal(out, at, widened(c)),
-        Character::Absent => put(out, at, b'-'),
+        Character::Absent => put_byte(out, at, b'-'),
     }
 }
 
@@ -178,7 +166,7 @@ fn widened(byte: u8) -> u16
 
 // Puts a number below 1000 in decimal.
 fn put_decimal(out: &mut [u8], at: usize, n: u16) -> usize
-    ensures { λ r. ⌜ place r (now (out .exit)) ≡ Buffer·put (decimal n) (place at (now (out .entry))) ⌝ }
+    ensures { λ r. ⌜ place r (now (out .exit)) ≡ put (decimal n) (place at (now (out .entry))) ⌝ }
 {
     if n < 10 {
         return put_digit(out, at, n % 10);
@@ -194,7 +182,7 @@ fn put_decimal(out: &mut [u8], at: usize, n: u16) -> usize
 
 // Puts a byte as two hexadecimal digits.
 fn put_two_digits(out: &mut [u8], at: usize, byte: u8) -> usize
-    ensures { λ r. ⌜ place r (now (out .exit)) ≡ Buffer·put (digits 16 2 byte) (place at (now (out .entry))) ⌝ }
+    ensures { λ r. ⌜ place r (now (out .exit)) ≡ put (digits 16 2 byte) (place at (now (out .entry))) ⌝ }
 {
     let n = byte as u16;
     let high = put_digit(out, at, n / 16 % 16);
@@ -203,7 +191,7 @@ fn put_two_digits(out: &mut [u8], at: usize, byte: u8) -> usize
 
 // Puts the last three hexadecimal digits of a word.
 fn put_three_digits(out: &mut [u8], at: usize, n: u16) -> usize
-    ensures { λ r. ⌜ place r (now (out .exit)) ≡ Buffer·put (digits 16 3 n) (place at (now (out .entry))) ⌝ }
+    ensures { λ r. ⌜ place r (now (out .exit)) ≡ put (digits 16 3 n) (place at (now (out .entry))) ⌝ }
 {
     let first = put_digit(out, at, n / 16 / 16 % 16);
     let second = put_digit(out, first, n / 16 % 16);
@@ -213,34 +201,10 @@ fn put_three_digits(out: &mut [u8], at: usize, n: u16) -> usize
 // Puts a digit: 0 to 9, then A to F.
 fn put_digit(out: &mut [u8], at: usize, d: u16) -> usize
     requires { ⌜ d < 16 ⌝ }
-    ensures { λ r. ⌜ place r (now (out .exit)) ≡ Buffer·put (Text·digit d ∷ []) (place at (now (out .entry))) ⌝ }
+    ensures { λ r. ⌜ place r (now (out .exit)) ≡ put (Text·digit d ∷ []) (place at (now (out .entry))) ⌝ }
 {
     if d < 10 {
-        return put(out, at, b'0' + d as u8);
+        return put_byte(out, at, b'0' + d as u8);
     }
-    put(out, at, b'A' + (d - 10) as u8)
-}
-
-// Puts the bytes of a text, one after another.
-fn put_text(out: &mut [u8], at: usize, text: &[u8]) -> usize
-    ensures { λ r. ⌜ place r (now (out .exit)) ≡ Buffer·put (now (text .entry)) (place at (now (out .entry))) ⌝ }
-{
-    let mut next = at;
-    let mut i: usize = 0;
-    while i < text.len() {
-        next = put(out, next, text[i]);
-        i += 1;
-    }
-    next
-}
-
-// Puts a byte at a place, where there is such a place, and answers the next one.
-fn put(out: &mut [u8], at: usize, byte: u8) -> usize
-    ensures { λ r. ⌜ place r (now (out .exit)) ≡ Buffer·put (byte ∷ []) (place at (now (out .entry))) ⌝ }
-{
-    if at < out.len() {
-        out[at] = byte;
-        return at + 1;
-    }
-    at
+    put_byte(out, at, b'A' + (d - 10) as u8)
 }

@@ -7,7 +7,7 @@ use Rattle.keyboard_rule.specs.declared.Taken.{Taken}
 use Rattle.keyboard_rule.specs.Answers.{ends2-3-21}
 use Rattle.keyboard_rule.specs.Taking.{taken}
 use Rattle.key_listing.specs.Listing.{recordAfter}
-use Rattle.key_listing.proofs.Buffer.{put-then}
+use Rattle.buffer.proofs.Buffer.{put-then}
 use Rattle.key_listing.proofs.Calls.{call-text}
 use Rattle.key_listing.proofs.call_once.Statement.{statement}
 use Rattle.key_listing.proofs.call_once.Tie as tie

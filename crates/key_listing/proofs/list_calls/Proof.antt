@@ -6,9 +6,9 @@ use mathlib.Core.Path.{_≡_, refl, sym, _∙_}
 use Prim.Native.Nat.{_+_, _-_, _<_, _≤_}
 use lib.ListN.{length, drop, drop-of-length-le}
 use Rattle.keyboard_rule.specs.Record.{fresh}
-use Rattle.key_listing.specs.Buffer.{place, put}
+use Rattle.buffer.specs.Buffer.{place, put}
 use Rattle.key_listing.specs.Listing.{listingFrom}
-use Rattle.key_listing.proofs.Buffer.{put-none}
+use Rattle.buffer.proofs.Buffer.{put-none}
 use Rattle.key_listing.proofs.Calls.{calls-over, turn-used, turn-last, turn-more}
 use Rattle.key_listing.proofs.list_calls.Statement.{statement}
 use Rattle.key_listing.proofs.list_calls.Tie as tie

@@ -5,7 +5,7 @@ use mathlib.Core.Path.{sym}
 use native.Mathlib.Nat.{le-of-lt}
 use lib.Seq.{take-all, length-take-le}
 use Rattle.key_listing.specs.Listing.{scriptLimit, listing}
-use Rattle.key_listing.proofs.Buffer.{put-holds}
+use Rattle.buffer.proofs.Buffer.{put-holds}
 use Rattle.key_listing.proofs.list_keys.Statement.{statement}
 use Rattle.key_listing.proofs.list_keys.Tie as tie
 

@@ -8,7 +8,7 @@ returns : tie.Need-returns
 returns c = rw (c .before .before .before .before .before .before .character .given .1, ← c .before .before .before .widened .ensures) (c .before .before .put-decimal .ensures)
 
 returns-2 : tie.Need-returns-2
-returns-2 c = rw (c .before .before .before .before .enum-told .given .1) (c .before .before .put .ensures)
+returns-2 c = rw (c .before .before .before .before .enum-told .given .1) (c .before .before .put-byte .ensures)
 
 pub put-character-spec : {M : Type 1} → statement M
 put-character-spec =

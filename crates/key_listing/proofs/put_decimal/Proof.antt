@@ -2,7 +2,7 @@
 -- Assumes nothing.
 use borrow.Author.Needs.{needs}
 use borrow.Author.Tests.{lt-ltb, le-ltb}
-use Rattle.key_listing.proofs.Buffer.{put-then}
+use Rattle.buffer.proofs.Buffer.{put-then}
 use Rattle.key_listing.specs.Text.{decimal}
 use Rattle.key_listing.proofs.put_decimal.Statement.{statement}
 use Rattle.key_listing.proofs.put_decimal.Tie as tie

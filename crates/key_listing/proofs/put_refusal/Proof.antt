@@ -5,25 +5,25 @@ use mathlib.Core.Path.{_≡_, sym, _∙_}
 use borrow.Author.Tests.{ne-eqb}
 use Rattle.keyboard_rule.specs.Answers.{answerNumber}
 use Rattle.key_listing.specs.Lines.{refusalLine}
-use Rattle.key_listing.proofs.Buffer.{put-none, put-then}
+use Rattle.buffer.proofs.Buffer.{put-none, put-then}
 use Rattle.key_listing.proofs.put_refusal.Statement.{statement}
 use Rattle.key_listing.proofs.put_refusal.Tie as tie
 
 returns : tie.Need-returns
 unfolding refusalLine
 returns c =
-    let z : answerNumber (c .before .before .before .args .answer) ≡ 0 = sym (c .before .answer-number .ensures) ∙ c .if1 .taken in
+    let z : answerNumber (c .before .before .before .args .answer) ≡ 0 = sym (c .before .number .ensures) ∙ c .if1 .taken in
     rw z (sym (put-none _))
 
 returns-2 : tie.Need-returns-2
 unfolding refusalLine
 returns-2 c =
     let digits = c .before .before .before .before .before .before in
-    let word = digits .before .before .before .before in
+    let word = digits .before .before .before .before .before in
     let test = word .before .before .before in
-    let number = test .before .answer-number .ensures in
-    rw (ne-eqb (answerNumber (test .before .before .before .args .answer)) 0 (λ z. test .if1 .left (number ∙ z)), ← number)
-    (put-then _ _ _ (put-then _ _ _ (word .put-text .ensures) (digits .put-decimal .ensures)) (c .before .before .put .ensures))
+    let number = test .before .number .ensures in
+    rw (ne-eqb (answerNumber (test .before .before .before .args .answer)) 0 (λ z. test .if1 .left (number ∙ z)), ← number, ← digits .before .widened .ensures)
+    (put-then _ _ _ (put-then _ _ _ (word .put-text .ensures) (digits .put-decimal .ensures)) (c .before .before .put-byte .ensures))
 
 pub put-refusal-spec : {M : Type 1} → statement M
 put-refusal-spec =
@@ -32,6 +32,7 @@ put-refusal-spec =
     (λ c κs. search needs)
     returns
     (λ c. search needs)
+    (λ c κs. search needs)
     (λ c κs. search needs)
     (λ c κs. search needs)
     (λ c κs. search needs)

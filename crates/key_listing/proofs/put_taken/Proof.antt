@@ -2,7 +2,7 @@
 -- Assumes nothing.
 use borrow.Author.Needs.{needs}
 use mathlib.Core.Path.{sym}
-use Rattle.key_listing.proofs.Buffer.{put-none}
+use Rattle.buffer.proofs.Buffer.{put-none}
 use Rattle.key_listing.proofs.put_taken.Statement.{statement}
 use Rattle.key_listing.proofs.put_taken.Tie as tie
 

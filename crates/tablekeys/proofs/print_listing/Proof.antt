@@ -3,7 +3,7 @@
 use borrow.Author.Needs.{needs}
 use mathlib.Core.Path.{sym}
 use lib.Seq.{length-take-le}
-use Rattle.key_listing.proofs.Buffer.{holds-le}
+use Rattle.buffer.proofs.Buffer.{holds-le}
 use Rattle.tablekeys.proofs.print_listing.Statement.{statement}
 use Rattle.tablekeys.proofs.print_listing.Tie as tie
 

@@ -8,7 +8,7 @@ use native.Mathlib.Omega.{arith}
 use lib.ListN.{length, set, take, drop, length-append}
 use lib.Seq.{take-nil, set-append-seam}
 use borrow.Author.Tests.{lt-ltb, le-ltb}
-use Rattle.key_listing.specs.Buffer.{Holds, Place, place, putByte, put}
+use Rattle.buffer.specs.Buffer.{Holds, Place, place, putByte, put}
 
 -- ---- one text after another
 

@@ -1,4 +1,4 @@
--- `key_listing::put_text` meets its contract: what is left of the text, put at the next place, is the whole put at the first.
+-- `buffer::put_text` meets its contract: what is left of the text, put at the next place, is the whole put at the first.
 -- Assumes nothing.
 use borrow.Author.Needs.{needs}
 use native.Mathlib.Omega.{arith}
@@ -8,10 +8,10 @@ use mathlib.Core.Path.{_≡_, refl, ap, sym, _∙_}
 use Prim.Native.Nat.{_≤_, _-_}
 use lib.ListN.{length, drop, drop-of-length-le}
 use lib.Seq.{drop-cons}
-use Rattle.key_listing.specs.Buffer.{place, put}
-use Rattle.key_listing.proofs.Buffer.{put-none, put-append}
-use Rattle.key_listing.proofs.put_text.Statement.{statement}
-use Rattle.key_listing.proofs.put_text.Tie as tie
+use Rattle.buffer.specs.Buffer.{place, put}
+use Rattle.buffer.proofs.Buffer.{put-none, put-append}
+use Rattle.buffer.proofs.put_text.Statement.{statement}
+use Rattle.buffer.proofs.put_text.Tie as tie
 
 abbrev Inv-loop : tie.InvT-loop
 Inv-loop out₀ at text next₀ i₀ out next i =
@@ -31,7 +31,7 @@ loop-less c = omega arith
 
 loop-again : tie.Need-loop-again Inv-loop μ-loop
 loop-again c =
-    let p = c .before .before .put in
+    let p = c .before .before .put-byte in
     let test = c .before .before .before .before .before in
     let l = test .before .loop in
     let text = test .before .before .before .before .args .text .now in (

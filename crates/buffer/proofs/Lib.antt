@@ -1,0 +1,2 @@
+-- Laws of texts in a buffer.
+pub mod Buffer

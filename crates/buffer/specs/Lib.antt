@@ -1,0 +1,2 @@
+-- What a buffer holds of a text that is put into it.
+pub mod Buffer
