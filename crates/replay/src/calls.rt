@@ -1,5 +1,9 @@
 // One call of an operation on the ports, by numbers.
-use crate::runs::call_keyboard_init;
+use packed_calls::Instruction;
+use packed_calls::NO_CALL;
+use packed_calls::Outcome;
+use packed_calls::bit;
+use packed_calls::ending;
 use ps2_bytes::DeviceToHostResponse;
 use ps2_bytes::HostToDevice;
 use ps2_bytes::HostToKeyboardCommand;
@@ -57,51 +61,7 @@ use ps2_ports::read_config;
 use ps2_ports::write_config;
 ghost use Prim.Native.Nat.{_≤_};
 
-// An instruction: its operation, an argument, a state (the controller's bits or configuration, or flags), the log's room, and how often it is meant.
-pub struct Instruction {
-    pub op: u8,
-    pub argument: u8,
-    pub state: usize,
-    pub room: usize,
-    pub times: usize,
-}
-
-// How a call ended: the refusal's number, 0, 254 where there is nothing to answer, or 255 where the call can't be made; a byte of what it leaves; what it used and wrote; and its value.
-pub struct Outcome {
-    pub number: u8,
-    pub left: u8,
-    pub used: usize,
-    pub pairs: usize,
-    pub value: u64,
-}
-
-// An outcome that has no value and leaves nothing.
-pub fn ended(number: u8, used: usize, pairs: usize) -> Outcome {
-    Outcome {
-        number,
-        left: 0,
-        used,
-        pairs,
-        value: 0,
-    }
-}
-
-// The outcome of a call that can't be made: there is no such operation, or not with this argument.
-pub fn unknown() -> Outcome {
-    ended(255, 0, 0)
-}
-
-pub fn with_value(value: u64, used: usize, pairs: usize) -> Outcome {
-    Outcome {
-        number: 0,
-        left: 0,
-        used,
-        pairs,
-        value,
-    }
-}
-
-pub fn completion_number(answer: Completion) -> u8 {
+fn completion_number(answer: Completion) -> u8 {
     match answer {
         Completion::Done => 0,
         Completion::Refused(e) => e.number(),
@@ -117,22 +77,16 @@ fn command_number(answer: CommandAnswer) -> u8 {
 
 fn completed(c: Completed) -> Outcome {
     let answer = c.answer;
-    ended(completion_number(answer), c.used, c.pairs)
+    ending(completion_number(answer), c.used, c.pairs, 0)
 }
 
 fn commanded(c: Commanded) -> Outcome {
     let answer = c.answer;
-    ended(command_number(answer), c.used, c.pairs)
+    ending(command_number(answer), c.used, c.pairs, 0)
 }
 
 fn refused(refusal: Refusal, used: usize, pairs: usize) -> Outcome {
-    ended(refusal.number(), used, pairs)
-}
-
-pub fn bit(is_set: bool) -> u64
-    ensures { λ r. ⌜ r ≤ 1 ⌝ }
-{
-    if is_set { 1 } else { 0 }
+    ending(refusal.number(), used, pairs, 0)
 }
 
 // A controller's record by its bits: initialised, keyboard, mouse.
@@ -165,13 +119,13 @@ fn initialized(c: Initialized) -> Outcome {
 
 fn written(c: Written) -> Outcome {
     let answer = c.answer;
-    ended(completion_number(answer), 0, c.pairs)
+    ending(completion_number(answer), 0, c.pairs, 0)
 }
 
 fn config_read(c: ConfigRead) -> Outcome {
     let answer = c.answer;
     match answer {
-        ConfigAnswer::Config(config) => with_value(config.to_byte() as u64, c.used, c.pairs),
+        ConfigAnswer::Config(config) => ending(0, c.used, c.pairs, config.to_byte() as u64),
         ConfigAnswer::Refused(e) => refused(e, c.used, c.pairs),
     }
 }
@@ -192,7 +146,7 @@ fn response_byte(response: DeviceToHostResponse) -> u64 {
 fn received(c: Received) -> Outcome {
     let answer = c.answer;
     match answer {
-        ResponseAnswer::Response(response) => with_value(response_byte(response), c.used, 0),
+        ResponseAnswer::Response(response) => ending(0, c.used, 0, response_byte(response)),
         ResponseAnswer::Refused(e) => refused(e, c.used, 0),
     }
 }
@@ -200,7 +154,7 @@ fn received(c: Received) -> Outcome {
 fn set_asked(c: SetAsked) -> Outcome {
     let answer = c.answer;
     match answer {
-        SetAnswer::Set(set) => with_value(set.to_byte() as u64, c.used, c.pairs),
+        SetAnswer::Set(set) => ending(0, c.used, c.pairs, set.to_byte() as u64),
         SetAnswer::Refused(e) => refused(e, c.used, c.pairs),
     }
 }
@@ -216,7 +170,7 @@ fn type_number(kind: KeyboardType) -> u64 {
 fn detected(c: Detected) -> Outcome {
     let answer = c.answer;
     match answer {
-        TypeAnswer::Recognised(kind) => with_value(type_number(kind), c.used, c.pairs),
+        TypeAnswer::Recognised(kind) => ending(0, c.used, c.pairs, type_number(kind)),
         TypeAnswer::Refused(e) => refused(e, c.used, c.pairs),
     }
 }
@@ -224,7 +178,7 @@ fn detected(c: Detected) -> Outcome {
 fn identified(c: Identified) -> Outcome {
     let answer = c.answer;
     match answer {
-        IdAnswer::Id(id) => with_value(id.to_byte() as u64, c.used, c.pairs),
+        IdAnswer::Id(id) => ending(0, c.used, c.pairs, id.to_byte() as u64),
         IdAnswer::Refused(e) => refused(e, c.used, c.pairs),
     }
 }
@@ -281,7 +235,7 @@ fn packet_number(packet: MousePacket) -> u64 {
 fn packet_read(c: PacketRead) -> Outcome {
     let answer = c.answer;
     match answer {
-        PacketAnswer::Packet(packet) => with_value(packet_number(packet), c.used, 0),
+        PacketAnswer::Packet(packet) => ending(0, c.used, 0, packet_number(packet)),
         PacketAnswer::Refused(e) => refused(e, c.used, 0),
     }
 }
@@ -378,7 +332,7 @@ fn id_of(byte: u8) -> MouseId {
 
 // Whether there is such an operation and it takes such an argument. Those that take none have 0.
 fn is_known(op: u8, argument: u8) -> bool {
-    if 28 < op {
+    if 27 < op {
         return false;
     }
     if op < 12 {
@@ -443,13 +397,12 @@ fn ask(op: u8, state: usize, script: &[u8], log: &mut [u8]) -> Outcome {
     }
 }
 
-// The mouse's operations that need its identity, 26 and 27, and keyboard initialisation, 28.
-fn on_device(op: u8, id: MouseId, script: &[u8], log: &mut [u8]) -> Outcome {
+// The mouse's operations that need its identity, 26 and 27.
+fn on_mouse(op: u8, id: MouseId, script: &[u8], log: &mut [u8]) -> Outcome {
     let mouse = PS2Mouse { id };
     match op {
         26 => mouse_left(set_mouse_id(mouse, script, log)),
-        27 => packet_read(mouse.read_mouse_packet(script)),
-        _ => call_keyboard_init(script, log),
+        _ => packet_read(mouse.read_mouse_packet(script)),
     }
 }
 
@@ -464,13 +417,13 @@ fn call(i: Instruction, script: &[u8], log: &mut [u8]) -> Outcome {
     if i.op < 26 {
         return ask(i.op, i.state, script, log);
     }
-    on_device(i.op, id_of(i.argument), script, log)
+    on_mouse(i.op, id_of(i.argument), script, log)
 }
 
 // The call as often as the instruction tells, and the outcome of the last: more than once is for measuring.
 pub fn call_times(i: Instruction, script: &[u8], log: &mut [u8]) -> Outcome {
     if !is_known(i.op, i.argument) {
-        return unknown();
+        return ending(NO_CALL, 0, 0, 0);
     }
     let mut outcome = call(i, script, log);
     let mut n = 1;

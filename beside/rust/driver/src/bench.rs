@@ -3,7 +3,8 @@
 
 use crate::call::{self, Call, ALL_FLAGS, LAST_KEYCODE};
 use crate::device::Rng;
-use crate::packed::{put_call, read_answer};
+use crate::packed::{put_call, read_answer, Program};
+use crate::port::Paths;
 use std::fs::{self, File};
 use std::io;
 use std::path::Path;
@@ -129,7 +130,7 @@ fn entering(rounds: usize) -> f64 {
     median(&mut (0..rounds).map(round).collect::<Vec<f64>>())
 }
 
-/// Packed calls, for the port's program.
+/// Packed calls, for one of the port's programs.
 fn packed(calls: &[Call], times: u64) -> Result<Vec<u8>, String> {
     let mut out = Vec::new();
     for call in calls {
@@ -149,7 +150,7 @@ fn line_error(output: &[u8]) -> Option<String> {
     output.starts_with(b"error:").then(|| String::from_utf8_lossy(output).lines().next().unwrap().to_string())
 }
 
-pub fn bench(port: &str, tablekeys: &str, rounds: usize) -> io::Result<ExitCode> {
+pub fn bench(port: Paths, tablekeys: &str, rounds: usize) -> io::Result<ExitCode> {
     let own = std::env::current_exe()?;
     let own = own.to_str().expect("a path in UTF-8");
     let one = |line: &str| vec![line.to_string()];
@@ -190,7 +191,7 @@ pub fn bench(port: &str, tablekeys: &str, rounds: usize) -> io::Result<ExitCode>
         let parsed: Vec<Call> = lines.iter().map(|line| call::parse(line).expect("a good line")).collect();
         let rust = Side { program: &[own, "replay"], input: &repeated, error: &line_error };
         let port = Side {
-            program: &[port],
+            program: &[port[Program::of(&parsed[0].op) as usize]],
             input: &|times| packed(&parsed, times),
             error: &|output| packed_error(&parsed, output),
         };

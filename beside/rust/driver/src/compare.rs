@@ -1,4 +1,4 @@
-//! The same calls to the Rust and to the port's program, and their answers held side by side.
+//! The same calls to the Rust and to the port's programs, and their answers held side by side.
 
 use crate::answer::{Answer, Done};
 use crate::call;
@@ -6,8 +6,8 @@ use crate::call::{Call, Op};
 use crate::device::Rng;
 use crate::generate::{by_chance, kind_by_chance, sweep, Enough};
 use crate::oracle::Oracle;
-use crate::packed::{put_call, read_answer};
-use crate::port::Port;
+use crate::packed::{put_call, read_answer, Program};
+use crate::port::{self, Running};
 use std::collections::BTreeMap;
 use std::io::{self, BufRead, Read, Write};
 use std::process::ExitCode;
@@ -22,11 +22,11 @@ type Asked = (String, Op, Answer);
 /// How many calls have been found alike.
 static ALIKE: AtomicU64 = AtomicU64::new(0);
 
-/// Calls on their way: packed to the port's program, with the Rust's answers to the thread that compares.
+/// Calls on their way: packed to the port's programs, with the Rust's answers to the thread that compares.
 struct Sender {
-    to_port: SyncSender<Vec<u8>>,
+    to_port: [SyncSender<Vec<u8>>; 2],
     to_reader: SyncSender<Vec<Asked>>,
-    packed: Vec<u8>,
+    packed: [Vec<u8>; 2],
     batch: Vec<Asked>,
     calls: u64,
     wanted: u64,
@@ -43,7 +43,7 @@ impl Sender {
         // Both sides are called by what the line says.
         let line = call.line();
         let call = call::parse(&line).expect("a good line");
-        put_call(&call, &mut self.packed).expect("a call within the program's space");
+        put_call(&call, &mut self.packed[Program::of(&call.op) as usize]).expect("a call within the program's space");
         self.calls += 1;
         let answer = oracle.answer(&call);
         *self.kinds.entry(call.op.name()).or_default() += 1;
@@ -57,8 +57,10 @@ impl Sender {
     }
 
     fn flush(&mut self) -> Result<(), Enough> {
-        // A channel is closed only where the comparison has ended.
-        self.to_port.send(std::mem::take(&mut self.packed)).map_err(|_| Enough)?;
+        // A channel is closed only where the comparison has ended. A batch is read only once both programs have been sent their part of it.
+        for (to_port, packed) in self.to_port.iter().zip(&mut self.packed) {
+            to_port.send(std::mem::take(packed)).map_err(|_| Enough)?;
+        }
         self.to_reader.send(std::mem::take(&mut self.batch)).map_err(|_| Enough)
     }
 }
@@ -84,7 +86,7 @@ fn count_answers(answers: &mut BTreeMap<String, u64>, answer: &Answer) {
     }
 }
 
-/// Reads from the port's program, and changes a byte of the answers where that is asked for.
+/// Reads from one of the port's programs, and changes a byte of the answers where that is asked for.
 struct Damaging<R> {
     from: R,
     /// Whether the next bytes are to be changed.
@@ -114,27 +116,32 @@ fn differ(call: u64, (line, _, rust): &Asked, port: &str) -> ! {
 }
 
 /// Compares so many calls. The port's answer to call `damaged` is changed on its way, so that a comparison can be seen to find it.
-pub fn compare(port: &str, calls: u64, seed: u64, damaged: Option<u64>) -> io::Result<ExitCode> {
+pub fn compare(port: port::Paths, calls: u64, seed: u64, damaged: Option<u64>) -> io::Result<ExitCode> {
     let start = Instant::now();
-    let Port { mut child, mut input, output } = Port::start(port)?;
-
-    // One thread writes and another reads, so that neither side waits for the other.
-    let (to_port, batches) = sync_channel::<Vec<u8>>(16);
-    let writer = thread::spawn(move || {
-        for batch in batches {
-            // Where the port's program has ended, the reader tells.
-            if input.write_all(&batch).is_err() {
-                return;
+    let (mut children, mut outputs) = (Vec::new(), Vec::new());
+    // One thread writes to each program and another reads, so that no side waits for the other.
+    let mut writers = Vec::new();
+    let to_port = port::start(port)?.map(|Running { child, mut input, output }| {
+        children.push(child);
+        outputs.push(Damaging { from: output, now: false });
+        let (to_port, batches) = sync_channel::<Vec<u8>>(16);
+        writers.push(thread::spawn(move || {
+            for batch in batches {
+                // Where the program has ended, the reader tells.
+                if input.write_all(&batch).is_err() {
+                    return;
+                }
             }
-        }
+        }));
+        to_port
     });
     let (to_reader, asked) = sync_channel::<Vec<Asked>>(64);
     let reader = thread::spawn(move || {
-        let mut output = Damaging { from: output, now: false };
         for one in asked.iter().flatten() {
             let call = ALIKE.load(Ordering::Relaxed) + 1;
+            let output = &mut outputs[Program::of(&one.1) as usize];
             output.now = damaged == Some(call);
-            match read_answer(&one.1, &mut output) {
+            match read_answer(&one.1, output) {
                 Ok(Ok(answer)) if answer == one.2 => {}
                 Ok(Ok(answer)) => differ(call, &one, &answer.to_string()),
                 Ok(Err(why)) => differ(call, &one, &format!("({why})")),
@@ -142,7 +149,7 @@ pub fn compare(port: &str, calls: u64, seed: u64, damaged: Option<u64>) -> io::R
             }
             ALIKE.store(call, Ordering::Relaxed);
         }
-        matches!(output.from.fill_buf(), Ok(rest) if !rest.is_empty())
+        outputs.iter_mut().any(|output| matches!(output.from.fill_buf(), Ok(rest) if !rest.is_empty()))
     });
     let progress = thread::spawn(move || loop {
         thread::park_timeout(Duration::from_secs(5));
@@ -157,7 +164,7 @@ pub fn compare(port: &str, calls: u64, seed: u64, damaged: Option<u64>) -> io::R
     let mut sender = Sender {
         to_port,
         to_reader,
-        packed: Vec::new(),
+        packed: [Vec::new(), Vec::new()],
         batch: Vec::new(),
         calls: 0,
         wanted: calls,
@@ -176,17 +183,17 @@ pub fn compare(port: &str, calls: u64, seed: u64, damaged: Option<u64>) -> io::R
     let _ = sender.flush();
     let Sender { to_port, to_reader, kinds, answers, .. } = sender;
     drop((to_port, to_reader));
-    writer.join().unwrap();
+    writers.into_iter().for_each(|writer| writer.join().unwrap());
     let more = reader.join().unwrap();
-    let status = child.wait()?;
+    let ends = children.iter_mut().map(|child| child.wait()).collect::<io::Result<Vec<_>>>()?;
     progress.thread().unpark();
     progress.join().unwrap();
     if more {
-        println!("# the port's program answered more than it was given calls");
+        println!("# a program of the port answered more than it was given calls");
         return Ok(ExitCode::from(1));
     }
-    if !status.success() {
-        println!("# the port's program ended with {status}");
+    if let Some(status) = ends.iter().find(|status| !status.success()) {
+        println!("# a program of the port ended with {status}");
         return Ok(ExitCode::from(1));
     }
     let seconds = start.elapsed().as_secs();

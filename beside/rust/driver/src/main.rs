@@ -10,6 +10,7 @@ mod oracle;
 mod packed;
 mod port;
 
+use packed::Program;
 use std::io::{self, BufWriter, Read, Write};
 use std::process::ExitCode;
 
@@ -77,11 +78,15 @@ fn number(args: &[String], name: &str) -> Option<u64> {
 
 fn main() -> io::Result<ExitCode> {
     let args: Vec<String> = std::env::args().skip(1).collect();
-    let (calls, seed, port) = (number(&args, "--calls"), number(&args, "--seed"), option(&args, "--port"));
+    let (calls, seed) = (number(&args, "--calls"), number(&args, "--seed"));
+    let port = option(&args, "--port").and_then(|ports| Some([ports, option(&args, "--keys")?]));
     match (args.first().map(String::as_str), calls, seed, port) {
         (Some("replay"), None, None, None) => replay(),
         (Some("replay"), None, None, Some(port)) => port::replay(port),
-        (Some("pack"), ..) => port::pack(args.iter().any(|arg| arg == "--answers")),
+        (Some("pack"), ..) => {
+            let named = |name: &str| args.iter().any(|arg| arg == name);
+            port::pack(if named("--keys") { Program::Keys } else { Program::Ports }, named("--answers"))
+        }
         (Some("bench"), None, None, Some(port)) => {
             let rounds = number(&args, "--rounds").unwrap_or(7).max(1) as usize;
             bench::bench(port, option(&args, "--tablekeys").unwrap_or("tablekeys"), rounds)
@@ -93,10 +98,11 @@ fn main() -> io::Result<ExitCode> {
         }
         _ => {
             eprintln!(
-                "usage: beside replay [--port PROGRAM] | pack [--answers] | tablekeys | sample --calls N --seed S"
+                "usage: beside replay [PORT] | pack [--keys] [--answers] | tablekeys | sample --calls N --seed S"
             );
-            eprintln!("       beside compare --calls N --seed S --port PROGRAM [--damage CALL]");
-            eprintln!("       beside bench [--rounds N] --port PROGRAM --tablekeys PROGRAM");
+            eprintln!("       beside compare --calls N --seed S PORT [--damage CALL]");
+            eprintln!("       beside bench [--rounds N] PORT --tablekeys PROGRAM");
+            eprintln!("where PORT is --port PROGRAM --keys PROGRAM");
             Ok(ExitCode::from(2))
         }
     }

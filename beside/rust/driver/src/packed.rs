@@ -1,11 +1,28 @@
-//! Calls and answers as the port's program reads and writes them: instructions of 10 bytes, and answers of 32 with what was
-//! logged behind them. tests/traces/README.md tells the format, crates/replay is the program.
+//! Calls and answers as the port's programs read and write them: instructions of 10 bytes, and answers of 32 with what was
+//! logged behind them. tests/traces/README.md tells the format.
 
 use crate::answer::*;
 use crate::call::*;
 use std::io::{self, Read};
 
-/// The longest script and the largest room of a log that the port's program has space for.
+/// The port's programs: crates/replay makes the calls on the ports, crates/replay_keys those on keys.
+#[derive(Clone, Copy)]
+pub enum Program {
+    Ports,
+    Keys,
+}
+
+impl Program {
+    /// The program that makes an operation's calls.
+    pub fn of(op: &Op) -> Program {
+        match op {
+            Op::Handle(..) | Op::KeyboardInit | Op::ToAscii(..) => Program::Keys,
+            _ => Program::Ports,
+        }
+    }
+}
+
+/// The longest script and the largest room of a log that the port's programs have space for.
 pub const LONGEST_SCRIPT: usize = 1_199_999;
 pub const LARGEST_ROOM: usize = 4096;
 
@@ -97,8 +114,8 @@ pub fn put_call(call: &Call, out: &mut Vec<u8>) -> Result<(), String> {
     if !matches!(call.op, Op::ToAscii(..)) {
         put_script(&call.script, out);
     }
-    if call.repeat > 1 && matches!(call.op, Op::Handle(..)) {
-        return Err("the port's program repeats no run".to_string());
+    if call.repeat > 1 && matches!(call.op, Op::Handle(..) | Op::KeyboardInit) {
+        return Err(format!("the port's program repeats no {}", call.op.name()));
     }
     if let Op::Handle(handler, plan) = &call.op {
         put_run(call, handler, plan, out);

@@ -1,24 +1,27 @@
-//! The port's program over pipes, call by call.
+//! The port's programs over pipes, call by call.
 
 use crate::answer::{self, Answer};
-use crate::call::{self, Call};
-use crate::packed::{put_answer, put_call, read_answer};
+use crate::call::{self, Call, Op};
+use crate::packed::{put_answer, put_call, read_answer, Program};
 use std::io::{self, BufRead, BufReader, BufWriter, Write};
 use std::process::{Child, ChildStdin, ChildStdout, Command, ExitCode, Stdio};
 
-/// The port's program, running.
-pub struct Port {
+/// The paths of the port's programs, each at its `Program`'s number.
+pub type Paths<'a> = [&'a str; 2];
+
+/// One of the port's programs, running.
+pub struct Running {
     pub child: Child,
     pub input: ChildStdin,
     pub output: BufReader<ChildStdout>,
 }
 
-impl Port {
-    pub fn start(program: &str) -> io::Result<Port> {
+impl Running {
+    fn start(program: &str) -> io::Result<Running> {
         let mut child = Command::new(program).stdin(Stdio::piped()).stdout(Stdio::piped()).spawn()?;
         let input = child.stdin.take().unwrap();
         let output = BufReader::with_capacity(1 << 16, child.stdout.take().unwrap());
-        Ok(Port { child, input, output })
+        Ok(Running { child, input, output })
     }
 
     /// The program's answer to a call.
@@ -29,6 +32,12 @@ impl Port {
         let answer = written.and_then(|()| read_answer(&call.op, &mut self.output));
         answer.unwrap_or_else(|why| Err(format!("the port's program gives no answer: {why}")))
     }
+}
+
+/// Starts the port's programs.
+pub fn start(paths: Paths) -> io::Result<[Running; 2]> {
+    let [ports, keys] = paths.map(Running::start);
+    Ok([ports?, keys?])
 }
 
 /// Answers each call line of standard input. A bad line gets an error with its number, and the exit status 1.
@@ -52,26 +61,30 @@ pub fn answer_lines(mut answer: impl FnMut(&Call) -> Result<Answer, String>) -> 
     Ok(ExitCode::from(bad as u8))
 }
 
-/// Answers the call lines of standard input by the port's program.
-pub fn replay(program: &str) -> io::Result<ExitCode> {
-    let mut port = Port::start(program)?;
-    answer_lines(|call| port.answer(call))
+/// Answers the call lines of standard input by the port's programs.
+pub fn replay(paths: Paths) -> io::Result<ExitCode> {
+    let mut programs = start(paths)?;
+    answer_lines(|call| programs[Program::of(&call.op) as usize].answer(call))
 }
 
-/// Writes the traces of standard input as the port's program takes them: the calls, or the recorded answers.
-pub fn pack(answers: bool) -> io::Result<ExitCode> {
+/// Writes the traces of standard input as one of the port's programs takes them: its calls, or their recorded answers.
+pub fn pack(program: Program, answers: bool) -> io::Result<ExitCode> {
+    let is_its = |op: &Op| Program::of(op) as usize == program as usize;
     let (mut packed, mut op) = (Vec::new(), None);
     for (number, line) in (1..).zip(io::stdin().lock().lines()) {
         let line = line?;
         let done = if !call::is_skipped(&line) {
             call::parse(&line).and_then(|call| {
-                let done = if answers { Ok(()) } else { put_call(&call, &mut packed) };
+                let done = if answers || !is_its(&call.op) { Ok(()) } else { put_call(&call, &mut packed) };
                 op = Some(call.op);
                 done
             })
         } else if answers && line.starts_with("out=") {
-            let asked = op.take().ok_or_else(|| "an answer without a call".to_string());
-            asked.and_then(|op| put_answer(&op, &answer::parse(&op, &line)?, &mut packed))
+            match op.take() {
+                None => Err("an answer without a call".to_string()),
+                Some(op) if is_its(&op) => answer::parse(&op, &line).and_then(|a| put_answer(&op, &a, &mut packed)),
+                Some(_) => Ok(()),
+            }
         } else {
             Ok(())
         };

@@ -18,8 +18,8 @@ loop-holds c = search needs
 read-instruction-requires : tie.Need-read-instruction-requires Inv-loop μ-loop
 read-instruction-requires c κs = search needs
 
-filled-requires : tie.Need-filled-requires Inv-loop μ-loop
-filled-requires c κs = search needs
+read-script-requires : tie.Need-read-script-requires Inv-loop μ-loop
+read-script-requires c κs = search needs
 
 answer-requires : tie.Need-answer-requires Inv-loop μ-loop
 answer-requires c κs = search needs
@@ -50,7 +50,7 @@ replay-spec =
     μ-loop
     loop-holds
     read-instruction-requires
-    filled-requires
+    read-script-requires
     answer-requires
     fewer-requires
     loop-less

@@ -16,8 +16,8 @@ abbrev μ-loop : tie.MeasureT-loop
 is-known-requires : tie.Need-is-known-requires Inv-loop μ-loop
 is-known-requires c κs = search needs
 
-unknown-requires : tie.Need-unknown-requires Inv-loop μ-loop
-unknown-requires c κs = search needs
+ending-requires : tie.Need-ending-requires Inv-loop μ-loop
+ending-requires c κs = search needs
 
 returns : tie.Need-returns Inv-loop μ-loop
 returns c = search needs
@@ -53,7 +53,7 @@ call-times-spec =
     Inv-loop
     μ-loop
     is-known-requires
-    unknown-requires
+    ending-requires
     returns
     call-requires
     loop-holds

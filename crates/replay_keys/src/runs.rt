@@ -1,14 +1,7 @@
 // A run of handler calls and takings on one record, and what else is on keys.
-use crate::bytes::plus;
-use crate::calls::Instruction;
-use crate::calls::Outcome;
-use crate::calls::bit;
-use crate::calls::completion_number;
-use crate::calls::ended;
-use crate::calls::unknown;
-use crate::calls::with_value;
 use keyboard::handle;
 use keyboard::take_event;
+use keyboard_init::KeyboardInitialized;
 use keyboard_init::keyboard_init;
 use keyboard_modifiers::KeyboardModifiers;
 use keyboard_rule::EventQueue;
@@ -22,6 +15,16 @@ use keycodes_ascii::FoundKeycode;
 use keycodes_ascii::KeyAction;
 use keycodes_ascii::KeyEvent;
 use keycodes_ascii::Keycode;
+use packed_calls::END;
+use packed_calls::Instruction;
+use packed_calls::NO_CALL;
+use packed_calls::Outcome;
+use packed_calls::PART;
+use packed_calls::SILENT;
+use packed_calls::bit;
+use packed_calls::ending;
+use packed_calls::plus;
+use ps2_ports::Completion;
 ghost use Prim.Native.Nat.{_≤_};
 
 // The bytes used of a run that makes no further call.
@@ -35,14 +38,24 @@ pub struct Turn {
     pub outcome: Outcome,
 }
 
-// A turn that answers nothing, and is its instruction's last.
-fn silent(handler: KeyboardHandler, used: usize) -> Turn {
+// A turn that is its instruction's last.
+fn last(handler: KeyboardHandler, used: usize, outcome: Outcome) -> Turn {
     Turn {
         handler,
         used,
         goes_on: false,
-        outcome: ended(254, 0, 0),
+        outcome,
     }
+}
+
+// A turn that answers nothing, and is its instruction's last.
+fn silent(handler: KeyboardHandler, used: usize) -> Turn {
+    last(handler, used, ending(SILENT, 0, 0, 0))
+}
+
+// The record before any run.
+pub fn at_first() -> Turn {
+    silent(KeyboardHandler::fresh(), 0)
 }
 
 fn flags_of(state: usize) -> KeyboardModifiers {
@@ -52,7 +65,7 @@ fn flags_of(state: usize) -> KeyboardModifiers {
 }
 
 // A record with a prefix, flags and an empty queue.
-pub fn begun(i: Instruction) -> KeyboardHandler {
+fn begun(i: Instruction) -> KeyboardHandler {
     let fresh = KeyboardHandler::fresh();
     let queue = fresh.queue;
     KeyboardHandler {
@@ -100,12 +113,12 @@ fn keycode_of(byte: u8) -> Keycode {
     }
 }
 
-// How a call ends that asks for the keycode of a byte: with nothing to answer, or with 255 where there is none.
+// How a call ends that asks for the keycode of a byte: with nothing to answer, or as no call where there is none.
 fn keycode_end(byte: u8) -> u8 {
     if keycode_of(byte).to_byte() == byte {
-        254
+        SILENT
     } else {
-        255
+        NO_CALL
     }
 }
 
@@ -123,7 +136,7 @@ fn add_event(i: Instruction, handler: KeyboardHandler, used: usize) -> Turn {
         handler: with_event(handler, event_of(i)),
         used,
         goes_on: true,
-        outcome: ended(keycode_end(i.argument), 0, 0),
+        outcome: ending(keycode_end(i.argument), 0, 0, 0),
     }
 }
 
@@ -200,7 +213,7 @@ fn run_handle(
 
 // What a taking gave: `left` is 3 where it is an event, which the value tells, and 2 where there is none.
 fn taken_outcome(event: TakenEvent) -> Outcome {
-    let mut outcome = ended(0, 0, 0);
+    let mut outcome = ending(0, 0, 0, 0);
     outcome.left = 2;
     match event {
         TakenEvent::Event(e) => {
@@ -242,43 +255,21 @@ fn run_take(op: u8, handler: KeyboardHandler, used: usize) -> Turn {
     taken(take_event(handler), used, op)
 }
 
-fn run_left(handler: KeyboardHandler, used: usize) -> Turn {
-    Turn {
-        handler,
-        used,
-        goes_on: false,
-        outcome: with_value(record_number(handler), 0, 0),
-    }
-}
-
-// A turn of an instruction on a record: 31 adds an event, 33 and 34 are handler calls, 35 and 36 takings, 37 answers the record. The others do nothing.
-pub fn run_turn(
-    i: Instruction,
-    handler: KeyboardHandler,
-    used: usize,
-    script: &[u8],
-    log: &mut [u8],
-) -> Turn {
-    let op = i.op;
-    match op {
-        31 => add_event(i, handler, used),
-        33..=34 => run_handle(op, handler, used, script, log),
-        35..=36 => run_take(op, handler, used),
-        37 => run_left(handler, used),
-        _ => silent(handler, used),
-    }
-}
-
-// Keyboard initialisation; the value is the record that it gives.
-pub fn call_keyboard_init(script: &[u8], log: &mut [u8]) -> Outcome {
-    let c = keyboard_init(script, log);
+// How keyboard initialisation ended; the value is the record that it gives.
+fn initialized(c: KeyboardInitialized) -> Outcome {
     let answer = c.answer;
-    Outcome {
-        number: completion_number(answer),
-        left: 0,
-        used: c.used,
-        pairs: c.pairs,
-        value: record_number(c.handler),
+    ending(
+        completion_number(answer),
+        c.used,
+        c.pairs,
+        record_number(c.handler),
+    )
+}
+
+fn completion_number(answer: Completion) -> u8 {
+    match answer {
+        Completion::Done => 0,
+        Completion::Refused(e) => e.number(),
     }
 }
 
@@ -303,10 +294,29 @@ fn character_number(character: Character) -> u64 {
 }
 
 // The character of a keycode under flags.
-pub fn call_to_ascii(i: Instruction) -> Outcome {
-    if keycode_end(i.argument) == 255 {
-        return unknown();
+fn call_to_ascii(i: Instruction) -> Outcome {
+    if keycode_end(i.argument) == NO_CALL {
+        return ending(NO_CALL, 0, 0, 0);
     }
     let character = ascii_times(keycode_of(i.argument), flags_of(i.state), i.times);
-    with_value(character_number(character), 0, 0)
+    ending(0, 0, 0, character_number(character))
+}
+
+// A turn of an instruction on a record: 28 is keyboard initialisation, 29 asks for a character, 30 begins a run, 31 adds an event, 33 and 34 are handler calls, 35 and 36 takings, 37 answers the record. A part of a script and the end have no answer.
+pub fn run_turn(i: Instruction, before: Turn, script: &[u8], log: &mut [u8]) -> Turn {
+    let op = i.op;
+    let used = before.used;
+    let handler = before.handler;
+    match op {
+        28 => last(handler, used, initialized(keyboard_init(script, log))),
+        29 => last(handler, used, call_to_ascii(i)),
+        30 => silent(begun(i), 0),
+        31 => add_event(i, handler, used),
+        33..=34 => run_handle(op, handler, used, script, log),
+        35..=36 => run_take(op, handler, used),
+        37 => last(handler, used, ending(0, 0, 0, record_number(handler))),
+        PART => silent(handler, used),
+        END => silent(handler, used),
+        _ => last(handler, used, ending(NO_CALL, 0, 0, 0)),
+    }
 }

@@ -1,9 +1,9 @@
--- `replay::runs::ascii_times` is safe and ends.
+-- `replay_keys::runs::ascii_times` is safe and ends.
 -- Assumes nothing.
 use Prim.Native.Nat.{_-_}
 use borrow.Author.Needs.{needs}
-use Rattle.replay.proofs.runs.ascii_times.Statement.{statement}
-use Rattle.replay.proofs.runs.ascii_times.Tie as tie
+use Rattle.replay_keys.proofs.runs.ascii_times.Statement.{statement}
+use Rattle.replay_keys.proofs.runs.ascii_times.Tie as tie
 
 abbrev Inv-loop : tie.InvT-loop
 Inv-loop keycode modifiers times character₀ i₀ character i = Unit {0}

@@ -1,0 +1,3 @@
+-- Packed calls and answers, and what the functions on them promise.
+pub mod Packed
+pub mod Replaying
