@@ -1,12 +1,10 @@
-// The code of the handler call and of the taking from the queue: Theseus's `keyboard`.
+// The code of the handler call: Theseus's `keyboard`.
 ghost use mathlib.Core.Bool.{true};
 ghost use mathlib.Core.Path.{_≡_};
 ghost use Rattle.keyboard_rule.specs.Strokes.{lowPart};
 ghost use Rattle.keyboard_rule.specs.FlagTable.{isLockPress};
 ghost use Rattle.keyboard_rule.specs.KeyboardLamps.{keyboardLamps};
 ghost use Rattle.keyboard_rule.specs.Events.{keycodeAt, eventOf};
-ghost use Rattle.keyboard_rule.specs.Record.{wellFormed};
-ghost use Rattle.keyboard_rule.specs.Taking.{taken};
 ghost use Rattle.keyboard_rule.specs.Handler.{queued, onByte, handled, logLeft};
 ghost use Rattle.keyboard_rule.specs.Outcomes.{handledOf, handledBy, onKey};
 ghost use Rattle.keyboard.specs.Effects.{handledWith};
@@ -22,8 +20,7 @@ use keyboard_rule::Handled;
 use keyboard_rule::HandlerAnswer;
 use keyboard_rule::KeyboardHandler;
 use keyboard_rule::KeyboardState;
-use keyboard_rule::Taken;
-use keyboard_rule::TakenEvent;
+use keyboard_rule::QUEUE_LENGTH;
 use keycodes_ascii::FoundKeycode;
 use keycodes_ascii::KEY_RELEASED_OFFSET;
 use keycodes_ascii::KeyAction;
@@ -34,12 +31,6 @@ use ps2_keyboard::read_scancode;
 use ps2_keyboard::set_keyboard_led;
 use ps2_ports::ByteAnswer;
 use ps2_ports::Refusal;
-
-// The places of the queue.
-const QUEUE_LENGTH: usize = 128;
-
-// The flags are the bits below this one.
-const FLAG_LIMIT: u16 = 1 << 10;
 
 // The event that a call puts into the queue, if any.
 enum NewEvent {
@@ -55,54 +46,6 @@ struct Effect {
     pairs: usize,
     keyboard: KeyboardState,
     event: NewEvent,
-}
-
-// Whether a record has no flag above bit 9, and a start and a count that the queue's places allow.
-fn well_formed(handler: KeyboardHandler) -> bool
-    ensures { λ r. ⌜ r ≡ wellFormed handler ⌝ }
-{
-    if FLAG_LIMIT <= handler.keyboard.modifiers.bits {
-        return false;
-    }
-    if QUEUE_LENGTH <= handler.queue.start {
-        return false;
-    }
-    handler.queue.count <= QUEUE_LENGTH
-}
-
-// Takes the oldest event from the queue; its place is free for a later one.
-pub fn take_event(handler: KeyboardHandler) -> Taken
-    ensures { λ r. ⌜ r ≡ taken handler ⌝ }
-{
-    if !well_formed(handler) {
-        return Taken {
-            event: TakenEvent::MalformedRecord,
-            handler: handler,
-        };
-    }
-    let queue = handler.queue;
-    let start = queue.start;
-    let count = queue.count;
-    if count == 0 {
-        return Taken {
-            event: TakenEvent::Nothing,
-            handler: handler,
-        };
-    }
-    let keyboard = handler.keyboard;
-    let places = queue.places;
-    let oldest = places[start];
-    Taken {
-        event: TakenEvent::Event(oldest),
-        handler: KeyboardHandler {
-            keyboard: keyboard,
-            queue: EventQueue {
-                start: (start + 1) % QUEUE_LENGTH,
-                count: count - 1,
-                places: places,
-            },
-        },
-    }
 }
 
 // The event of a scancode whose low part is this keycode's number.
@@ -239,7 +182,7 @@ fn effect_of(handler: KeyboardHandler, script: &[u8], log: &mut [u8]) -> Effect
     ensures { λ r. ⌜ (handledWith (handler .queue) r ≡ handled keyboardLamps handler (now (script .entry)) (now (log .entry))) × (now (log .exit) ≡ logLeft keyboardLamps handler (now (script .entry)) (now (log .entry))) ⌝ }
 {
     let keyboard = handler.keyboard;
-    if !well_formed(handler) {
+    if !handler.well_formed() {
         // This is asked before a byte is read.
         let used = 0;
         return Effect {

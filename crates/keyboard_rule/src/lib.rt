@@ -1,11 +1,17 @@
-// The keyboard handler's record, its queue of events, and what its calls answer: Theseus's `keyboard`. The code of the calls is in crates/keyboard.
+// The keyboard handler's record, its queue of events, and what its calls answer: Theseus's `keyboard`. The code of the calls is in crates/keyboard and crates/keyboard_taking.
 ghost use mathlib.Core.Path.{_≡_};
 ghost use Rattle.keyboard_rule.specs.Answers.{answerNumber};
-ghost use Rattle.keyboard_rule.specs.Record.{fresh};
+ghost use Rattle.keyboard_rule.specs.Record.{fresh, wellFormed};
 use keyboard_modifiers::KeyboardModifiers;
 use keycodes_ascii::KeyAction;
 use keycodes_ascii::KeyEvent;
 use keycodes_ascii::Keycode;
+
+// The places of the queue.
+pub const QUEUE_LENGTH: usize = 128;
+
+// The flags are the bits below this one.
+const FLAG_LIMIT: u16 = 1 << 10;
 
 // What the handler remembers of one keyboard: whether the last byte was a prefix, the keys that are held and the locks that are on.
 pub struct KeyboardState {
@@ -18,7 +24,7 @@ pub struct KeyboardState {
 pub struct EventQueue {
     pub start: usize,
     pub count: usize,
-    pub places: [KeyEvent; 128],
+    pub places: [KeyEvent; QUEUE_LENGTH],
 }
 
 // The handler record.
@@ -93,8 +99,21 @@ impl KeyboardHandler {
             queue: EventQueue {
                 start: 0,
                 count: 0,
-                places: [empty; 128],
+                places: [empty; QUEUE_LENGTH],
             },
         }
+    }
+
+    // Whether a record has no flag above bit 9, and a start and a count that the queue's places allow.
+    pub fn well_formed(self) -> bool
+        ensures { λ r. ⌜ r ≡ wellFormed self ⌝ }
+    {
+        if FLAG_LIMIT <= self.keyboard.modifiers.bits {
+            return false;
+        }
+        if QUEUE_LENGTH <= self.queue.start {
+            return false;
+        }
+        self.queue.count <= QUEUE_LENGTH
     }
 }

@@ -1,6 +1,5 @@
 // A run of handler calls and takings on one record, and what else is on keys.
 use keyboard::handle;
-use keyboard::take_event;
 use keyboard_init::KeyboardInitialized;
 use keyboard_init::keyboard_init;
 use keyboard_modifiers::KeyboardModifiers;
@@ -10,6 +9,7 @@ use keyboard_rule::KeyboardHandler;
 use keyboard_rule::KeyboardState;
 use keyboard_rule::Taken;
 use keyboard_rule::TakenEvent;
+use keyboard_taking::take_event;
 use keycodes_ascii::Character;
 use keycodes_ascii::FoundKeycode;
 use keycodes_ascii::KeyAction;

@@ -1,11 +1,11 @@
 // The story of a full queue: the release of Control finds no room for its event, and T is still no Control-T.
 use keyboard::handle;
-use keyboard::take_event;
 use keyboard_modifiers::KeyboardModifiers;
 use keyboard_rule::Handled;
 use keyboard_rule::HandlerAnswer;
 use keyboard_rule::KeyboardHandler;
 use keyboard_rule::TakenEvent;
+use keyboard_taking::take_event;
 use libc::STDOUT_FILENO;
 
 const CONTROL_PRESSED: u8 = 0x1D;

@@ -1,4 +1,4 @@
--- `keyboard::take_event` meets its contract: 21, none, or the oldest event.
+-- `keyboard_taking::take_event` meets its contract: 21, none, or the oldest event.
 -- Assumes nothing.
 use borrow.Author.Needs.{needs}
 use native.Mathlib.Omega.{arith}
@@ -9,8 +9,8 @@ use Rattle.keyboard_rule.specs.Queue.{withoutOldest}
 use Rattle.keyboard_rule.specs.Record.{wellFormed}
 use Rattle.keyboard_rule.proofs.Taking.{taken-malformed, taken-none, taken-one}
 use Rattle.keyboard_rule.proofs.WellFormed.{well-is}
-use Rattle.keyboard.proofs.take_event.Statement.{statement}
-use Rattle.keyboard.proofs.take_event.Tie as tie
+use Rattle.keyboard_taking.proofs.take_event.Statement.{statement}
+use Rattle.keyboard_taking.proofs.take_event.Tie as tie
 
 returns : tie.Need-returns
 returns c = sym (taken-malformed _ (sym (c .before .well-formed .ensures) ∙ not-true _ (c .if1 .taken)))

@@ -1,10 +1,10 @@
--- `keyboard::well_formed` meets its contract: question 21, one part after another.
+-- `keyboard_rule::KeyboardHandler::well_formed` meets its contract: question 21, one part after another.
 -- Assumes nothing.
 use borrow.Author.Tests.{lt-ltb, le-ltb}
 use Rattle.keyboard_rule.specs.FlagTable.{flagTable, flagLimit}
 use Rattle.keyboard_rule.specs.Record.{wellFormed}
-use Rattle.keyboard.proofs.well_formed.Statement.{statement}
-use Rattle.keyboard.proofs.well_formed.Tie as tie
+use Rattle.keyboard_rule.proofs.KeyboardHandler.well_formed.Statement.{statement}
+use Rattle.keyboard_rule.proofs.KeyboardHandler.well_formed.Tie as tie
 
 returns : tie.Need-returns
 unfolding wellFormed flagLimit flagTable
