@@ -1,7 +1,7 @@
 -- The keycodes' numbers are the wiki's codes of set 1.
 -- Assumes nothing.
 use mathlib.Core.Bool.{Bool, true, false, not, cond, _&&_}
-use mathlib.Core.List.{List, [], _∷_}
+use mathlib.Core.List.{List, [], _∷_, map}
 use mathlib.Core.Path.{_≡_, refl}
 use Prim.Native.Nat.{ℕ}
 use Prim.Native.String.{String}
@@ -13,7 +13,7 @@ use Rattle.keycodes_ascii.specs.declared.FoundKeycode.{FoundKeycode}
 use Rattle.keycodes_ascii.specs.declared.FoundKeycode.the-variants.{Found, Unknown}
 use Rattle.keycodes_ascii.specs.declared.Keycode.{Keycode}
 use Rattle.keycodes_ascii.specs.Keycode.{numberOf, keycodes, numbered, keycodeOf}
-use Rattle.scancode_set1.specs.Set1.{set1, set1AfterE0, releaseOf, Listed, key, keyAfterE0, releaseOfKey, releaseOfKeyAfterE0, notListed, listedAs, unlisted}
+use Rattle.scancode_set1.specs.Set1.{set1, set1AfterE0, releaseOf, Listed, key, keyAfterE0, releaseOfKey, releaseOfKeyAfterE0, notListed, listedAs, unlisted, afterE0As}
 use Rattle.keycodes_ascii.proofs.Codes.{every-keycode}
 
 -- whether a number is in neither table
@@ -65,3 +65,7 @@ select f (k ∷ ks) = cond (f k) (k ∷ select f ks) (select f ks)
 pub unlisted-keycodes : select (λ k. isUnlisted (listedAs k)) keycodes ≡ unlisted
 unfolding select isUnlisted keycodes
 unlisted-keycodes = refl
+
+-- every key that the wiki has after E0 is the keycode of its code
+pub after-e0-keycodes : map (λ row. (numberOf (row .0), row .1)) afterE0As ≡ set1AfterE0
+after-e0-keycodes = refl

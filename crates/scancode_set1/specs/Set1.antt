@@ -149,3 +149,12 @@ listedAs Keycode.SuperKeyRightReleased = releaseOfKeyAfterE0 "right GUI"
 -- The keycodes that the Rust has and the wiki has not: 00, 54, 55, 56 (the extra key of 102-key boards), 59 and 5A.
 abbrev pub unlisted : List Keycode
 unlisted = Keycode.OverflowError ∷ Keycode.Unknown1 ∷ Keycode.Unknown2 ∷ Keycode.NonUsBackslash ∷ Keycode.Pause ∷ Keycode.Unknown3 ∷ []
+
+-- Which key a keycode is directly after E0: the wiki's other key of its number, or the only one.
+abbrev pub afterE0As : List (Keycode × String)
+afterE0As =
+    (Keycode.Enter, "keypad enter") ∷ (Keycode.Control, "right control") ∷ (Keycode.Slash, "keypad /") ∷ (Keycode.Alt, "right alt") ∷
+    (Keycode.Home, "home") ∷ (Keycode.Up, "cursor up") ∷ (Keycode.PageUp, "page up") ∷ (Keycode.Left, "cursor left") ∷
+    (Keycode.Right, "cursor right") ∷ (Keycode.End, "end") ∷ (Keycode.Down, "cursor down") ∷ (Keycode.PageDown, "page down") ∷
+    (Keycode.Insert, "insert") ∷ (Keycode.Delete, "delete") ∷ (Keycode.SuperKeyLeft, "left GUI") ∷
+    (Keycode.SuperKeyRight, "right GUI") ∷ (Keycode.Menu, "apps") ∷ []
