@@ -1,12 +1,14 @@
 -- Texts that are put into a buffer one after another, and what the buffer then holds.
 -- Assumes nothing.
+use mathlib.Core.Bool.{Bool, true, false}
 use mathlib.Core.Path.{_≡_, refl, ap, ap₂, sym, _∙_}
 use mathlib.Core.List.{List, [], _∷_, _++_, append-nil, append-assoc}
 use Prim.Native.Nat.{ℕ, _+_, _<_, _≤_}
 use native.Mathlib.Nat.{add-zero, zero-add}
 use native.Mathlib.Omega.{arith}
 use lib.ListN.{length, set, take, drop, length-append}
-use lib.Seq.{take-nil, set-append-seam}
+use lib.Dec.{ltb}
+use lib.Seq.{take-nil, take-set-le, set-append-seam}
 use borrow.Author.Tests.{lt-ltb, le-ltb}
 use Rattle.buffer.specs.Buffer.{Holds, Place, place, putByte, put}
 
@@ -33,6 +35,22 @@ put-room b at out h = rw (lt-ltb at (length out) h)
 pub put-full : (b at : ℕ) (out : List ℕ) → length out ≤ at → place at out ≡ put (b ∷ []) (place at out)
 unfolding put
 put-full b at out h = rw (le-ltb at (length out) h)
+
+-- ---- what stands before the place
+
+byte-front : (b : ℕ) (p : Place) (k : ℕ) → k ≤ p .at → (room : Bool) → ltb (p .at) (length (p .bytes)) ≡ room
+    → (take k (putByte b p .bytes) ≡ take k (p .bytes)) × (k ≤ putByte b p .at)
+byte-front b p k h true e = rw e (take-set-le k (p .bytes) (p .at) b h, omega arith)
+byte-front b p k h false e = rw e (refl, h)
+
+-- it stays, and the next place is no lower
+pub put-front : (text : List ℕ) (p : Place) (k : ℕ) → k ≤ p .at → (take k (put text p .bytes) ≡ take k (p .bytes)) × (k ≤ put text p .at)
+unfolding put
+put-front [] p k h = (refl, h)
+put-front (b ∷ text) p k h =
+    let one = byte-front b p k h (ltb (p .at) (length (p .bytes))) refl in
+    let more = put-front text (putByte b p) k (one .1) in
+    (more .0 ∙ one .0, more .1)
 
 -- ---- the whole
 

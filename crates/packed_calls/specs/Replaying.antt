@@ -1,11 +1,11 @@
 -- What the other functions on packed calls promise. What is read from standard input and what becomes of what is written is not said: the kit's own contracts of reading and writing say nothing of it.
 -- Assumes nothing.
-use Prim.Native.Nat.{ℕ, _-_}
+use Prim.Native.Nat.{ℕ, _-_, _≤_}
 use mathlib.Core.Bool.{Bool, not, cond, _&&_}
 use mathlib.Core.List.{List}
 use mathlib.Core.Path.{_≡_}
 use lib.Dec.{eqb, leb, ltb}
-use lib.ListN.{length}
+use lib.ListN.{length, take}
 use Rattle.packed_calls.specs.declared.Instruction.{Instruction}
 use Rattle.packed_calls.specs.declared.Outcome.{Outcome}
 use Rattle.packed_calls.specs.Packed.{unpacked}
@@ -15,9 +15,19 @@ pub record Read (i : Instruction) : Type 0 where
   pub head : List ℕ
   pub says : i ≡ unpacked head
 
--- The script and how much of it counts, before and after an instruction: only a part of the script, the operation 0, changes them.
-abbrev pub Kept : Instruction → List ℕ → ℕ → List ℕ → ℕ → Type 0
-Kept i script bytes script' bytes' = (i .op ≡ 0 → ⊥) → (script' ≡ script) × (bytes' ≡ bytes)
+-- Where a part begins: at the script's start where its argument is 1, otherwise behind the bytes that count.
+abbrev pub partStart : ℕ → ℕ → ℕ
+partStart argument bytes = cond (eqb argument 1) 0 bytes
+
+-- Bytes were put from a place on: those before it are as they were, and what counts reaches to it.
+pub record PutFrom (at : ℕ) (before : List ℕ) (count : ℕ) (after : List ℕ) : Type 0 where
+  pub front : take at after ≡ take at before
+  pub reaches : at ≤ count
+
+-- The script and how much of it counts, before and after an instruction: a part, the operation 0, puts bytes from where it begins on; no other changes anything.
+pub record Kept (i : Instruction) (script : List ℕ) (bytes : ℕ) (script' : List ℕ) (bytes' : ℕ) : Type 0 where
+  pub part : i .op ≡ 0 → PutFrom (partStart (i .argument) bytes) script bytes' script'
+  pub other : (i .op ≡ 0 → ⊥) → (script' ≡ script) × (bytes' ≡ bytes)
 
 -- Whether a script of so many bytes leaves some of its space free, and a log has so much room.
 abbrev pub held : ℕ → ℕ → List ℕ → List ℕ → Bool

@@ -10,7 +10,7 @@ ghost use lib.ListN.{length, getD};
 ghost use Rattle.io.specs.Counts.{Counts};
 ghost use Rattle.buffer.specs.Buffer.{Holds, place, put};
 ghost use Rattle.packed_calls.specs.Packed.{bytesOf, unpacked, packed};
-ghost use Rattle.packed_calls.specs.Replaying.{Read, Kept, callOp, held, whereHeld, turnsLeft, ending};
+ghost use Rattle.packed_calls.specs.Replaying.{Read, partStart, PutFrom, Kept, callOp, held, whereHeld, turnsLeft, ending};
 
 // The number of an outcome that there is nothing to answer of, and of a call that can't be made: there is no such operation, or not with this argument.
 pub const SILENT: u8 = 254;
@@ -159,7 +159,9 @@ pub fn read_instruction() -> Instruction
 }
 
 // Puts so many bytes behind a part that ends the bytes: the part over and over.
-fn put_part(bytes: &mut [u8], part: usize, end: usize, count: usize) -> usize {
+fn put_part(bytes: &mut [u8], part: usize, end: usize, count: usize) -> usize
+    ensures { λ r. ⌜ (part ≤ end → PutFrom part (now (bytes .entry)) r (now (bytes .exit))) ⌝ }
+{
     let mut to = end;
     let mut i = 0;
     while i < count {
@@ -171,7 +173,9 @@ fn put_part(bytes: &mut [u8], part: usize, end: usize, count: usize) -> usize {
 }
 
 // Reads so many bytes behind those that the script has, as far as there is room, and answers how many it has then.
-fn read_part(script: &mut [u8], from: usize, count: usize) -> usize {
+fn read_part(script: &mut [u8], from: usize, count: usize) -> usize
+    ensures { λ r. ⌜ PutFrom from (now (script .entry)) r (now (script .exit)) ⌝ }
+{
     if from < script.len() {
         let rest = &mut script[from..];
         let bytes = within(count, rest);
@@ -181,6 +185,16 @@ fn read_part(script: &mut [u8], from: usize, count: usize) -> usize {
     from
 }
 
+// Where a part begins.
+fn part_start(argument: u8, bytes: usize) -> usize
+    ensures { λ r. ⌜ r ≡ partStart argument bytes ⌝ }
+{
+    if argument == 1 {
+        return 0;
+    }
+    bytes
+}
+
 // How many bytes the script has after an instruction: a part lengthens it, or begins it anew where the argument is 1. Its state is its length, and its times are the bytes that it fills beyond that, over and over.
 pub fn read_script(script: &mut [u8], bytes: usize, i: Instruction) -> usize
     ensures { λ r. ⌜ Kept i (now (script .entry)) bytes (now (script .exit)) r ⌝ }
@@ -188,7 +202,7 @@ pub fn read_script(script: &mut [u8], bytes: usize, i: Instruction) -> usize
     if i.op != PART {
         return bytes;
     }
-    let from = if i.argument == 1 { 0 } else { bytes };
+    let from = part_start(i.argument, bytes);
     let end = read_part(script, from, i.state);
     put_part(script, from, end, i.times)
 }
