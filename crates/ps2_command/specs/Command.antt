@@ -8,6 +8,8 @@ use Rattle.ps2_bytes.specs.declared.command.HostToControllerCommand.the-variant
 use Rattle.ps2_bytes.specs.declared.response.DeviceToHostResponse.{DeviceToHostResponse}
 use Rattle.ps2_bytes.specs.declared.response.DeviceToHostResponse.the-variants.{KeyDetectionErrorOrInternalBufferOverrun1, SelfTestPassed, ResponseToEcho, Acknowledge, SelfTestFailed1, SelfTestFailed2, ResendCommand, KeyDetectionErrorOrInternalBufferOverrun2}
 use Rattle.ps2_bytes.specs.declared.writable.HostToDevice.{HostToDevice}
+use Rattle.ps2_ports.specs.declared.DevicePort.{DevicePort}
+use Rattle.ps2_ports.specs.declared.DevicePort.the-variants.{Port1, Port2}
 use Rattle.ps2_ports.specs.Refusals.{refused}
 use Rattle.ps2_ports.specs.Ports.{writeCommand}
 use Rattle.ps2_command.specs.declared.CommandAnswer.{CommandAnswer}
@@ -49,6 +51,11 @@ command value = repeat attempts (refuses 7) (attempt value)
 -- "The mouse's D4 goes to port 64 once, before the attempts." To the device of the second port.
 unfoldable pub commandToPort2 : HostToDevice → Exchange (Answer Accepted)
 commandToPort2 value = andThen (writeCommand WriteByteToPort2InputBuffer) (λ _. command value)
+
+-- A byte for the device of either port.
+abbrev pub commandBy : DevicePort → HostToDevice → Exchange (Answer Accepted)
+commandBy Port1 value = command value
+commandBy Port2 value = commandToPort2 value
 
 -- What the code's answers say of the end of a play.
 abbrev pub saidCommand : CommandAnswer → End (Answer Accepted)

@@ -1,8 +1,11 @@
 // The command rule: a byte is sent to a device up to four times, until its response settles the matter. And what a reset waits for.
 ghost use mathlib.Core.Path.{_≡_};
-ghost use Rattle.exchange.specs.Exchange.{play, played, yields, Reads};
-ghost use Rattle.ps2_ports.specs.Refusals.{saidDone};
-ghost use Rattle.ps2_command.specs.Command.{command as commandRule, commandToPort2, attempt as attemptRule, saidCommand, saidAttempt, verdict as verdictRule};
+ghost use mathlib.Core.List.{List};
+ghost use Prim.Native.Nat.{ℕ};
+ghost use Rattle.exchange.specs.Exchange.{Exchange, play, played, yields, Reads};
+ghost use Rattle.exchange.specs.Answer.{Answer, andThen, refusingAs};
+ghost use Rattle.ps2_ports.specs.Refusals.{numberOf, saidDone};
+ghost use Rattle.ps2_command.specs.Command.{Accepted, command as commandRule, commandToPort2, commandBy, attempt as attemptRule, saidCommand, saidAttempt, verdict as verdictRule};
 ghost use Rattle.ps2_command.specs.Replaced.{replacedBy};
 ghost use Rattle.ps2_command.specs.Search.{selfTestWithin};
 use ps2_bytes::DeviceToHostResponse;
@@ -14,6 +17,7 @@ use ps2_polling::polling_send_receive;
 use ps2_polling::read_test_result;
 use ps2_ports::CompletedRead;
 use ps2_ports::Completion;
+use ps2_ports::DevicePort;
 use ps2_ports::Failure;
 use ps2_ports::Refusal;
 use ps2_ports::write_command;
@@ -144,6 +148,49 @@ pub fn command_to_port2(script: &[u8], log: &mut [u8], value: HostToDevice) -> C
     }
 }
 
+// A command to the device of either port.
+pub fn command_by(script: &[u8], log: &mut [u8], port: DevicePort, value: HostToDevice) -> Commanded
+    ensures { λ r. ⌜ played (saidCommand (r .answer)) (r .used) (r .pairs) (now (log .exit)) ≡ play (commandBy port value) (now (script .entry)) (now (log .entry)) ⌝ }
+{
+    match port {
+        DevicePort::Port1 => command(script, log, value),
+        DevicePort::Port2 => command_to_port2(script, log, value),
+    }
+}
+
+// Two commands to a device, the second only where the first was accepted.
+pub fn command_pair(
+    script: &[u8],
+    log: &mut [u8],
+    port: DevicePort,
+    first: HostToDevice,
+    second: HostToDevice,
+) -> Commanded
+    ensures { λ r. ⌜ played (saidCommand (r .answer)) (r .used) (r .pairs) (now (log .exit)) ≡ play (andThen (commandBy port first) (λ _. commandBy port second)) (now (script .entry)) (now (log .entry)) ⌝ }
+{
+    let c = command_by(script, log, port, first);
+    let used = c.used;
+    let pairs = c.pairs;
+    let accepted = c.answer;
+    match accepted {
+        CommandAnswer::Accepted => {
+            let at = 2 * pairs;
+            let d = command_by(&script[used..], &mut log[at..], port, second);
+            let answer = d.answer;
+            Commanded {
+                answer,
+                used: used + d.used,
+                pairs: pairs + d.pairs,
+            }
+        }
+        CommandAnswer::Refused(e) => Commanded {
+            answer: CommandAnswer::Refused(e),
+            used,
+            pairs,
+        },
+    }
+}
+
 // Reads data, without asking the status, until a device says that it passed its self test.
 pub fn read_self_test_result(script: &[u8], reads: u32) -> CompletedRead
     ensures { λ r. ⌜ Reads (selfTestWithin reads) (now (script .entry)) (saidDone (r .answer)) (r .used) ⌝ }
@@ -165,5 +212,26 @@ pub fn refusing_as(e: Refusal, failure: Failure) -> Refusal
         Refusal::ScriptUsedUp => Refusal::ScriptUsedUp,
         Refusal::LogFull => Refusal::LogFull,
         Refusal::Failed(_) => Refusal::Failed(failure),
+    }
+}
+
+// The outcome of an operation with its refusals replaced by one of its own.
+pub fn failing_as(c: Commanded, failure: Failure) -> Commanded
+    ensures { λ r. ⌜ ((t : Exchange (Answer Accepted)) (script log left : List ℕ) → played (saidCommand (c .answer)) (c .used) (c .pairs) left ≡ play t script log → played (saidCommand (r .answer)) (r .used) (r .pairs) left ≡ play (refusingAs (numberOf failure) t) script log) ⌝ }
+{
+    let used = c.used;
+    let pairs = c.pairs;
+    let accepted = c.answer;
+    match accepted {
+        CommandAnswer::Accepted => Commanded {
+            answer: CommandAnswer::Accepted,
+            used,
+            pairs,
+        },
+        CommandAnswer::Refused(e) => Commanded {
+            answer: CommandAnswer::Refused(refusing_as(e, failure)),
+            used,
+            pairs,
+        },
     }
 }

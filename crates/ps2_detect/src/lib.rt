@@ -6,15 +6,17 @@ ghost use Rattle.ps2_bytes.specs.declared.response.KeyboardType.{KeyboardType};
 ghost use Rattle.ps2_detect.specs.Detection.{typeSearch, keyboardDetect};
 ghost use Rattle.ps2_detect.specs.Parts.{enabledAfter, identification};
 ghost use Rattle.ps2_detect.specs.Answers.{saidType, secondByteRead};
+use ps2_bytes::HostToDevice;
 use ps2_bytes::HostToKeyboardCommand;
 use ps2_bytes::HostToKeyboardCommandOrData;
 use ps2_bytes::KeyboardType;
 use ps2_command::CommandAnswer;
-use ps2_keyboard::command_pair;
+use ps2_command::command_pair;
 use ps2_keyboard::command_to_keyboard;
 use ps2_polling::POLL_LIMIT;
 use ps2_polling::Polled;
 use ps2_polling::poll_data;
+use ps2_ports::DevicePort;
 use ps2_ports::Failure;
 use ps2_ports::Refusal;
 
@@ -53,8 +55,13 @@ pub fn keyboard_detect(script: &[u8], log: &mut [u8]) -> Detected
     let c = command_pair(
         script,
         log,
-        HostToKeyboardCommandOrData::KeyboardCommand(HostToKeyboardCommand::DisableScanning),
-        HostToKeyboardCommandOrData::KeyboardCommand(HostToKeyboardCommand::IdentifyKeyboard),
+        DevicePort::Port1,
+        HostToDevice::Keyboard(HostToKeyboardCommandOrData::KeyboardCommand(
+            HostToKeyboardCommand::DisableScanning,
+        )),
+        HostToDevice::Keyboard(HostToKeyboardCommandOrData::KeyboardCommand(
+            HostToKeyboardCommand::IdentifyKeyboard,
+        )),
     );
     let used = c.used;
     let pairs = c.pairs;

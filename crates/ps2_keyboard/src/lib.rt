@@ -1,11 +1,10 @@
 // The keyboard: its commands, its reset, its lamps and its scancode set.
 ghost use mathlib.Core.Path.{_≡_};
 ghost use Rattle.exchange.specs.Exchange.{play, played, Reads};
-ghost use Rattle.exchange.specs.Answer.{andThen};
 ghost use Rattle.ps2_ports.specs.Refusals.{saidDone};
 ghost use Rattle.ps2_ports.specs.Ports.{saidByte, saidFull};
 ghost use Rattle.ps2_command.specs.Command.{saidCommand};
-ghost use Rattle.ps2_keyboard.specs.Keyboard.{commandToKeyboard, resetKeyboard, setKeyboardLed, getScancodeSet, setScancodeSet, readScancode, keyboardOutputBufferFull};
+ghost use Rattle.ps2_keyboard.specs.Keyboard.{commandToKeyboard, resetKeyboard, setKeyboardLed, commandScancodeSet, getScancodeSet, setScancodeSet, readScancode, keyboardOutputBufferFull};
 ghost use Rattle.ps2_keyboard.specs.Parts.{setSearch};
 ghost use Rattle.ps2_keyboard.specs.Answers.{saidSet};
 use ps2_bytes::HostToDevice;
@@ -16,8 +15,9 @@ use ps2_bytes::ScancodeSetByte;
 use ps2_command::CommandAnswer;
 use ps2_command::Commanded;
 use ps2_command::command;
+use ps2_command::command_pair;
+use ps2_command::failing_as;
 use ps2_command::read_self_test_result;
-use ps2_command::refusing_as;
 use ps2_layouts::LEDState;
 use ps2_polling::POLL_LIMIT;
 use ps2_polling::Polled;
@@ -25,6 +25,7 @@ use ps2_polling::poll_data;
 use ps2_ports::ByteRead;
 use ps2_ports::Completed;
 use ps2_ports::Completion;
+use ps2_ports::DevicePort;
 use ps2_ports::Failure;
 use ps2_ports::FullAnswer;
 use ps2_ports::FullRead;
@@ -64,38 +65,6 @@ pub fn command_to_keyboard(
     command(script, log, HostToDevice::Keyboard(value))
 }
 
-// Two bytes for the keyboard, the second only where the first was accepted.
-pub fn command_pair(
-    script: &[u8],
-    log: &mut [u8],
-    first: HostToKeyboardCommandOrData,
-    second: HostToKeyboardCommandOrData,
-) -> Commanded
-    ensures { λ r. ⌜ played (saidCommand (r .answer)) (r .used) (r .pairs) (now (log .exit)) ≡ play (andThen (commandToKeyboard first) (λ _. commandToKeyboard second)) (now (script .entry)) (now (log .entry)) ⌝ }
-{
-    let c = command_to_keyboard(script, log, first);
-    let used = c.used;
-    let pairs = c.pairs;
-    let accepted = c.answer;
-    match accepted {
-        CommandAnswer::Accepted => {
-            let at = 2 * pairs;
-            let d = command_to_keyboard(&script[used..], &mut log[at..], second);
-            let answer = d.answer;
-            Commanded {
-                answer,
-                used: used + d.used,
-                pairs: pairs + d.pairs,
-            }
-        }
-        CommandAnswer::Refused(e) => Commanded {
-            answer: CommandAnswer::Refused(e),
-            used,
-            pairs,
-        },
-    }
-}
-
 // Resets the keyboard: it answers the command, and then says by a byte of its own that it passed its self test.
 pub fn reset_keyboard(script: &[u8], log: &mut [u8]) -> Completed
     ensures { λ r. ⌜ played (saidDone (r .answer)) (r .used) (r .pairs) (now (log .exit)) ≡ play resetKeyboard (now (script .entry)) (now (log .entry)) ⌝ }
@@ -133,36 +102,20 @@ pub fn set_keyboard_led(script: &[u8], log: &mut [u8], value: LEDState) -> Comma
     let c = command_pair(
         script,
         log,
-        HostToKeyboardCommandOrData::KeyboardCommand(HostToKeyboardCommand::SetLEDStatus),
-        HostToKeyboardCommandOrData::LEDState(value),
+        DevicePort::Port1,
+        HostToDevice::Keyboard(HostToKeyboardCommandOrData::KeyboardCommand(
+            HostToKeyboardCommand::SetLEDStatus,
+        )),
+        HostToDevice::Keyboard(HostToKeyboardCommandOrData::LEDState(value)),
     );
-    let used = c.used;
-    let pairs = c.pairs;
-    let accepted = c.answer;
-    match accepted {
-        CommandAnswer::Accepted => Commanded {
-            answer: CommandAnswer::Accepted,
-            used,
-            pairs,
-        },
-        CommandAnswer::Refused(e) => Commanded {
-            answer: CommandAnswer::Refused(refusing_as(e, Failure::LedsNotSet)),
-            used,
-            pairs,
-        },
-    }
+    failing_as(c, Failure::LedsNotSet)
 }
 
 // Sets the scancode set. That the keyboard then tells another one is no failure.
 pub fn set_keyboard_scancode_set(script: &[u8], log: &mut [u8], value: ScancodeSet) -> Completed
     ensures { λ r. ⌜ played (saidDone (r .answer)) (r .used) (r .pairs) (now (log .exit)) ≡ play (setScancodeSet value) (now (script .entry)) (now (log .entry)) ⌝ }
 {
-    let c = command_pair(
-        script,
-        log,
-        HostToKeyboardCommandOrData::KeyboardCommand(HostToKeyboardCommand::ScancodeSet),
-        HostToKeyboardCommandOrData::ScancodeSet(value),
-    );
+    let c = command_scancode_set(script, log, value);
     let used = c.used;
     let pairs = c.pairs;
     let accepted = c.answer;
@@ -198,12 +151,7 @@ pub fn set_keyboard_scancode_set(script: &[u8], log: &mut [u8], value: ScancodeS
 pub fn get_keyboard_scancode_set(script: &[u8], log: &mut [u8]) -> SetAsked
     ensures { λ r. ⌜ played (saidSet (r .answer)) (r .used) (r .pairs) (now (log .exit)) ≡ play getScancodeSet (now (script .entry)) (now (log .entry)) ⌝ }
 {
-    let c = command_pair(
-        script,
-        log,
-        HostToKeyboardCommandOrData::KeyboardCommand(HostToKeyboardCommand::ScancodeSet),
-        HostToKeyboardCommandOrData::ScancodeSet(ScancodeSet::Get),
-    );
+    let c = command_scancode_set(script, log, ScancodeSet::Get);
     let used = c.used;
     let pairs = c.pairs;
     let accepted = c.answer;
@@ -223,6 +171,21 @@ pub fn get_keyboard_scancode_set(script: &[u8], log: &mut [u8]) -> SetAsked
             pairs,
         },
     }
+}
+
+// The command for the scancode set, and its byte: a set, or the question for it.
+fn command_scancode_set(script: &[u8], log: &mut [u8], value: ScancodeSet) -> Commanded
+    ensures { λ r. ⌜ played (saidCommand (r .answer)) (r .used) (r .pairs) (now (log .exit)) ≡ play (commandScancodeSet value) (now (script .entry)) (now (log .entry)) ⌝ }
+{
+    command_pair(
+        script,
+        log,
+        DevicePort::Port1,
+        HostToDevice::Keyboard(HostToKeyboardCommandOrData::KeyboardCommand(
+            HostToKeyboardCommand::ScancodeSet,
+        )),
+        HostToDevice::Keyboard(HostToKeyboardCommandOrData::ScancodeSet(value)),
+    )
 }
 
 // Polls for a scancode set.

@@ -1,17 +1,15 @@
 // The mouse: its commands, its reset, its settings and the question for its identity.
 ghost use mathlib.Core.Path.{_≡_};
-ghost use mathlib.Core.List.{List};
-ghost use Prim.Native.Nat.{ℕ};
-ghost use Rattle.exchange.specs.Exchange.{Exchange, play, played, yields, Reads};
-ghost use Rattle.exchange.specs.Answer.{Answer, refuses, andThen, refusingAs};
+ghost use Rattle.exchange.specs.Exchange.{play, played, yields, Reads};
+ghost use Rattle.exchange.specs.Answer.{refuses, andThen};
 ghost use Rattle.exchange.specs.Repeat.{repeat};
 ghost use Rattle.ps2_bytes.specs.Responses.{mouseIds};
 ghost use Rattle.ps2_ports.specs.Ports.{flushOutputBuffer, saidFull};
-ghost use Rattle.ps2_ports.specs.Refusals.{numberOf, saidDone};
+ghost use Rattle.ps2_ports.specs.Refusals.{saidDone};
 ghost use Rattle.ps2_polling.specs.Polling.{pollLimit};
-ghost use Rattle.ps2_command.specs.Command.{Accepted, saidCommand};
+ghost use Rattle.ps2_command.specs.Command.{saidCommand};
 ghost use Rattle.ps2_command.specs.Search.{pollWhen, listedTurn, selfTestWithin};
-ghost use Rattle.ps2_mouse.specs.Mouse.{commandToMouse, mouseCommand, resetReads, resetMouse, setSamplingRate, setResolution, disablePacketStreaming, enablePacketStreaming, mouseByteWaits, mouseId as mouseIdRule, mouseOutputBufferFull};
+ghost use Rattle.ps2_mouse.specs.Mouse.{commandToMouse, resetReads, resetMouse, setSamplingRate, setResolution, disablePacketStreaming, enablePacketStreaming, mouseByteWaits, mouseId as mouseIdRule, mouseOutputBufferFull};
 ghost use Rattle.ps2_mouse.specs.Answers.{freshMouse, saidId, saidIdPoll};
 ghost use Rattle.ps2_packet_reading.specs.Reading.{readMousePacket, saidPacket};
 use ps2_bytes::HostToDevice;
@@ -23,9 +21,10 @@ use ps2_bytes::MouseResolution;
 use ps2_bytes::MouseSampleRate;
 use ps2_command::CommandAnswer;
 use ps2_command::Commanded;
+use ps2_command::command_pair;
 use ps2_command::command_to_port2;
+use ps2_command::failing_as;
 use ps2_command::read_self_test_result;
-use ps2_command::refusing_as;
 use ps2_packet_reading::PacketRead;
 use ps2_packet_reading::read_packet;
 use ps2_polling::POLL_LIMIT;
@@ -33,6 +32,7 @@ use ps2_ports::ByteAnswer;
 use ps2_ports::Completed;
 use ps2_ports::CompletedRead;
 use ps2_ports::Completion;
+use ps2_ports::DevicePort;
 use ps2_ports::Failure;
 use ps2_ports::FullAnswer;
 use ps2_ports::FullRead;
@@ -135,11 +135,14 @@ impl PS2Mouse {
     ) -> Commanded
         ensures { λ r. ⌜ played (saidCommand (r .answer)) (r .used) (r .pairs) (now (log .exit)) ≡ play (setSamplingRate value) (now (script .entry)) (now (log .entry)) ⌝ }
     {
-        let c = command_with_data(
+        let c = command_pair(
             script,
             log,
-            HostToMouseCommand::SampleRate,
-            HostToMouseCommandOrData::SampleRate(value),
+            DevicePort::Port2,
+            HostToDevice::Mouse(HostToMouseCommandOrData::MouseCommand(
+                HostToMouseCommand::SampleRate,
+            )),
+            HostToDevice::Mouse(HostToMouseCommandOrData::SampleRate(value)),
         );
         failing_as(c, Failure::RateOrResolutionNotSet)
     }
@@ -202,11 +205,14 @@ impl PS2Mouse {
     pub fn mouse_resolution(script: &[u8], log: &mut [u8], value: MouseResolution) -> Commanded
         ensures { λ r. ⌜ played (saidCommand (r .answer)) (r .used) (r .pairs) (now (log .exit)) ≡ play (setResolution value) (now (script .entry)) (now (log .entry)) ⌝ }
     {
-        let c = command_with_data(
+        let c = command_pair(
             script,
             log,
-            HostToMouseCommand::SetResolution,
-            HostToMouseCommandOrData::MouseResolution(value),
+            DevicePort::Port2,
+            HostToDevice::Mouse(HostToMouseCommandOrData::MouseCommand(
+                HostToMouseCommand::SetResolution,
+            )),
+            HostToDevice::Mouse(HostToMouseCommandOrData::MouseResolution(value)),
         );
         failing_as(c, Failure::RateOrResolutionNotSet)
     }
@@ -240,63 +246,6 @@ impl PS2Mouse {
                 used,
             },
         }
-    }
-}
-
-// A command, then the byte of data that belongs to it.
-fn command_with_data(
-    script: &[u8],
-    log: &mut [u8],
-    command: HostToMouseCommand,
-    value: HostToMouseCommandOrData,
-) -> Commanded
-    ensures { λ r. ⌜ played (saidCommand (r .answer)) (r .used) (r .pairs) (now (log .exit)) ≡ play (andThen (mouseCommand command) (λ _. commandToMouse value)) (now (script .entry)) (now (log .entry)) ⌝ }
-{
-    let c = PS2Mouse::command_to_mouse(
-        script,
-        log,
-        HostToMouseCommandOrData::MouseCommand(command),
-    );
-    let used = c.used;
-    let pairs = c.pairs;
-    let answer = c.answer;
-    match answer {
-        CommandAnswer::Accepted => {
-            let at = 2 * pairs;
-            let d = PS2Mouse::command_to_mouse(&script[used..], &mut log[at..], value);
-            let answer = d.answer;
-            Commanded {
-                answer,
-                used: used + d.used,
-                pairs: pairs + d.pairs,
-            }
-        }
-        CommandAnswer::Refused(e) => Commanded {
-            answer: CommandAnswer::Refused(e),
-            used,
-            pairs,
-        },
-    }
-}
-
-// The outcome of an operation with its refusals replaced by one of its own.
-fn failing_as(c: Commanded, failure: Failure) -> Commanded
-    ensures { λ r. ⌜ ((t : Exchange (Answer Accepted)) (script log left : List ℕ) → played (saidCommand (c .answer)) (c .used) (c .pairs) left ≡ play t script log → played (saidCommand (r .answer)) (r .used) (r .pairs) left ≡ play (refusingAs (numberOf failure) t) script log) ⌝ }
-{
-    let used = c.used;
-    let pairs = c.pairs;
-    let accepted = c.answer;
-    match accepted {
-        CommandAnswer::Accepted => Commanded {
-            answer: CommandAnswer::Accepted,
-            used,
-            pairs,
-        },
-        CommandAnswer::Refused(e) => Commanded {
-            answer: CommandAnswer::Refused(refusing_as(e, failure)),
-            used,
-            pairs,
-        },
     }
 }
 

@@ -14,6 +14,12 @@ const PS2_DATA_PORT: u8 = 0x60;
 // Commands to the controller, and its status.
 const PS2_COMMAND_AND_STATUS_PORT: u8 = 0x64;
 
+// The ports of the two devices.
+pub enum DevicePort {
+    Port1,
+    Port2,
+}
+
 // Why the controller or a device did not do what was asked. Document 01 numbers each.
 pub enum Failure {
     AlreadyInitialized,

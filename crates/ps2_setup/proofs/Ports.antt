@@ -10,11 +10,11 @@ use Rattle.exchange.proofs.Calls.{bind-done}
 use Rattle.ps2_bytes.specs.declared.command.HostToControllerCommand.{HostToControllerCommand}
 use Rattle.ps2_layouts.specs.declared.configuration.ControllerConfigurationByte.{ControllerConfigurationByte}
 use Rattle.ps2_ports.specs.declared.Completion.{Completion}
+use Rattle.ps2_ports.specs.declared.DevicePort.{DevicePort}
 use Rattle.ps2_ports.specs.declared.Refusal.{Refusal}
 use Rattle.ps2_ports.specs.Refusals.{refused, saidDone}
 use Rattle.ps2_ports.specs.Ports.{writeCommand}
 use Rattle.ps2_ports.proofs.Refusals.{writes-refused}
-use Rattle.ps2_setup.specs.declared.DevicePort.{DevicePort}
 use Rattle.ps2_setup.specs.SetUp.{running, enablePort}
 use Rattle.ps2_setup.specs.Answers.{enableOf, clockOf, interruptOf}
 

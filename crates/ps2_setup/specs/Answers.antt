@@ -7,11 +7,11 @@ use Rattle.exchange.specs.Answer.{Answer, gives}
 use Rattle.ps2_bytes.specs.declared.command.HostToControllerCommand.{HostToControllerCommand}
 use Rattle.ps2_bytes.specs.declared.command.HostToControllerCommand.the-variants.{EnablePort1, EnablePort2}
 use Rattle.ps2_layouts.specs.Configuration.{port1Interrupt, port2Interrupt, port1ClockDisabled, port2ClockDisabled}
+use Rattle.ps2_ports.specs.declared.DevicePort.{DevicePort}
+use Rattle.ps2_ports.specs.declared.DevicePort.the-variants.{Port1, Port2}
 use Rattle.ps2_ports.specs.declared.Refusal.{Refusal}
 use Rattle.ps2_ports.specs.declared.Refusal.the-variants as Refusal
 use Rattle.ps2_ports.specs.Refusals.{refused}
-use Rattle.ps2_setup.specs.declared.DevicePort.{DevicePort}
-use Rattle.ps2_setup.specs.declared.DevicePort.the-variants.{Port1, Port2}
 use Rattle.ps2_setup.specs.declared.Lack.{Lack}
 use Rattle.ps2_setup.specs.declared.Lack.the-variants.{ScriptUsedUp, LogFull}
 use Rattle.ps2_setup.specs.declared.Trial.{Trial}

@@ -19,6 +19,7 @@ use ps2_ports::Completed;
 use ps2_ports::Completion;
 use ps2_ports::ConfigAnswer;
 use ps2_ports::ConfigRead;
+use ps2_ports::DevicePort;
 use ps2_ports::Failure;
 use ps2_ports::Refusal;
 use ps2_ports::Written;
@@ -26,12 +27,6 @@ use ps2_ports::flush_output_buffer;
 use ps2_ports::read_config;
 use ps2_ports::write_command;
 use ps2_ports::write_config;
-
-// The ports of the two devices.
-enum DevicePort {
-    Port1,
-    Port2,
-}
 
 // What no step forgives.
 pub enum Lack {

@@ -1,29 +1,35 @@
--- `ps2_keyboard::keyboard_detect` meets its contract: two commands, then the identification.
+-- `ps2_detect::keyboard_detect` meets its contract: two commands, then the identification.
 -- Assumes nothing.
 use borrow.Author.Needs.{needs}
 use native.Mathlib.Omega.{arith}
 use mathlib.Core.Path.{_≡_, refl}
-use Rattle.exchange.specs.Answer.{andThen}
+use Rattle.exchange.specs.Exchange.{Exchange}
+use Rattle.exchange.specs.Answer.{Answer, andThen}
 use Rattle.exchange.proofs.Grouping.{andThen-assoc}
 use Rattle.exchange.proofs.Position.{call-used-le, call-pairs-le, call-tail-le}
 use Rattle.exchange.proofs.Calls.{two-used-le, two-pairs-le}
 use Rattle.ps2_bytes.specs.declared.command.HostToKeyboardCommand.the-variants.{DisableScanning, IdentifyKeyboard}
+use Rattle.ps2_command.specs.Command.{Accepted}
 use Rattle.ps2_command.proofs.Accepted.{accepted-then, refused-then}
-use Rattle.ps2_keyboard.specs.Keyboard.{keyboardCommand}
+use Rattle.ps2_keyboard.specs.Keyboard.{commandToKeyboard, keyboardCommand}
 use Rattle.ps2_detect.specs.Detection.{keyboardDetect}
 use Rattle.ps2_detect.specs.Parts.{identification}
 use Rattle.ps2_detect.proofs.keyboard_detect.Statement.{statement}
 use Rattle.ps2_detect.proofs.keyboard_detect.Tie as tie
 
 -- the two commands by themselves, and what follows them
-detect-pair : andThen (andThen (keyboardCommand DisableScanning) (λ _. keyboardCommand IdentifyKeyboard)) (λ _. identification) ≡ keyboardDetect
+abbrev pair : Exchange (Answer Accepted)
+pair = andThen (keyboardCommand DisableScanning) (λ _. keyboardCommand IdentifyKeyboard)
+
+detect-pair : andThen pair (λ _. identification) ≡ keyboardDetect
 unfolding keyboardDetect
 detect-pair = andThen-assoc (keyboardCommand DisableScanning) (λ _. keyboardCommand IdentifyKeyboard) (λ _. identification)
 
 mul-at : tie.Need-mul-at
+unfolding commandToKeyboard
 mul-at c =
     let w = c .before .before .before .before in
-    omega (arith, call-pairs-le _ _ _ (w .command-pair .ensures), w .before .before .before .before .good)
+    omega (arith, call-pairs-le pair _ _ (w .command-pair .ensures), w .before .before .before .before .good)
 
 sub-script : tie.Need-sub-identify
 sub-script c = call-used-le _ _ _ (c .before .before .before .before .command-pair .ensures)
@@ -31,34 +37,38 @@ sub-script c = call-used-le _ _ _ (c .before .before .before .before .command-pa
 sub-log : tie.Need-sub-identify-2
 sub-log c = call-tail-le _ _ _ (c .before .before .before .before .before .command-pair .ensures)
 
-add-t19 : tie.Need-add-t19
-add-t19 c =
+add-t22 : tie.Need-add-t22
+unfolding commandToKeyboard
+add-t22 c =
     let d = c .before .before .before in
     let w = d .before .before .before .before .before .before .before in
-    omega (arith, two-used-le _ _ _ _ (w .command-pair .ensures) refl (d .identify .ensures), w .before .before .before .before .good)
+    omega (arith, two-used-le pair _ _ _ (w .command-pair .ensures) refl (d .identify .ensures), w .before .before .before .before .good)
 
-add-t23 : tie.Need-add-t23
-add-t23 c =
+add-t26 : tie.Need-add-t26
+unfolding commandToKeyboard
+add-t26 c =
     let d = c .before .before .before .before in
     let w = d .before .before .before .before .before .before .before in
-    omega (arith, two-pairs-le _ _ _ _ (w .command-pair .ensures) refl (d .identify .ensures), w .before .before .before .before .good)
+    omega (arith, two-pairs-le pair _ _ _ (w .command-pair .ensures) refl (d .identify .ensures), w .before .before .before .before .good)
 
 returns : tie.Need-returns
+unfolding commandToKeyboard
 returns c =
     let d = c .before .before .before .before in
     let m = d .before .before .before in
     rw detect-pair at
-    (accepted-then _ (λ _. identification) _ _ _ (m .before .before .before .before .command-pair .ensures) (m .enum-told .given .1) refl (d .identify .ensures))
+    (accepted-then pair (λ _. identification) _ _ _ (m .before .before .before .before .command-pair .ensures) (m .enum-told .given .1) refl (d .identify .ensures))
 
 returns-2 : tie.Need-returns-2
+unfolding commandToKeyboard
 returns-2 c =
     let w = c .before .before .before .before .before in
     rw detect-pair at
-    (refused-then _ (λ _. identification) _ _ _ (w .command-pair .ensures) (c .before .accepted .given .0 .0) (c .before .accepted .given .1))
+    (refused-then pair (λ _. identification) _ _ _ (w .command-pair .ensures) (c .before .accepted .given .0 .0) (c .before .accepted .given .1))
 
 pub keyboard-detect-spec : {M : Type 1} → statement M
 keyboard-detect-spec =
     tie.close
     (tie.spec
     (λ c κs. search needs) (λ c. search needs) mul-at sub-script sub-script (λ c. search needs) sub-log sub-log (λ c. search needs)
-    (λ c κs. search needs) add-t19 add-t23 (λ c. search needs) (λ c. search needs) returns (λ c. search needs) returns-2)
+    (λ c κs. search needs) add-t22 add-t26 (λ c. search needs) (λ c. search needs) returns (λ c. search needs) returns-2)

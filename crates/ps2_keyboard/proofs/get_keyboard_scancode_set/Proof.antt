@@ -1,40 +1,40 @@
--- `ps2_keyboard::get_keyboard_scancode_set` meets its contract: two commands, then the polls.
+-- `ps2_keyboard::get_keyboard_scancode_set` meets its contract: the command and its byte, then the polls.
 -- Assumes nothing.
 use borrow.Author.Needs.{needs}
 use native.Mathlib.Omega.{arith}
 use Rattle.exchange.proofs.Position.{call-used-le}
 use Rattle.exchange.proofs.Calls.{two-used-le-reads}
 use Rattle.ps2_command.proofs.Accepted.{accepted-then-reads, refused-then}
-use Rattle.ps2_keyboard.specs.Keyboard.{commandScancodeSet, getScancodeSet}
+use Rattle.ps2_keyboard.specs.Keyboard.{getScancodeSet}
 use Rattle.ps2_keyboard.specs.Parts.{setSearch}
 use Rattle.ps2_keyboard.proofs.get_keyboard_scancode_set.Statement.{statement}
 use Rattle.ps2_keyboard.proofs.get_keyboard_scancode_set.Tie as tie
 
 sub-poll-scancode-set : tie.Need-sub-poll-scancode-set
-sub-poll-scancode-set c = call-used-le _ _ _ (c .before .before .before .before .command-pair .ensures)
+sub-poll-scancode-set c = call-used-le _ _ _ (c .before .before .before .before .command-scancode-set .ensures)
 
-add-t18 : tie.Need-add-t18
-add-t18 c =
+add-t15 : tie.Need-add-t15
+add-t15 c =
     let d = c .before in
     let w = d .before .before .before .before .before .before in
-    omega (arith, two-used-le-reads _ _ _ _ (w .command-pair .ensures) (d .poll-scancode-set .ensures), w .before .before .before .before .good)
+    omega (arith, two-used-le-reads _ _ _ _ (w .command-scancode-set .ensures) (d .poll-scancode-set .ensures), w .before .before .before .before .good)
 
 returns : tie.Need-returns
-unfolding getScancodeSet commandScancodeSet
+unfolding getScancodeSet
 returns c =
     let d = c .before in
     let m = d .before .before in
-    accepted-then-reads _ (λ _. setSearch) _ _ _ (m .before .before .before .before .command-pair .ensures) (m .enum-told .given .1) (d .poll-scancode-set .ensures)
+    accepted-then-reads _ (λ _. setSearch) _ _ _ (m .before .before .before .before .command-scancode-set .ensures) (m .enum-told .given .1) (d .poll-scancode-set .ensures)
 
 returns-2 : tie.Need-returns-2
-unfolding getScancodeSet commandScancodeSet
+unfolding getScancodeSet
 returns-2 c =
     let w = c .before .before .before .before .before in
-    refused-then _ (λ _. setSearch) _ _ _ (w .command-pair .ensures) (c .before .accepted .given .0 .0) (c .before .accepted .given .1)
+    refused-then _ (λ _. setSearch) _ _ _ (w .command-scancode-set .ensures) (c .before .accepted .given .0 .0) (c .before .accepted .given .1)
 
 pub get-keyboard-scancode-set-spec : {M : Type 1} → statement M
 get-keyboard-scancode-set-spec =
     tie.close
     (tie.spec
-    (λ c κs. search needs) (λ c. search needs) sub-poll-scancode-set sub-poll-scancode-set (λ c. search needs) (λ c κs. search needs) add-t18
+    (λ c κs. search needs) (λ c. search needs) sub-poll-scancode-set sub-poll-scancode-set (λ c. search needs) (λ c κs. search needs) add-t15
     (λ c. search needs) (λ c. search needs) returns (λ c. search needs) returns-2)

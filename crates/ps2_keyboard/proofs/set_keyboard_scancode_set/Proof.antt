@@ -1,4 +1,4 @@
--- `ps2_keyboard::set_keyboard_scancode_set` meets its contract: two commands, then the question for the set, whatever its answer.
+-- `ps2_keyboard::set_keyboard_scancode_set` meets its contract: the command and its byte, then the question for the set, whatever its answer.
 -- Assumes nothing.
 use borrow.Author.Needs.{needs}
 use native.Mathlib.Omega.{arith}
@@ -10,7 +10,7 @@ use Rattle.exchange.proofs.Calls.{bind-done, two-used-le, two-pairs-le}
 use Rattle.ps2_ports.specs.Refusals.{success}
 use Rattle.ps2_ports.proofs.Refusals.{bind-refused}
 use Rattle.ps2_command.proofs.Accepted.{accepted-then, refused-then}
-use Rattle.ps2_keyboard.specs.Keyboard.{commandScancodeSet, getScancodeSet, setScancodeSet}
+use Rattle.ps2_keyboard.specs.Keyboard.{getScancodeSet, setScancodeSet}
 use Rattle.ps2_keyboard.specs.Answers.{saidSet}
 use Rattle.ps2_keyboard.proofs.set_keyboard_scancode_set.Statement.{statement}
 use Rattle.ps2_keyboard.proofs.set_keyboard_scancode_set.Tie as tie
@@ -18,48 +18,48 @@ use Rattle.ps2_keyboard.proofs.set_keyboard_scancode_set.Tie as tie
 mul-at : tie.Need-mul-at
 mul-at c =
     let w = c .before .before .before .before in
-    omega (arith, call-pairs-le _ _ _ (w .command-pair .ensures), w .before .before .before .before .good)
+    omega (arith, call-pairs-le _ _ _ (w .command-scancode-set .ensures), w .before .before .before .before .good)
 
 sub-script : tie.Need-sub-get-keyboard-scancode-set
-sub-script c = call-used-le _ _ _ (c .before .before .before .before .command-pair .ensures)
+sub-script c = call-used-le _ _ _ (c .before .before .before .before .command-scancode-set .ensures)
 
 sub-log : tie.Need-sub-get-keyboard-scancode-set-2
-sub-log c = call-tail-le _ _ _ (c .before .before .before .before .before .command-pair .ensures)
+sub-log c = call-tail-le _ _ _ (c .before .before .before .before .before .command-scancode-set .ensures)
 
 add-both : tie.Need-add-both
 add-both c =
     let d = c .before .before .before in
     let w = d .before .before .before .before .before .before .before in
-    omega (arith, two-used-le _ _ _ _ (w .command-pair .ensures) refl (d .get-keyboard-scancode-set .ensures), w .before .before .before .before .good)
+    omega (arith, two-used-le _ _ _ _ (w .command-scancode-set .ensures) refl (d .get-keyboard-scancode-set .ensures), w .before .before .before .before .good)
 
 add-all : tie.Need-add-all
 add-all c =
     let d = c .before .before .before .before in
     let w = d .before .before .before .before .before .before .before in
-    omega (arith, two-pairs-le _ _ _ _ (w .command-pair .ensures) refl (d .get-keyboard-scancode-set .ensures), w .before .before .before .before .good)
+    omega (arith, two-pairs-le _ _ _ _ (w .command-scancode-set .ensures) refl (d .get-keyboard-scancode-set .ensures), w .before .before .before .before .good)
 
 returns : tie.Need-returns
-unfolding setScancodeSet commandScancodeSet andThen
+unfolding setScancodeSet andThen
 returns c =
     let d = c .before .before .before .before .before .before in
     let m = d .before .before .before in
-    accepted-then _ (λ _. andThen getScancodeSet (λ _. done (gives success))) _ _ _ (m .before .before .before .before .command-pair .ensures) (m .enum-told .given .1) refl
+    accepted-then _ (λ _. andThen getScancodeSet (λ _. done (gives success))) _ _ _ (m .before .before .before .before .command-scancode-set .ensures) (m .enum-told .given .1) refl
     (bind-done getScancodeSet (onGiven (λ _. done (gives success))) _ _ (d .get-keyboard-scancode-set .ensures) (ap saidSet (c .enum-told2 .given .1)) refl)
 
 returns-2 : tie.Need-returns-2
-unfolding setScancodeSet commandScancodeSet andThen
+unfolding setScancodeSet andThen
 returns-2 c =
     let t = c .before in
     let d = t .before .before .before .before .before .before in
     let m = d .before .before .before in
-    accepted-then _ (λ _. andThen getScancodeSet (λ _. done (gives success))) _ _ _ (m .before .before .before .before .command-pair .ensures) (m .enum-told .given .1) refl
+    accepted-then _ (λ _. andThen getScancodeSet (λ _. done (gives success))) _ _ _ (m .before .before .before .before .command-scancode-set .ensures) (m .enum-told .given .1) refl
     (bind-refused getScancodeSet (λ _. done (gives success)) _ _ (d .get-keyboard-scancode-set .ensures) (t .told .given .0 .0) (ap saidSet (t .told .given .1)))
 
 returns-3 : tie.Need-returns-3
-unfolding setScancodeSet commandScancodeSet
+unfolding setScancodeSet
 returns-3 c =
     let w = c .before .before .before .before .before in
-    refused-then _ (λ _. andThen getScancodeSet (λ _. done (gives success))) _ _ _ (w .command-pair .ensures) (c .before .accepted .given .0 .0) (c .before .accepted .given .1)
+    refused-then _ (λ _. andThen getScancodeSet (λ _. done (gives success))) _ _ _ (w .command-scancode-set .ensures) (c .before .accepted .given .0 .0) (c .before .accepted .given .1)
 
 pub set-keyboard-scancode-set-spec : {M : Type 1} → statement M
 set-keyboard-scancode-set-spec =

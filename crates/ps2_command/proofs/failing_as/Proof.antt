@@ -1,11 +1,11 @@
--- `ps2_mouse::failing_as` meets its contract: the refusal is replaced, and what was accepted stays.
+-- `ps2_command::failing_as` meets its contract: the refusal is replaced, and what was accepted stays.
 -- Assumes nothing.
 use borrow.Author.Needs.{needs}
 use mathlib.Core.Path.{ap}
 use Rattle.ps2_command.specs.Command.{saidCommand}
 use Rattle.ps2_command.proofs.Replaced.{refusing-gives, refusing-refused}
-use Rattle.ps2_mouse.proofs.failing_as.Statement.{statement}
-use Rattle.ps2_mouse.proofs.failing_as.Tie as tie
+use Rattle.ps2_command.proofs.failing_as.Statement.{statement}
+use Rattle.ps2_command.proofs.failing_as.Tie as tie
 
 returns : tie.Need-returns
 returns c t s l left r = refusing-gives (c .before .before .args .failure) t s l r (ap saidCommand (c .enum-told .given .1))
