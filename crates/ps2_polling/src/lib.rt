@@ -1,11 +1,12 @@
 // Sending to and receiving from a device by polling, and the controller's tests.
 ghost use mathlib.Core.Path.{_≡_};
 ghost use Rattle.exchange.specs.Exchange.{play, played, Reads};
-ghost use Rattle.exchange.specs.Answer.{gives, refuses};
+ghost use Rattle.exchange.specs.Answer.{gives, refuses, andThen};
 ghost use Rattle.exchange.specs.Repeat.{found, repeat};
 ghost use Rattle.ps2_bytes.specs.declared.command.HostToControllerCommand.the-variants.{TestPort1, TestPort2};
 ghost use Rattle.ps2_ports.specs.Refusals.{numberOf, saidDone};
-ghost use Rattle.ps2_polling.specs.Polling.{pollingSend, pollData, turnOf, passedTurn, pollingReceive, pollingSendReceive, controllerTestResult, testController, portTestResult, testPort, saidPolled, saidResponse};
+ghost use Rattle.ps2_ports.specs.Ports.{writeCommand};
+ghost use Rattle.ps2_polling.specs.Polling.{pollLimit, pollingSend, pollData, turnOf, passedTurn, pollingReceive, pollingSendReceive, controllerTestResult, testController, portTestResult, testPort, saidPolled, saidResponse};
 use ps2_bytes::DeviceToHostResponse;
 use ps2_bytes::HostToControllerCommand;
 use ps2_bytes::HostToDevice;
@@ -74,25 +75,14 @@ pub struct SentReceived {
 pub fn test(script: &[u8], log: &mut [u8]) -> Completed
     ensures { λ r. ⌜ played (saidDone (r .answer)) (r .used) (r .pairs) (now (log .exit)) ≡ play testController (now (script .entry)) (now (log .entry)) ⌝ }
 {
-    let w = write_command(log, HostToControllerCommand::TestController);
-    let pairs = w.pairs;
-    let written = w.answer;
-    match written {
-        Completion::Done => {
-            let r = read_controller_test_result(script);
-            let answer = r.answer;
-            Completed {
-                answer,
-                used: r.used,
-                pairs,
-            }
-        }
-        Completion::Refused(e) => Completed {
-            answer: Completion::Refused(e),
-            used: 0,
-            pairs,
-        },
-    }
+    run_test(
+        script,
+        log,
+        HostToControllerCommand::TestController,
+        Waiting::DataReads,
+        CONTROLLER_TEST_PASSED,
+        Failure::ControllerTestFailed,
+    )
 }
 
 // Has the controller test the keyboard's port.
@@ -113,12 +103,33 @@ pub fn test_port2(script: &[u8], log: &mut [u8]) -> Completed
 fn test_port(script: &[u8], log: &mut [u8], command: HostToControllerCommand) -> Completed
     ensures { λ r. ⌜ played (saidDone (r .answer)) (r .used) (r .pairs) (now (log .exit)) ≡ play (testPort command) (now (script .entry)) (now (log .entry)) ⌝ }
 {
+    run_test(
+        script,
+        log,
+        command,
+        Waiting::Polls,
+        PORT_TEST_PASSED,
+        Failure::PortTestFailed,
+    )
+}
+
+// Has the controller make a test, and waits for the byte that says that it was passed.
+fn run_test(
+    script: &[u8],
+    log: &mut [u8],
+    command: HostToControllerCommand,
+    waiting: Waiting,
+    passed: u8,
+    failure: Failure,
+) -> Completed
+    ensures { λ r. ⌜ played (saidDone (r .answer)) (r .used) (r .pairs) (now (log .exit)) ≡ play (andThen (writeCommand command) (λ _. repeat pollLimit (refuses (numberOf failure)) (turnOf waiting (passedTurn passed)))) (now (script .entry)) (now (log .entry)) ⌝ }
+{
     let w = write_command(log, command);
     let pairs = w.pairs;
     let written = w.answer;
     match written {
         Completion::Done => {
-            let r = match_port_test_result(script);
+            let r = read_test_result(script, waiting, passed, POLL_LIMIT, failure);
             let answer = r.answer;
             Completed {
                 answer,

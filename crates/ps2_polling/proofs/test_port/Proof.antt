@@ -1,31 +1,12 @@
--- `test_port` meets its contract: a command, then the result from the whole script. Assumes nothing.
+-- `test_port` meets its contract: a test with its own command, wait, byte and refusal. Assumes nothing.
 use borrow.Author.Needs.{needs}
-use mathlib.Core.Path.{ap}
-use Rattle.exchange.specs.Answer.{onGiven, andThen}
-use Rattle.exchange.proofs.Calls.{writes-then-reads}
-use Rattle.ps2_ports.specs.Refusals.{Success, saidDone}
-use Rattle.ps2_ports.specs.Ports.{writeCommand}
-use Rattle.ps2_ports.proofs.Refusals.{bind-refused}
 use Rattle.ps2_polling.specs.Polling.{portTestResult, testPort}
 use Rattle.ps2_polling.proofs.test_port.Statement.{statement}
 use Rattle.ps2_polling.proofs.test_port.Tie as tie
 
 returns : tie.Need-returns
-unfolding testPort andThen
-returns c =
-    let command = c .before .before .before .before .before .before .before .before .before .args .command in
-    let write-command = c .before .before .before .before .before .write-command .ensures in
-    writes-then-reads (writeCommand command) (onGiven (λ (_ : Success). portTestResult)) _ write-command _ (ap saidDone (c .before .enum-told .given .1)) (c .match-port-test-result .ensures)
-
-returns-2 : tie.Need-returns-2
-unfolding testPort andThen
-returns-2 c =
-    let command = c .before .before .before .before .before .before .before .before .before .args .command in
-    let write-command = c .before .before .before .before .before .write-command .ensures in
-    bind-refused (writeCommand command) (λ (_ : Success). portTestResult) _ _ (write-command .with-any _) (c .before .written .given .0 .0) (ap saidDone (c .before .written .given .1))
+unfolding testPort portTestResult
+returns c = c .before .before .run-test .ensures
 
 pub test-port-spec : {M : Type 1} → statement M
-test-port-spec =
-    tie.close
-    (tie.spec
-    (λ c κs. search needs) (λ c. search needs) (λ c κs. search needs) (λ c. search needs) (λ c. search needs) returns (λ c. search needs) returns-2)
+test-port-spec = tie.close (tie.spec (λ c κs. search needs) (λ c. search needs) returns)
