@@ -3,17 +3,15 @@
 use Prim.Native.Nat.{ℕ, _+_}
 use mathlib.Core.List.{List}
 use mathlib.Core.Path.{_≡_, refl, ap}
-use Rattle.exchange.specs.Exchange.{p60, Exchange, done, read, bind, yields, Reads}
+use Rattle.exchange.specs.Exchange.{p60, Exchange, done, read, bind, End, Reads}
 use Rattle.exchange.specs.Answer.{Answer, gives, onGiven}
 use Rattle.exchange.specs.Parts.{part}
 use Rattle.exchange.specs.Position.{ReadTo}
-use Rattle.exchange.proofs.Calls.{reads-reached, reads-done, reads-yields}
-use Rattle.exchange.proofs.Reading.{read-to-done, read-to-last, read-to-call}
+use Rattle.exchange.proofs.Calls.{reads-reached, reads-yields}
+use Rattle.exchange.proofs.Reading.{read-to-last, read-to-call}
 use Rattle.ps2_packet.specs.declared.MousePacket.{MousePacket}
-use Rattle.ps2_packet.specs.declared.MousePacket.the-variants as Packet
 use Rattle.ps2_bytes.specs.declared.response.MouseId.{MouseId}
 use Rattle.ps2_bytes.specs.declared.response.MouseId.the-variants.{Zero, Three, Four}
-use Rattle.ps2_packet.specs.Packet.{generic, packet3, packet4}
 use Rattle.ps2_ports.specs.declared.ByteAnswer.{ByteAnswer}
 use Rattle.ps2_ports.specs.declared.Refusal.{Refusal}
 use Rattle.ps2_ports.specs.Refusals.{refused}
@@ -21,8 +19,7 @@ use Rattle.ps2_ports.specs.Ports.{readPort, readData, saidByte}
 use Rattle.ps2_ports.proofs.Refusals.{reads-refused}
 use Rattle.ps2_packet_reading.specs.declared.BytesAnswer.{BytesAnswer}
 use Rattle.ps2_packet_reading.specs.declared.FirstBytes.{FirstBytes}
-use Rattle.ps2_packet_reading.specs.Reading.{threeBytes, readMousePacket}
-use Rattle.ps2_packet_reading.specs.Reading.{firstBytes, saidBytes}
+use Rattle.ps2_packet_reading.specs.Reading.{threeBytes, readMousePacket, firstBytes, afterThree, saidBytes}
 
 -- ---- one byte
 
@@ -52,11 +49,6 @@ module _ {A : Type 0} (f : ℕ → Exchange (Answer A)) {a : ByteAnswer} {u₂ :
 abbrev three : Exchange (Answer FirstBytes)
 three = threeBytes (λ b1 b2 b3. done (gives (firstBytes b1 b2 b3)))
 
-abbrev pub afterThree : MouseId → FirstBytes → Exchange (Answer MousePacket)
-afterThree Zero b = done (gives (Packet.Zero (generic (b .byte1) (b .byte2) (b .byte3))))
-afterThree Three b = read p60 (λ b4. done (gives (Packet.Three (packet3 (b .byte1) (b .byte2) (b .byte3) b4))))
-afterThree Four b = read p60 (λ b4. done (gives (Packet.Four (packet4 (b .byte1) (b .byte2) (b .byte3) b4))))
-
 packet-three : (id : MouseId) → bind three (onGiven (afterThree id)) ≡ readMousePacket id
 unfolding readMousePacket bind
 packet-three Zero = refl
@@ -67,19 +59,6 @@ module _ (id : MouseId) (s : List ℕ) {a : BytesAnswer} {u : ℕ} (r : Reads th
   pub packet-refused : (x : Refusal) → a ≡ BytesAnswer.Refused x → Reads (readMousePacket id) s (refused x) u
   packet-refused x q = rw (packet-three id) at (reads-refused three (afterThree id) s r x (ap saidBytes q))
 
-  module _ {b : FirstBytes} (q : a ≡ BytesAnswer.Bytes b) where
-    -- they are the packet
-    pub packet-whole : {p : MousePacket} → afterThree id b ≡ done (gives p) → Reads (readMousePacket id) s (yields (gives p)) u
-    packet-whole e = rw (packet-three id) at (reads-done three (onGiven (afterThree id)) s r (ap saidBytes q) e)
-
-    -- one byte more is read
-    module _ (f : ℕ → MousePacket) (e : read p60 (λ b4. done (gives (f b4))) ≡ afterThree id b) {d : ByteAnswer} {u₂ : ℕ} (r₂ : Reads readData (part u s) (saidByte d) u₂) where
-      pub packet-byte : {b4 : ℕ} → d ≡ ByteAnswer.Byte b4 → {p : MousePacket} → p ≡ f b4 → Reads (readMousePacket id) s (yields (gives p)) (u + u₂)
-      packet-byte q₂ {p} h =
-          let k : Reads (afterThree id b) (part u s) (yields (gives p)) u₂ = rw (h, ← e) (read-to-done (first-byte (λ b4. done (gives (f b4))) (part u s) r₂ q₂)) in
-          rw (packet-three id) at (reads-yields three (onGiven (afterThree id)) s r (ap saidBytes q) k)
-
-      pub packet-no-byte : (x : Refusal) → d ≡ ByteAnswer.Refused x → Reads (readMousePacket id) s (refused x) (u + u₂)
-      packet-no-byte x q₂ =
-          let k : Reads (afterThree id b) (part u s) (refused x) u₂ = rw (← e) (first-refused (λ b4. done (gives (f b4))) (part u s) r₂ x q₂) in
-          rw (packet-three id) at (reads-yields three (onGiven (afterThree id)) s r (ap saidBytes q) k)
+  pub packet-rest : {b : FirstBytes} → a ≡ BytesAnswer.Bytes b → {e : End (Answer MousePacket)} {u₂ : ℕ} → Reads (afterThree id b) (part u s) e u₂
+      → Reads (readMousePacket id) s e (u + u₂)
+  packet-rest q k = rw (packet-three id) at (reads-yields three (onGiven (afterThree id)) s r (ap saidBytes q) k)

@@ -10,6 +10,7 @@ use Rattle.ps2_packet.specs.declared.MousePacket.the-variants as Packet
 use Rattle.ps2_packet.specs.Packet.{generic, packet3, packet4}
 use Rattle.ps2_ports.specs.Refusals.{refused}
 use Rattle.ps2_packet_reading.specs.declared.FirstBytes.{FirstBytes}
+use Rattle.ps2_packet_reading.specs.declared.FourByteId.{FourByteId}
 use Rattle.ps2_packet_reading.specs.declared.BytesAnswer.{BytesAnswer}
 use Rattle.ps2_packet_reading.specs.declared.PacketAnswer.{PacketAnswer}
 
@@ -23,11 +24,27 @@ readMousePacket Zero = threeBytes (λ b1 b2 b3. done (gives (Packet.Zero (generi
 readMousePacket Three = threeBytes (λ b1 b2 b3. read p60 (λ b4. done (gives (Packet.Three (packet3 b1 b2 b3 b4)))))
 readMousePacket Four = threeBytes (λ b1 b2 b3. read p60 (λ b4. done (gives (Packet.Four (packet4 b1 b2 b3 b4)))))
 
--- ---- answers
+-- ---- parts of it that are functions of their own in the code
 
 -- The bytes that every packet starts with, in the order in which they come.
 abbrev pub firstBytes : ℕ → ℕ → ℕ → FirstBytes
 firstBytes b1 b2 b3 = record { byte1 = b1; byte2 = b2; byte3 = b3 }
+
+-- The packet that they are with a fourth.
+abbrev pub fourBytes : FourByteId → FirstBytes → ℕ → MousePacket
+fourBytes FourByteId.Three b b4 = Packet.Three (packet3 (b .byte1) (b .byte2) (b .byte3) b4)
+fourBytes FourByteId.Four b b4 = Packet.Four (packet4 (b .byte1) (b .byte2) (b .byte3) b4)
+
+abbrev pub fourthByte : FourByteId → FirstBytes → Exchange (Answer MousePacket)
+fourthByte id b = read p60 (λ b4. done (gives (fourBytes id b b4)))
+
+-- What follows them at each identity.
+abbrev pub afterThree : MouseId → FirstBytes → Exchange (Answer MousePacket)
+afterThree Zero b = done (gives (Packet.Zero (generic (b .byte1) (b .byte2) (b .byte3))))
+afterThree Three b = fourthByte FourByteId.Three b
+afterThree Four b = fourthByte FourByteId.Four b
+
+-- ---- answers
 
 abbrev pub saidBytes : BytesAnswer → End (Answer FirstBytes)
 saidBytes (BytesAnswer.Bytes b) = yields (gives b)

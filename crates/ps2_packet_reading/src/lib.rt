@@ -2,7 +2,7 @@
 ghost use mathlib.Core.Path.{_≡_};
 ghost use Rattle.exchange.specs.Exchange.{done, Reads};
 ghost use Rattle.exchange.specs.Answer.{gives};
-ghost use Rattle.ps2_packet_reading.specs.Reading.{threeBytes, readMousePacket, firstBytes, saidBytes, saidPacket};
+ghost use Rattle.ps2_packet_reading.specs.Reading.{threeBytes, readMousePacket, fourBytes, fourthByte, afterThree, firstBytes, saidBytes, saidPacket};
 use ps2_bytes::MouseId;
 use ps2_packet::MousePacket;
 use ps2_packet::MousePacket3;
@@ -17,6 +17,12 @@ struct FirstBytes {
     byte1: u8,
     byte2: u8,
     byte3: u8,
+}
+
+// The identities whose packets have a fourth byte.
+enum FourByteId {
+    Three,
+    Four,
 }
 
 enum BytesAnswer {
@@ -48,56 +54,12 @@ pub fn read_packet(id: MouseId, script: &[u8]) -> PacketRead
     let used = t.used;
     let read = t.answer;
     match read {
-        BytesAnswer::Bytes(b) => match id {
-            MouseId::Zero => PacketRead {
-                answer: PacketAnswer::Packet(MousePacket::Zero(MousePacketGeneric::from_bytes(
-                    b.byte1,
-                    b.byte2,
-                    b.byte3,
-                ))),
-                used,
-            },
-            MouseId::Three => {
-                let d = read_data(&script[used..]);
-                let both = used + d.used;
-                let last = d.answer;
-                match last {
-                    ByteAnswer::Byte(byte4) => PacketRead {
-                        answer: PacketAnswer::Packet(MousePacket::Three(MousePacket3::from_bytes(
-                            b.byte1,
-                            b.byte2,
-                            b.byte3,
-                            byte4,
-                        ))),
-                        used: both,
-                    },
-                    ByteAnswer::Refused(e) => PacketRead {
-                        answer: PacketAnswer::Refused(e),
-                        used: both,
-                    },
-                }
-            }
-            MouseId::Four => {
-                let d = read_data(&script[used..]);
-                let both = used + d.used;
-                let last = d.answer;
-                match last {
-                    ByteAnswer::Byte(byte4) => PacketRead {
-                        answer: PacketAnswer::Packet(MousePacket::Four(MousePacket4::from_bytes(
-                            b.byte1,
-                            b.byte2,
-                            b.byte3,
-                            byte4,
-                        ))),
-                        used: both,
-                    },
-                    ByteAnswer::Refused(e) => PacketRead {
-                        answer: PacketAnswer::Refused(e),
-                        used: both,
-                    },
-                }
-            }
-        },
+        BytesAnswer::Bytes(first) => {
+            let a = read_after_three(&script[used..], first, id);
+            let all = used + a.used;
+            let answer = a.answer;
+            PacketRead { answer, used: all }
+        }
         BytesAnswer::Refused(e) => PacketRead {
             answer: PacketAnswer::Refused(e),
             used,
@@ -147,5 +109,60 @@ fn read_three(script: &[u8]) -> BytesRead
             answer: BytesAnswer::Refused(e),
             used: one,
         },
+    }
+}
+
+// What follows the first three bytes: at identity 0 nothing, at 3 and 4 a fourth.
+fn read_after_three(script: &[u8], first: FirstBytes, id: MouseId) -> PacketRead
+    ensures { λ r. ⌜ Reads (afterThree id first) (now (script .entry)) (saidPacket (r .answer)) (r .used) ⌝ }
+{
+    match id {
+        MouseId::Zero => PacketRead {
+            answer: PacketAnswer::Packet(MousePacket::Zero(MousePacketGeneric::from_bytes(
+                first.byte1,
+                first.byte2,
+                first.byte3,
+            ))),
+            used: 0,
+        },
+        MouseId::Three => read_fourth(script, first, FourByteId::Three),
+        MouseId::Four => read_fourth(script, first, FourByteId::Four),
+    }
+}
+
+// The fourth byte of data, which completes the packet.
+fn read_fourth(script: &[u8], first: FirstBytes, id: FourByteId) -> PacketRead
+    ensures { λ r. ⌜ Reads (fourthByte id first) (now (script .entry)) (saidPacket (r .answer)) (r .used) ⌝ }
+{
+    let d = read_data(script);
+    let used = d.used;
+    let fourth = d.answer;
+    match fourth {
+        ByteAnswer::Byte(byte4) => PacketRead {
+            answer: PacketAnswer::Packet(four_bytes(id, first, byte4)),
+            used,
+        },
+        ByteAnswer::Refused(e) => PacketRead {
+            answer: PacketAnswer::Refused(e),
+            used,
+        },
+    }
+}
+
+// The packet that four bytes are.
+fn four_bytes(id: FourByteId, first: FirstBytes, byte4: u8) -> MousePacket
+    ensures { λ r. ⌜ r ≡ fourBytes id first byte4 ⌝ }
+{
+    let byte1 = first.byte1;
+    let byte2 = first.byte2;
+    let byte3 = first.byte3;
+    match id {
+        FourByteId::Three => MousePacket::Three(MousePacket3::from_bytes(
+            byte1,
+            byte2,
+            byte3,
+            byte4,
+        )),
+        FourByteId::Four => MousePacket::Four(MousePacket4::from_bytes(byte1, byte2, byte3, byte4)),
     }
 }
