@@ -1,4 +1,4 @@
--- `ps2_keyboard::enable_scanning` meets its contract: the command, and what was found before it where it is accepted.
+-- `ps2_detect::enable_scanning` meets its contract: the command, and what was found before it where it is accepted.
 -- Assumes nothing.
 use borrow.Author.Needs.{needs}
 use mathlib.Core.Path.{refl, ap}

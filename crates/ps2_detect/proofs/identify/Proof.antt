@@ -1,4 +1,4 @@
--- `ps2_keyboard::identify` meets its contract: the search, then the command, unless the search lacked a byte.
+-- `ps2_detect::identify` meets its contract: the search, then the command, unless the search lacked a byte.
 -- Assumes nothing.
 use borrow.Author.Needs.{needs}
 use native.Mathlib.Omega.{arith}

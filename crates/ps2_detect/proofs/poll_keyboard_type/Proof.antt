@@ -1,4 +1,4 @@
--- `ps2_keyboard::poll_keyboard_type` meets its contract: each turn of a loop is one poll of what is left, of the outer search or of the inner one.
+-- `ps2_detect::poll_keyboard_type` meets its contract: each turn of a loop is one poll of what is left, of the outer search or of the inner one.
 -- Assumes nothing.
 use native.Mathlib.Omega.{arith}
 use borrow.Author.Needs.{needs}

@@ -1,4 +1,4 @@
--- `ps2_init::at_least_one` meets its contract: by which of the ports passed.
+-- `ps2_setup::at_least_one` meets its contract: by which of the ports passed.
 -- Assumes nothing.
 use borrow.Author.Needs.{needs}
 use Rattle.ps2_setup.proofs.at_least_one.Statement.{statement}

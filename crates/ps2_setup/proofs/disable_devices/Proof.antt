@@ -1,4 +1,4 @@
--- `ps2_init::disable_devices` meets its contract: AD and A7, each on the log's tail, and then the rest.
+-- `ps2_setup::disable_devices` meets its contract: AD and A7, each on the log's tail, and then the rest.
 -- Assumes nothing.
 use borrow.Author.Needs.{needs}
 use native.Mathlib.Omega.{arith}

@@ -1,4 +1,4 @@
--- `ps2_init::enable_port` meets its contract: a command where the port passed, and nothing where it did not.
+-- `ps2_setup::enable_port` meets its contract: a command where the port passed, and nothing where it did not.
 -- Assumes nothing.
 use borrow.Author.Needs.{needs}
 use mathlib.Core.Path.{refl}

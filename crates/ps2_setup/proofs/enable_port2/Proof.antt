@@ -1,4 +1,4 @@
--- `ps2_init::enable_port2` meets its contract: the second port, then the configuration on the log's tail.
+-- `ps2_setup::enable_port2` meets its contract: the second port, then the configuration on the log's tail.
 -- Assumes nothing.
 use borrow.Author.Needs.{needs}
 use native.Mathlib.Omega.{arith}

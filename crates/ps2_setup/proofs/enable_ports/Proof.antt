@@ -1,4 +1,4 @@
--- `ps2_init::enable_ports` meets its contract: the first port, then the second on the log's tail.
+-- `ps2_setup::enable_ports` meets its contract: the first port, then the second on the log's tail.
 -- Assumes nothing.
 use borrow.Author.Needs.{needs}
 use native.Mathlib.Omega.{arith}

@@ -1,4 +1,4 @@
--- `ps2_init::flush_and_read_config` meets its contract: a byte is dropped, and the rest of the script has the configuration.
+-- `ps2_setup::flush_and_read_config` meets its contract: a byte is dropped, and the rest of the script has the configuration.
 -- Assumes nothing.
 use borrow.Author.Needs.{needs}
 use native.Mathlib.Omega.{arith}

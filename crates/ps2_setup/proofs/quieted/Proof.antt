@@ -1,4 +1,4 @@
--- `ps2_init::quieted` meets its contract: three bits are put, one after another.
+-- `ps2_setup::quieted` meets its contract: three bits are put, one after another.
 -- Assumes nothing.
 use borrow.Author.Needs.{needs}
 use mathlib.Core.Bool.{false}

@@ -1,4 +1,4 @@
--- `ps2_init::running` meets its contract: two bits are put, by the port.
+-- `ps2_setup::running` meets its contract: two bits are put, by the port.
 -- Assumes nothing.
 use borrow.Author.Needs.{needs}
 use mathlib.Core.Bool.{true}

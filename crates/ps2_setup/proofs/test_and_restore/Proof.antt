@@ -1,4 +1,4 @@
--- `ps2_init::test_and_restore` meets its contract: the test, then the configuration on the log's tail.
+-- `ps2_setup::test_and_restore` meets its contract: the test, then the configuration on the log's tail.
 -- Assumes nothing.
 use borrow.Author.Needs.{needs}
 use native.Mathlib.Omega.{arith}

@@ -1,4 +1,4 @@
--- `ps2_init::test_ports` meets its contract: the first test, forgiven, then the second on what is left.
+-- `ps2_setup::test_ports` meets its contract: the first test, forgiven, then the second on what is left.
 -- Assumes nothing.
 use borrow.Author.Needs.{needs}
 use native.Mathlib.Omega.{arith}

@@ -1,4 +1,4 @@
--- `ps2_init::test_second` meets its contract: a test, forgiven, where there is a mouse, and none where there is not.
+-- `ps2_setup::test_second` meets its contract: a test, forgiven, where there is a mouse, and none where there is not.
 -- Assumes nothing.
 use borrow.Author.Needs.{needs}
 use mathlib.Core.Path.{refl, ap}

@@ -1,4 +1,4 @@
--- `ps2_init::test_with` meets its contract: the configuration, then the rest on the log's tail.
+-- `ps2_setup::test_with` meets its contract: the configuration, then the rest on the log's tail.
 -- Assumes nothing.
 use borrow.Author.Needs.{needs}
 use native.Mathlib.Omega.{arith}

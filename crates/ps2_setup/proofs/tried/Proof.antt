@@ -1,4 +1,4 @@
--- `ps2_init::tried` meets its contract: in each arm the answer is known.
+-- `ps2_setup::tried` meets its contract: in each arm the answer is known.
 -- Assumes nothing.
 use borrow.Author.Needs.{needs}
 use mathlib.Core.Path.{sym, ap, _∙_}
