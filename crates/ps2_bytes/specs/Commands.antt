@@ -117,3 +117,15 @@ mouseByte DisableDataReporting = listed mouseCommands "disable packets"
 mouseByte SetDefaults = listed mouseCommands "set defaults"
 mouseByte MouseResendByte = listed mouseCommands "resend"
 mouseByte Reset = listed mouseCommands "reset"
+
+-- ---- what is not sent
+
+-- The wiki's commands that the Rust has none for: diagnosis and the controller's own ports; echo and defaults of the keyboard; the mouse's scaling 2:1.
+abbrev pub controllerUnsent : List ℕ
+controllerUnsent = 0xAC ∷ 0xC0 ∷ 0xC1 ∷ 0xC2 ∷ 0xD0 ∷ 0xD1 ∷ 0xD2 ∷ 0xD3 ∷ []
+
+abbrev pub keyboardUnsent : List ℕ
+keyboardUnsent = 0xEE ∷ 0xF6 ∷ []
+
+abbrev pub mouseUnsent : List ℕ
+mouseUnsent = 0xE7 ∷ []
