@@ -1,6 +1,5 @@
 // Mouse packets: three bytes at identity 0, four at identities 3 and 4.
 ghost use mathlib.Core.Path.{_≡_};
-ghost use Prim.Native.Nat.{_<_};
 ghost use Rattle.bits.specs.Bits.{bit, weigh};
 ghost use Rattle.ps2_packet.specs.Signed.{twosComplement, lessIf};
 ghost use Rattle.ps2_packet.specs.Packet.{
@@ -104,7 +103,6 @@ impl MousePacketGeneric {
 
 // A movement: `bit1to8`, or all ones on overflow, with the ninth bit. Byte 1 has these two bits where the caller says.
 fn moved(byte1: u8, overflow: u8, bit9: u8, bit1to8: u8) -> i16
-    requires { ⌜ (overflow < 8) × (bit9 < 8) ⌝ }
     ensures { λ r. ⌜ r ≡ movement (bit overflow byte1) (bit bit9 byte1) bit1to8 ⌝ }
 {
     let sign = has(byte1, bit9);
@@ -217,7 +215,6 @@ impl MousePacket {
 
     // Bit `k` of byte 1.
     fn flag(self, k: u8) -> bool
-        requires { ⌜ k < 8 ⌝ }
         ensures { λ r. ⌜ r ≡ bit k (common self .byte1) ⌝ }
     {
         let m = self.generic_part();
@@ -226,7 +223,6 @@ impl MousePacket {
 
     // Bit `k` of byte 4 at identity 4.
     fn side_flag(self, k: u8) -> bool
-        requires { ⌜ k < 8 ⌝ }
         ensures { λ r. ⌜ r ≡ sideButton k self ⌝ }
     {
         match self {
