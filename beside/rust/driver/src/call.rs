@@ -96,6 +96,8 @@ pub const MOUSE_COMMANDS: [u8; 15] =
     [0xE6, 0xE8, 0xE9, 0xEA, 0xEB, 0xEC, 0xEE, 0xF0, 0xF2, 0xF3, 0xF4, 0xF5, 0xF6, 0xFE, 0xFF];
 pub const RATES: [u8; 7] = [10, 20, 40, 60, 80, 100, 200];
 pub const LAST_KEYCODE: u8 = 0x5D;
+/// The keycodes above the last: `ControlReleased` and its like. No event has one.
+pub const RELEASE_KEYCODES: [u8; 6] = [0x9D, 0xB8, 0xAA, 0xB6, 0xDB, 0xDC];
 pub const ALL_FLAGS: u16 = 0x3FF;
 pub const QUEUE_PLACES: usize = 128;
 
@@ -201,7 +203,7 @@ fn parse_op(name: &str, args: &[&str], state: Option<&str>, plan: Option<&str>) 
         "to_ascii" => {
             count(2)?;
             let keycode = hex(args[0], 2)? as u8;
-            if keycode > LAST_KEYCODE {
+            if keycode > LAST_KEYCODE && !RELEASE_KEYCODES.contains(&keycode) {
                 return Err(format!("{} is no keycode", args[0]));
             }
             Ok(Op::ToAscii(keycode, parse_flags(args[1])?))
