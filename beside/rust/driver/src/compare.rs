@@ -4,7 +4,7 @@ use crate::answer::{Answer, Done};
 use crate::call;
 use crate::call::{Call, Op};
 use crate::device::Rng;
-use crate::generate::{by_chance, kind_by_chance, sweep, Enough};
+use crate::generate::{by_chance, kind_by_chance, names, sweep, sweep_lengths, Enough, KINDS};
 use crate::oracle::Oracle;
 use crate::packed::{put_call, read_answer, Program};
 use crate::port::{self, Running};
@@ -19,6 +19,9 @@ use std::time::{Duration, Instant};
 /// A call line, its operation and the Rust's answer.
 type Asked = (String, Op, Answer);
 
+/// From so many calls on, each operation must have been called.
+const FEW: u64 = 1000;
+
 /// How many calls have been found alike.
 static ALIKE: AtomicU64 = AtomicU64::new(0);
 
@@ -29,24 +32,28 @@ struct Sender {
     packed: [Vec<u8>; 2],
     batch: Vec<Asked>,
     calls: u64,
-    wanted: u64,
-    kinds: BTreeMap<&'static str, u64>,
+    /// How many calls of each operation were sent, from the sweep and by chance.
+    sent: BTreeMap<&'static str, [u64; 2]>,
     answers: BTreeMap<String, u64>,
 }
 
+/// Where a call comes from.
+#[derive(Clone, Copy)]
+enum Source {
+    Sweep,
+    Chance,
+}
+
 impl Sender {
-    fn send(&mut self, oracle: &mut Oracle, call: Call) -> Result<(), Enough> {
+    fn send(&mut self, oracle: &mut Oracle, call: Call, from: Source) -> Result<(), Enough> {
         const BATCH: usize = 256;
-        if self.calls == self.wanted {
-            return Err(Enough);
-        }
         // Both sides are called by what the line says.
         let line = call.line();
         let call = call::parse(&line).expect("a good line");
         put_call(&call, &mut self.packed[Program::of(&call.op) as usize]).expect("a call within the program's space");
         self.calls += 1;
         let answer = oracle.answer(&call);
-        *self.kinds.entry(call.op.name()).or_default() += 1;
+        self.sent.entry(call.op.name()).or_default()[from as usize] += 1;
         count_answers(&mut self.answers, &answer);
         self.batch.push((line, call.op, answer));
         if self.batch.len() == BATCH {
@@ -84,6 +91,20 @@ fn count_answers(answers: &mut BTreeMap<String, u64>, answer: &Answer) {
             }
         }
     }
+}
+
+/// How many calls of each operation to take from a sweep of these lengths: all, where that many are wanted. Otherwise half of
+/// the calls come from the sweep: one part of these in equal shares, so that none is left out, the other by length.
+fn shares(lengths: &BTreeMap<&'static str, u64>, wanted: u64) -> BTreeMap<&'static str, u64> {
+    let all: u64 = lengths.values().sum();
+    if wanted >= all {
+        return lengths.clone();
+    }
+    let equal = wanted / 4 / lengths.len() as u64;
+    let first = |length: u64| equal.min(length);
+    let firsts: u64 = lengths.values().map(|&length| first(length)).sum();
+    let by_length = |length: u64| (length - first(length)) * (wanted / 2 - firsts) / (all - firsts);
+    lengths.iter().map(|(&name, &length)| (name, first(length) + by_length(length))).collect()
 }
 
 /// Reads from one of the port's programs, and changes a byte of the answers where that is asked for.
@@ -167,21 +188,38 @@ pub fn compare(port: port::Paths, calls: u64, seed: u64, damaged: Option<u64>) -
         packed: [Vec::new(), Vec::new()],
         batch: Vec::new(),
         calls: 0,
-        wanted: calls,
-        kinds: BTreeMap::new(),
+        sent: names().into_iter().map(|name| (name, [0, 0])).collect(),
         answers: BTreeMap::new(),
     };
     let mut oracle = Oracle::new();
     let mut rng = Rng(seed);
-    let mut going = sweep(&mut oracle, &mut |oracle, call| sender.send(oracle, call));
-    let swept = sender.calls;
-    while going.is_ok() {
-        let kind = kind_by_chance(&mut rng);
+    let lengths = sweep_lengths(&mut oracle);
+    // Of each operation how many calls of the sweep are still to come, and how many of these are to be taken: each has the
+    // same chance.
+    let mut ahead = lengths.clone();
+    let mut wanted = shares(&lengths, calls);
+    let mut going = sweep(&mut oracle, &mut |oracle, op, make| {
+        let (ahead, wanted) = (ahead.get_mut(op.name()).unwrap(), wanted.get_mut(op.name()).unwrap());
+        let is_taken = (rng.below(*ahead as usize) as u64) < *wanted;
+        *ahead -= 1;
+        *wanted -= is_taken as u64;
+        match is_taken {
+            true => {
+                let call = make(oracle);
+                sender.send(oracle, call, Source::Sweep)
+            }
+            false => Ok(()),
+        }
+    });
+    // Each operation in turn, then any.
+    let mut kinds = 0..KINDS;
+    while going.is_ok() && sender.calls < calls {
+        let kind = kinds.next().unwrap_or_else(|| kind_by_chance(&mut rng));
         let call = by_chance(&mut oracle, kind, &mut rng);
-        going = sender.send(&mut oracle, call);
+        going = sender.send(&mut oracle, call, Source::Chance);
     }
     let _ = sender.flush();
-    let Sender { to_port, to_reader, kinds, answers, .. } = sender;
+    let Sender { to_port, to_reader, sent, answers, .. } = sender;
     drop((to_port, to_reader));
     writers.into_iter().for_each(|writer| writer.join().unwrap());
     let more = reader.join().unwrap();
@@ -197,8 +235,17 @@ pub fn compare(port: port::Paths, calls: u64, seed: u64, damaged: Option<u64>) -
         return Ok(ExitCode::from(1));
     }
     let seconds = start.elapsed().as_secs();
-    println!("compare: {calls} calls, seed {seed}, no difference ({swept} of the sweep; {seconds} s)");
-    println!("compare: calls of {}", listed(&kinds));
+    let (all, swept): (u64, u64) = (lengths.values().sum(), sent.values().map(|[swept, _]| swept).sum());
+    println!("compare: {calls} calls, seed {seed}, no difference: {swept} of the sweep's {all}, the others by chance; {seconds} s");
+    for (name, [swept, chance]) in &sent {
+        let length = lengths.get(name).unwrap_or(&0);
+        println!("compare: {name}: {swept} of the sweep's {length}, {chance} by chance");
+    }
     println!("compare: answers {}", listed(&answers));
+    let uncalled: Vec<&str> = sent.iter().filter(|(_, &calls)| calls == [0, 0]).map(|(&name, _)| name).collect();
+    if calls >= FEW && !uncalled.is_empty() {
+        println!("# never called: {}", uncalled.join(", "));
+        return Ok(ExitCode::from(1));
+    }
     Ok(ExitCode::SUCCESS)
 }

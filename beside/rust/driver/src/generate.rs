@@ -1,11 +1,11 @@
-//! Calls of every operation: a sweep that leaves nothing out, then calls by chance.
+//! Calls of every operation: a sweep that leaves nothing out, and calls by chance.
 
 use crate::answer::Answer;
 use crate::call::*;
 use crate::device::*;
 use crate::oracle::Oracle;
 use crate::packed::LONGEST_SCRIPT;
-use std::collections::BTreeMap;
+use std::collections::{BTreeMap, BTreeSet};
 
 /// How many bytes for a device are answered badly: fewer than its attempts, all four, the next command's too, all.
 const TIMES: [usize; 5] = [1, 3, 4, 5, 1000];
@@ -188,7 +188,24 @@ fn damage(call: &mut Call, rng: &mut Rng) {
 /// That no more calls are wanted.
 pub struct Enough;
 
-pub type Emit<'a> = &'a mut dyn FnMut(&mut Oracle, Call) -> Result<(), Enough>;
+/// Takes a call of an operation. It is made up only where it is asked for, since a sample of the sweep takes few.
+pub type Emit<'a> = &'a mut dyn FnMut(&mut Oracle, &Op, &dyn Fn(&mut Oracle) -> Call) -> Result<(), Enough>;
+
+/// How many calls the sweep has of each operation.
+pub fn sweep_lengths(oracle: &mut Oracle) -> BTreeMap<&'static str, u64> {
+    let mut lengths = BTreeMap::new();
+    let counted = sweep(oracle, &mut |_, op, _| {
+        *lengths.entry(op.name()).or_default() += 1;
+        Ok(())
+    });
+    assert!(counted.is_ok());
+    lengths
+}
+
+/// The names of all operations.
+pub fn names() -> BTreeSet<&'static str> {
+    (0..KINDS).map(|kind| operation(kind, &mut Rng(0)).name()).collect()
+}
 
 /// Calls that leave nothing out: of each operation with each argument, over good devices, every cut of the script, every
 /// room of the log, every telling byte in the place of each that is read, and every response to each byte for a device;
@@ -199,20 +216,23 @@ pub fn sweep(oracle: &mut Oracle, emit: Emit) -> Result<(), Enough> {
         sweep_short(oracle, &op, emit)?;
     }
     sweep_scancodes(oracle, emit)?;
+    let mut emit_plain = |oracle: &mut Oracle, op: Op, script: &[u8], room: usize| {
+        emit(oracle, &op, &|_| plain(op.clone(), script, room))
+    };
     for byte in 0..=255 {
-        emit(oracle, plain(Op::WriteConfig(byte), &[], 4))?;
-        emit(oracle, plain(Op::ReadConfig, &[byte], 2))?;
+        emit_plain(oracle, Op::WriteConfig(byte), &[], 4)?;
+        emit_plain(oracle, Op::ReadConfig, &[byte], 2)?;
         for id in [0, 3, 4] {
             let op = Op::Mouse(MouseOp::ReadPacket, Some(id));
             for packet in [[byte, 0, 0, 0], [byte, 5, 0xFB, 0], [0x18, byte, 1, 2], [0x28, 1, byte, 2], [8, 1, 2, byte]]
             {
-                emit(oracle, plain(op.clone(), &packet, 0))?;
+                emit_plain(oracle, op.clone(), &packet, 0)?;
             }
         }
     }
-    for keycode in 0..=LAST_KEYCODE {
+    for keycode in (0..=LAST_KEYCODE).chain(RELEASE_KEYCODES) {
         for flags in 0..=ALL_FLAGS {
-            emit(oracle, plain(Op::ToAscii(keycode, flags), &[], 0))?;
+            emit_plain(oracle, Op::ToAscii(keycode, flags), &[], 0)?;
         }
     }
     let mut rng = Rng(0);
@@ -258,9 +278,10 @@ fn sweep_scancodes(oracle: &mut Oracle, emit: Emit) -> Result<(), Enough> {
                 for count in [0, 127, 128] {
                     let handler = Handler { ext, flags, queue: vec![waits; count] };
                     let script: Vec<u8> = [byte].into_iter().chain(LAMPS).collect();
-                    let calls = |op| plain(op, &script, 4);
-                    emit(oracle, calls(Op::Handle(handler.clone(), vec![Step::Handle(1), Step::Take(1)])))?;
-                    emit(oracle, calls(Op::Handle(handler, vec![Step::Auto])))?;
+                    for plan in [vec![Step::Handle(1), Step::Take(1)], vec![Step::Auto]] {
+                        let op = Op::Handle(handler.clone(), plan);
+                        emit(oracle, &op, &|_| plain(op.clone(), &script, 4))?;
+                    }
                 }
             }
         }
@@ -273,24 +294,22 @@ fn sweep_short(oracle: &mut Oracle, op: &Op, emit: Emit) -> Result<(), Enough> {
     for seed in 0..8 {
         let good = recorded(oracle, op, seed, 0, Twist::None);
         for length in 0..=good.script.len() {
-            emit(oracle, Call { script: good.script[..length].to_vec(), ..good.clone() })?;
+            emit(oracle, op, &|_| Call { script: good.script[..length].to_vec(), ..good.clone() })?;
         }
         for room in 0..=good.room + 2 {
-            emit(oracle, Call { room, ..good.clone() })?;
+            emit(oracle, op, &|_| Call { room, ..good.clone() })?;
         }
     }
     for seed in 0..2 {
         let good = recorded(oracle, op, seed, 0, Twist::None);
         for read in 0..good.script.len() {
             for byte in TELLING {
-                let call = recorded(oracle, op, seed, 0, Twist::Byte(read, byte));
-                emit(oracle, call)?;
+                emit(oracle, op, &|oracle| recorded(oracle, op, seed, 0, Twist::Byte(read, byte)))?;
             }
         }
         for from in 0..good.room / 2 {
             for (byte, times) in RESPONSES.into_iter().flat_map(|byte| TIMES.map(|times| (byte, times))) {
-                let call = recorded(oracle, op, seed, 0, Twist::Answers(from, byte, times));
-                emit(oracle, call)?;
+                emit(oracle, op, &|oracle| recorded(oracle, op, seed, 0, Twist::Answers(from, byte, times)))?;
             }
         }
     }
@@ -303,15 +322,14 @@ fn sweep_limits(oracle: &mut Oracle, op: &Op, emit: Emit) -> Result<(), Enough> 
         for limit in LIMITS {
             for bytes in stalling(limit) {
                 for times in limit - 1..=limit + 1 {
-                    let call = recorded(oracle, op, 0, 0, Twist::Stall(read, bytes.to_vec(), times));
-                    emit(oracle, call)?;
+                    let twist = || Twist::Stall(read, bytes.to_vec(), times);
+                    emit(oracle, op, &|oracle| recorded(oracle, op, 0, 0, twist()))?;
                 }
             }
         }
     }
     for more in [-1, 0, 1] {
-        let call = recorded(oracle, op, 0, 0, Twist::Longest(more));
-        emit(oracle, call)?;
+        emit(oracle, op, &|oracle| recorded(oracle, op, 0, 0, Twist::Longest(more)))?;
     }
     Ok(())
 }
