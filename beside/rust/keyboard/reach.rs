@@ -21,3 +21,11 @@ pub fn forget() {
 pub fn modifiers() -> &'static mut KeyboardModifiers {
     unsafe { &mut KBD_MODIFIERS }
 }
+
+/// What the interrupt handler does with a scancode that is no prefix, called without an interrupt frame.
+pub fn handle_directly() {
+    if let Some(KeyboardInterruptParams { keyboard, queue }) = KEYBOARD.get() {
+        let scan_code = keyboard.read_scancode();
+        let _ = handle_keyboard_input(keyboard, queue, scan_code, false);
+    }
+}

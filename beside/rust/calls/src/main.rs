@@ -1,32 +1,55 @@
-//! Repeats handler calls of the port, for `bench`. Standard input is `value` or `place`, a script, the calls in a row and how
-//! often: `place 1E 100 5000`. Each row of calls starts from a fresh record, so no event is taken.
+//! Measures handler calls of the Rust and of the port side by side, for `bench`: calls ROUNDS. Prints a line for each measure: its
+//! name, and nanoseconds for a call, the least and the median of the rounds. A round makes each measure in turn.
+//!
+//! A measure is rows of 100 calls, each row from a fresh record on and with nothing taken. `frame` is rows that enter an empty
+//! handler by the same way as the Rust's, `ready` and its like rows that make no call: to be taken off the others.
 
+use event_types::Event;
+use keycodes_ascii::KeyboardModifiers;
+use mpmc::Queue;
+use port_io::wire;
+use ps2::PS2Keyboard;
 use std::hint::black_box;
-use std::io;
 
 extern "C" {
     /// The port's proved functions (crates/keyboard_calls). A slice is a pointer and a length.
     fn keyboard_calls_by_value(script: *const u8, bytes: usize, log: *mut u8, room: usize, times: usize) -> usize;
     fn keyboard_calls_in_place(script: *const u8, bytes: usize, log: *mut u8, room: usize, times: usize) -> usize;
+
+    fn clock_gettime(clock: i32, time: *mut [i64; 2]) -> i32;
 }
 
-/// So many calls in a row, each with this script; answers how many events then wait.
-fn calls(script: &[u8], log: &mut [u8], times: usize, in_place: bool) -> usize {
+/// The calls of a row, the rows of a measure, and the room of a call's log.
+const IN_A_ROW: usize = 100;
+const ROWS: usize = 50;
+const ROOM: usize = 16;
+
+const KEY: [u8; 1] = [0x1E];
+const LOCK: [u8; 7] = [0x3A, 0x00, 0x01, 0xFA, 0x00, 0x01, 0xFA];
+
+/// Seconds of processor time of this thread, which other programs hardly change.
+fn seconds() -> f64 {
+    const CLOCK_THREAD_CPUTIME_ID: i32 = 3;
+    let mut time = [0; 2];
+    assert_eq!(unsafe { clock_gettime(CLOCK_THREAD_CPUTIME_ID, &mut time) }, 0);
+    time[0] as f64 + time[1] as f64 / 1e9
+}
+
+/// The port's calls in a row, each with this script; answers how many events then wait.
+fn port(script: &[u8], log: &mut [u8], times: usize, in_place: bool) -> usize {
     let calls = if in_place { keyboard_calls_in_place } else { keyboard_calls_by_value };
     unsafe { calls(script.as_ptr(), script.len(), log.as_mut_ptr(), log.len(), times) }
 }
 
-const LOCK: [u8; 7] = [0x3A, 0x00, 0x01, 0xFA, 0x00, 0x01, 0xFA];
-
 /// Calls whose answers document 01 gives, so that a library that is linked wrongly isn't measured.
-fn check(in_place: bool) {
-    let mut log = [0; 16];
-    let calls = |script: &[u8], log: &mut [u8], times| calls(script, log, times, in_place);
-    assert_eq!(calls(&[0x1E], &mut log, 100), 100, "events of a plain key");
-    assert_eq!(calls(&[0x1E], &mut log, 200), 128, "events of a plain key, the queue full");
+fn check_port(in_place: bool) {
+    let mut log = [0; ROOM];
+    let calls = |script: &[u8], log: &mut [u8], times| port(script, log, times, in_place);
+    assert_eq!(calls(&KEY, &mut log, 100), 100, "events of a plain key");
+    assert_eq!(calls(&KEY, &mut log, 200), 128, "events of a plain key, the queue full");
     assert_eq!(calls(&[0xE0], &mut log, 100), 0, "events of a prefix");
     assert_eq!(calls(&[], &mut log, 100), 0, "events of no script");
-    assert_eq!(log, [0; 16], "the log of calls that write nothing");
+    assert_eq!(log, [0; ROOM], "the log of calls that write nothing");
     assert_eq!(calls(&LOCK, &mut log, 1), 1, "events of a lock");
     assert_eq!(log[..5], [0x60, 0xED, 0x60, 0x04, 0x00], "the log of a lock's first press");
     assert_eq!(calls(&LOCK, &mut log, 2), 2, "events of a lock, twice");
@@ -34,17 +57,103 @@ fn check(in_place: bool) {
     assert_eq!(calls(&LOCK, &mut log[..3], 1), 0, "events of a lock whose log is full");
 }
 
+/// The Rust, its handler registered by its own `init`.
+struct Rust {
+    queue: Queue<Event>,
+    script: Vec<u8>,
+}
+
+impl Rust {
+    fn new() -> Rust {
+        /// A keyboard that answers every step of keyboard initialisation.
+        const GOOD_KEYBOARD: [u8; 27] = [
+            0, 1, 0xFA, 0, 1, 0xFA, 1, 0xAB, 1, 0x83, 0, 1, 0xFA, 0, 1, 0xFA, 0, 1, 0xFA, 0, 1, 0xFA, 0, 1, 0xFA, 1, 1,
+        ];
+        let controller = Box::leak(Box::new(ps2::reach::controller(true, true)));
+        let queue = Queue::new();
+        wire().script = GOOD_KEYBOARD.to_vec();
+        wire().begin(0, 64, false);
+        keyboard::init(PS2Keyboard::new(controller), queue.clone()).expect("a keyboard");
+        assert_eq!(wire().lack, 0, "the keyboard's script is long enough");
+        Rust { queue, script: Vec::new() }
+    }
+
+    /// The scripts of a row's calls, one behind the other, so that nothing has to be done between two calls.
+    fn set_script(&mut self, script: &[u8]) {
+        self.script = script.repeat(IN_A_ROW);
+        wire().script.clone_from(&self.script);
+    }
+
+    /// A row of calls, by this way into the handler.
+    fn row(&self, call: fn()) {
+        wire().begin(0, ROOM * IN_A_ROW, false);
+        self.queue.clear();
+        *keyboard::reach::modifiers() = KeyboardModifiers::new();
+        (0..IN_A_ROW).for_each(|_| call());
+    }
+
+    /// Whether a row did all that it should: used its script, wrote so many pairs, and left an event for each call.
+    fn check(&mut self, script: &[u8], pairs: usize) {
+        self.set_script(script);
+        for call in [interrupts::raise, keyboard::reach::handle_directly] {
+            self.row(call);
+            let mut events = 0;
+            self.queue.for_each(|_| events += 1);
+            let left = (wire().at, wire().lack, wire().log.len(), events, log::errors().len());
+            assert_eq!(left, (self.script.len(), 0, 2 * pairs * IN_A_ROW, IN_A_ROW, 0), "the Rust's row of calls");
+        }
+    }
+}
+
+/// The least and the median.
+fn spread(mut values: Vec<f64>) -> (f64, f64) {
+    values.sort_by(f64::total_cmp);
+    (values[0], values[values.len() / 2])
+}
+
 fn main() {
-    let line = io::read_to_string(io::stdin()).expect("a line");
-    let words: Vec<&str> = line.split_whitespace().collect();
-    let [way, script, times, repeat] = words[..] else { panic!("usage: calls <<<'value|place SCRIPT CALLS REPEAT'") };
-    let in_place = way == "place";
-    check(in_place);
-    let digits = |at| u8::from_str_radix(&script[at..at + 2], 16).expect("pairs of hexadecimal digits");
-    let script: Vec<u8> = (0..script.len()).step_by(2).map(digits).collect();
-    let times = times.parse().expect("a number of calls");
-    let mut log = [0; 16];
-    for _ in 0..repeat.parse::<u64>().expect("a number of repetitions") {
-        black_box(calls(black_box(&script), &mut log, times, black_box(in_place)));
+    let rounds: usize = std::env::args().nth(1).and_then(|word| word.parse().ok()).expect("usage: calls ROUNDS");
+    check_port(false);
+    check_port(true);
+    let mut rust = Rust::new();
+    rust.check(&KEY, 0);
+    rust.check(&LOCK, 2);
+
+    let mut log = [0; ROOM];
+    let mut measures: Vec<(String, Vec<f64>)> = Vec::new();
+    for round in 0..=rounds {
+        let mut at = 0;
+        let mut measure = |name: &str, row: &mut dyn FnMut()| {
+            let start = seconds();
+            (0..ROWS).for_each(|_| row());
+            let nanoseconds = (seconds() - start) * 1e9 / (ROWS * IN_A_ROW) as f64;
+            // The first round makes ready and doesn't count.
+            match round {
+                0 => measures.push((name.to_string(), Vec::new())),
+                _ => measures[at].1.push(nanoseconds),
+            }
+            at += 1;
+        };
+        for (name, script) in [("key", &KEY[..]), ("lock", &LOCK[..])] {
+            rust.set_script(script);
+            let mut measure = |what: &str, row: &mut dyn FnMut()| measure(&format!("{name}-{what}"), row);
+            measure("rust", &mut || rust.row(interrupts::raise));
+            let handler = interrupts::register_nothing();
+            measure("frame", &mut || rust.row(interrupts::raise));
+            interrupts::register_again(handler);
+            measure("direct", &mut || rust.row(keyboard::reach::handle_directly));
+            measure("ready", &mut || rust.row(|| ()));
+            let mut port_row = |times, in_place| {
+                black_box(port(black_box(script), &mut log, times, in_place));
+            };
+            measure("value", &mut || port_row(IN_A_ROW, false));
+            measure("place", &mut || port_row(IN_A_ROW, true));
+            measure("value-ready", &mut || port_row(0, false));
+            measure("place-ready", &mut || port_row(0, true));
+        }
+    }
+    for (name, values) in measures {
+        let (least, median) = spread(values);
+        println!("{name} {least:.3} {median:.3}");
     }
 }

@@ -1,14 +1,20 @@
-//! How long the port takes for a call, and the Rust: the same calls to both programs, each of which repeats a call
-//! on its own side. What a program and a line cost beside the calls is taken off by a run that makes each call once.
+//! How long the port takes for a call, and the Rust, as a table. Each side makes the same calls in a loop of its own. Handler
+//! calls are measured by the program `calls`, which links the port's.
 
+use crate::answer::Answer;
 use crate::call::{self, Call, ALL_FLAGS, LAST_KEYCODE};
 use crate::device::Rng;
+use crate::oracle::Oracle;
 use crate::packed::{put_call, read_answer, Program};
 use crate::port::Paths;
+use std::collections::BTreeMap;
+use std::fmt;
 use std::fs::{self, File};
+use std::hint::black_box;
 use std::io;
 use std::path::Path;
-use std::process::{Child, Command, ExitCode};
+use std::process::{Child, Command, ExitCode, Stdio};
+use std::time::Instant;
 
 /// Linux's `rusage`, as words: the first four are seconds and microseconds of user and of system time.
 type Usage = [i64; 18];
@@ -16,6 +22,7 @@ type Usage = [i64; 18];
 extern "C" {
     fn wait4(pid: i32, status: *mut i32, options: i32, usage: *mut Usage) -> i32;
     fn getrusage(who: i32, usage: *mut Usage) -> i32;
+    fn clock_gettime(clock: i32, time: *mut [i64; 2]) -> i32;
 }
 
 /// Seconds of processor time, which other programs hardly change.
@@ -33,78 +40,144 @@ fn processor_time(child: Child) -> io::Result<f64> {
     }
 }
 
-/// The seconds that this program has taken.
-fn own_time() -> f64 {
-    let mut usage = [0; 18];
-    unsafe { getrusage(0, &mut usage) };
-    seconds(usage)
+/// The seconds that this thread takes for something.
+fn own_time(work: impl FnOnce()) -> f64 {
+    const CLOCK_THREAD_CPUTIME_ID: i32 = 3;
+    let now = || {
+        let mut time = [0; 2];
+        assert_eq!(unsafe { clock_gettime(CLOCK_THREAD_CPUTIME_ID, &mut time) }, 0);
+        time[0] as f64 + time[1] as f64 / 1e9
+    };
+    let start = now();
+    work();
+    now() - start
 }
 
-/// A program of either side, the input with which it makes each call so many times, and what is wrong with its output.
-struct Side<'a> {
-    program: &'a [&'a str],
-    input: &'a dyn Fn(u64) -> Result<Vec<u8>, String>,
-    error: &'a dyn Fn(&[u8]) -> Option<String>,
+/// The seconds of processor time that a program takes on an input, and what it writes. It reads and writes files, so that it waits
+/// for nobody.
+fn run(program: &[&str], bytes: &[u8]) -> io::Result<(f64, Vec<u8>)> {
+    let file = |name: &str| std::env::temp_dir().join(format!("beside-{}-{name}", std::process::id()));
+    let (input, output) = (file("input"), file("output"));
+    fs::write(&input, bytes)?;
+    let mut command = Command::new(program[0]);
+    command.args(&program[1..]).stdin(File::open(&input)?).stdout(File::create(&output)?);
+    let seconds = command.spawn().and_then(processor_time);
+    let written = fs::read(&output)?;
+    fs::remove_file(&input).and(fs::remove_file(&output))?;
+    Ok((seconds?, written))
 }
 
-impl Side<'_> {
-    /// The seconds that the program takes, and what it writes. It reads and writes files, so that it waits for nobody.
-    fn run(&self, times: u64) -> io::Result<(f64, Vec<u8>)> {
-        let file = |name: &str| std::env::temp_dir().join(format!("beside-{}-{name}", std::process::id()));
-        let (input, output) = (file("input"), file("output"));
-        fs::write(&input, (self.input)(times).map_err(io::Error::other)?)?;
-        let mut command = Command::new(self.program[0]);
-        command.args(&self.program[1..]).stdin(File::open(&input)?).stdout(File::create(&output)?);
-        let seconds = command.spawn().and_then(processor_time);
-        let written = fs::read(&output)?;
-        fs::remove_file(&input).and(fs::remove_file(&output))?;
-        match (self.error)(&written) {
-            Some(why) => Err(io::Error::other(why)),
-            None => Ok((seconds?, written)),
+/// The least and the median of some rounds, in nanoseconds.
+#[derive(Clone, Copy)]
+struct Spread {
+    least: f64,
+    median: f64,
+}
+
+impl Spread {
+    fn of(mut values: Vec<f64>) -> Spread {
+        values.sort_by(f64::total_cmp);
+        Spread { least: values[0], median: values[values.len() / 2] }
+    }
+
+    /// What is left where so many of another measure are taken off.
+    fn without(self, times: f64, other: Spread) -> Spread {
+        Spread { least: self.least - times * other.least, median: self.median - times * other.median }
+    }
+}
+
+impl fmt::Display for Spread {
+    fn fmt(&self, f: &mut fmt::Formatter) -> fmt::Result {
+        write!(f, "{} ({})", number(self.least), number(self.median))
+    }
+}
+
+/// A number with three digits or more, its thousands parted by commas.
+fn number(value: f64) -> String {
+    if value < 100.0 {
+        return format!("{value:.1}");
+    }
+    let digits = format!("{value:.0}");
+    let part = |(i, digit)| if i > 0 && (digits.len() - i) % 3 == 0 { format!(",{digit}") } else { format!("{digit}") };
+    digits.chars().enumerate().map(part).collect()
+}
+
+/// The rows of the table, and whether all were measured.
+struct Table {
+    whole: bool,
+}
+
+impl Table {
+    fn begin() -> Table {
+        println!("| call | Rust, ns: least (median) | port, ns: least (median) | port / Rust | what is in the row |");
+        println!("|---|---|---|---|---|");
+        Table { whole: true }
+    }
+
+    fn row(&mut self, name: &str, measured: io::Result<(Spread, Spread)>, contents: &str) {
+        match measured {
+            Ok((rust, port)) => {
+                let ratios = format!("{:.2} ({:.2})", port.least / rust.least, port.median / rust.median);
+                println!("| {name} | {rust} | {port} | {ratios} | {contents} |");
+            }
+            Err(why) => {
+                self.whole = false;
+                println!("| {name} | | | | not measured: {why} |");
+            }
         }
     }
-
-    /// The seconds that so many repetitions take more than one.
-    fn beyond_one(&self, times: u64) -> io::Result<f64> {
-        Ok(self.run(times)?.0 - self.run(1)?.0)
-    }
-
-    /// Repetitions enough to be measured.
-    fn enough(&self) -> io::Result<u64> {
-        let mut times = 2;
-        while self.beyond_one(times)? < 0.15 {
-            times *= 2;
-        }
-        Ok(times)
-    }
 }
 
-fn median(values: &mut [f64]) -> f64 {
-    values.sort_by(f64::total_cmp);
-    values[values.len() / 2]
-}
-
-/// Prints a row: nanoseconds for a call on each side, and the port's over the Rust's, each the median of the rounds.
-fn measure(name: &str, calls: f64, times: u64, rounds: usize, rust: &Side, port: &Side) -> io::Result<()> {
-    let nanoseconds = 1e9 / (calls * (times - 1) as f64);
-    let (mut of_rust, mut of_port, mut ratios) = (Vec::new(), Vec::new(), Vec::new());
+/// Measures both sides in turn: nanoseconds for each of so many calls.
+fn measure(
+    calls: f64,
+    rounds: usize,
+    mut rust: impl FnMut() -> io::Result<f64>,
+    mut port: impl FnMut() -> io::Result<f64>,
+) -> io::Result<(Spread, Spread)> {
+    let (mut of_rust, mut of_port) = (Vec::new(), Vec::new());
     for _ in 0..rounds {
-        let (r, p) = (rust.beyond_one(times)?, port.beyond_one(times)?);
-        of_rust.push(r * nanoseconds);
-        of_port.push(p * nanoseconds);
-        ratios.push(p / r);
+        of_rust.push(rust()? * 1e9 / calls);
+        of_port.push(port()? * 1e9 / calls);
     }
-    let (r, p, ratio) = (median(&mut of_rust), median(&mut of_port), median(&mut ratios));
-    if ratio < 0.01 {
+    Ok((Spread::of(of_rust), Spread::of(of_port)))
+}
+
+/// Measures calls, each made so often that a side takes long enough. The Rust makes them here. The port's program repeats each
+/// by itself; what it and a call's bytes cost beside is taken off by a run that makes each call once.
+fn measure_calls(oracle: &mut Oracle, lines: &[String], port: Paths, rounds: usize) -> io::Result<(Spread, Spread)> {
+    const SECONDS: f64 = 0.15;
+    let calls: Vec<Call> = lines.iter().map(|line| call::parse(line).expect("a good line")).collect();
+    let program = [port[Program::of(&calls[0].op) as usize]];
+    let answers: Vec<Answer> = calls.iter().map(|call| oracle.answer(call)).collect();
+    let by_port = |times: u64| {
+        let (seconds, written) = run(&program, &packed(&calls, times).map_err(io::Error::other)?)?;
+        match packed_error(&calls, &answers, &written) {
+            Some(why) => Err(io::Error::other(why)),
+            None => Ok(seconds),
+        }
+    };
+    let mut by_rust = |times: u64| own_time(|| calls.iter().for_each(|call| oracle.repeat(call, times)));
+    let mut times = 2;
+    while by_rust(times) < SECONDS {
+        times *= 2;
+    }
+    // Both make as many calls.
+    let made = (calls.len() as u64 * (times - 1)) as f64;
+    let (rust, port) = measure(made, rounds, || Ok(by_rust(times - 1)), || Ok(by_port(times)? - by_port(1)?))?;
+    if port.median < rust.median / 100.0 {
         return Err(io::Error::other("the port's program does not repeat the call"));
     }
-    let (least, most) = (ratios[0], ratios[rounds - 1]);
-    println!("{name:<44} {r:>12.1} {p:>12.1} {ratio:>8.2} {least:>8.2} {most:>8.2}");
-    Ok(())
+    Ok((rust, port))
 }
 
-/// A whole command of 525,300 reads: each of four attempts waits 254 times, then polls 65,534 times for nothing.
+/// A device that never answers: one status read before the byte, then every poll in vain.
 fn silent_device() -> String {
+    "keyboard_command ED script=1C*65536 log=8".to_string()
+}
+
+/// A whole command of 525,300 reads: each of four attempts waits 254 times, then gets 55 at 65,534 polls, and FE.
+fn prattling_device() -> String {
     format!("keyboard_command ED script={} log=8", ["02*254,00,0155*65534,01FE"; 4].join(","))
 }
 
@@ -119,17 +192,6 @@ fn keys() -> Vec<u8> {
     (0..32768).map(|_| 0x02 + rng.below(0x38) as u8).flat_map(|key| [key, key | 0x80]).collect()
 }
 
-/// Nanoseconds to enter a handler by an interrupt frame and to leave it, the median of the rounds.
-fn entering(rounds: usize) -> f64 {
-    const TIMES: u32 = 1_000_000;
-    let round = |_| {
-        let start = own_time();
-        (0..TIMES).for_each(|_| interrupts::raise_nothing());
-        (own_time() - start) * 1e9 / TIMES as f64
-    };
-    median(&mut (0..rounds).map(round).collect::<Vec<f64>>())
-}
-
 /// Packed calls, for one of the port's programs.
 fn packed(calls: &[Call], times: u64) -> Result<Vec<u8>, String> {
     let mut out = Vec::new();
@@ -139,79 +201,147 @@ fn packed(calls: &[Call], times: u64) -> Result<Vec<u8>, String> {
     Ok(out)
 }
 
-fn packed_error(calls: &[Call], mut output: &[u8]) -> Option<String> {
-    calls.iter().find_map(|call| match read_answer(&call.op, &mut output) {
-        Ok(answer) => answer.err(),
+/// What is wrong with the port's answers, which are the Rust's.
+fn packed_error(calls: &[Call], answers: &[Answer], mut output: &[u8]) -> Option<String> {
+    calls.iter().zip(answers).find_map(|(call, expected)| match read_answer(&call.op, &mut output) {
+        Ok(Ok(answer)) if answer == *expected => None,
+        Ok(Ok(answer)) => Some(format!("the port answers {answer}")),
+        Ok(Err(why)) => Some(why),
         Err(why) => Some(why.to_string()),
     })
 }
 
-fn line_error(output: &[u8]) -> Option<String> {
-    output.starts_with(b"error:").then(|| String::from_utf8_lossy(output).lines().next().unwrap().to_string())
+/// What the program `calls` measured: a line is a name, the least and the median.
+fn handler_measures(program: &Path, rounds: usize) -> io::Result<BTreeMap<String, Spread>> {
+    let output = Command::new(program).arg(rounds.to_string()).stderr(Stdio::inherit()).output()?;
+    if !output.status.success() {
+        return Err(io::Error::other("the program 'calls' failed"));
+    }
+    let line = |line: &str| {
+        let mut words = line.split(' ');
+        let name = words.next()?.to_string();
+        Some((name, Spread { least: words.next()?.parse().ok()?, median: words.next()?.parse().ok()? }))
+    };
+    Ok(String::from_utf8_lossy(&output.stdout).lines().filter_map(line).collect())
+}
+
+/// Nanoseconds for a read of the Rust's stand-in for a port, with nothing around it.
+fn bare_read(rounds: usize) -> Spread {
+    const READS: usize = 65536;
+    let port = port_io::Port::<u8>::new(0x64);
+    let round = |_| {
+        port_io::wire().script = vec![0x1C; READS];
+        port_io::wire().begin(0, 0, false);
+        own_time(|| (0..READS).for_each(|_| _ = black_box(black_box(&port).read()))) * 1e9 / READS as f64
+    };
+    Spread::of((0..rounds).map(round).collect())
+}
+
+/// Seconds of processor time that this program, those that it ran, and all programs of the machine have taken.
+fn own_and_all() -> Option<(f64, f64)> {
+    let used = |who: i32| {
+        let mut usage = [0; 18];
+        unsafe { getrusage(who, &mut usage) };
+        seconds(usage)
+    };
+    const HUNDREDTHS: f64 = 100.0;
+    let stat = fs::read_to_string("/proc/stat").ok()?;
+    let words: Vec<f64> =
+        stat.lines().next()?.split_ascii_whitespace().skip(1).filter_map(|w| w.parse().ok()).collect();
+    // user, nice, system, idle, iowait, irq, softirq, steal
+    let busy: f64 = [0, 1, 2, 5, 6, 7].iter().map(|&i| words.get(i).unwrap_or(&0.0)).sum();
+    Some((used(0) + used(-1), busy / HUNDREDTHS))
 }
 
 pub fn bench(port: Paths, tablekeys: &str, rounds: usize) -> io::Result<ExitCode> {
+    let (start, before) = (Instant::now(), own_and_all());
     let own = std::env::current_exe()?;
     let own = own.to_str().expect("a path in UTF-8");
-    let one = |line: &str| vec![line.to_string()];
-    println!("{:<44} {:>12} {:>12} {:>8} {:>8} {:>8}", "", "Rust, ns", "port, ns", "ratio", "least", "most");
+    let mut table = Table::begin();
 
-    // Handler calls have a program of their own: rows of calls from a fresh record on, with nothing taken.
-    let program = Path::new(own).with_file_name("calls");
-    let program = program.to_str().expect("a path in UTF-8");
-    let (key, lock) = ("1E", "3A0001FA0001FA");
-    let rows = [
-        ("handler call, plain key, by value", "value", key),
-        ("handler call, plain key, in place", "place", key),
-        ("lock with its lamp exchange, by value", "value", lock),
-        ("lock with its lamp exchange, in place", "place", lock),
-    ];
-    for (name, way, script) in rows {
-        let in_a_row = |times| Ok(format!("handle script={script}*100 log=16 plan=auto repeat={times}\n").into_bytes());
-        let input = |times| Ok(format!("{way} {script} 100 {times}\n").into_bytes());
-        let rust = Side { program: &[own, "replay"], input: &in_a_row, error: &line_error };
-        let port = Side { program: &[program], input: &input, error: &|_| None };
-        let times = rust.enough()?;
-        if let Err(why) = measure(name, 100.0, times, rounds, &rust, &port) {
-            println!("{name:<44} not measured: {why}");
-        }
+    // Handler calls are measured by a program of their own, both sides in turn, in many short rounds.
+    let measures = handler_measures(&Path::new(own).with_file_name("calls"), 100 * rounds)?;
+    let measured = |name: &str| measures.get(name).copied().ok_or_else(|| io::Error::other(format!("no {name}")));
+    let handler_calls =
+        [("key", "plain key", ""), ("lock", "lock", ", each with its lamp exchange of 6 reads and 2 writes")];
+    for (name, call, exchange) in handler_calls {
+        let of = |what: &str| measured(&format!("{name}-{what}"));
+        let (with_frame, frame) = (of("rust")?, of("frame")?);
+        let rust = with_frame.without(1.0, frame);
+        let port = |way: &str| Ok::<_, io::Error>(of(way)?.without(1.0, of(&format!("{way}-ready"))?));
+        let contents = format!(
+            "100 calls in a row from a fresh record on, nothing taken{exchange}. \
+             The Rust's took {with_frame} with the frame, an empty handler's frame {frame}, which is taken off"
+        );
+        table.row(&format!("handler call, {call}, by value"), Ok((rust, port("value")?)), &contents);
+        table.row(&format!("handler call, {call}, in place"), Ok((rust, port("place")?)), "the same calls");
     }
 
-    let silent = one(&silent_device());
-    let init = one("init script=0333551D001D001C1DFAAA1C3DFAAA0003 log=64");
-    let characters = every_character();
+    let one = |line: &str| vec![line.to_string()];
     let rows = [
-        ("silent device, 525,300 reads", 1, &silent),
-        ("init", 1, &init),
-        ("to_ascii, all keys and flags", characters.len(), &characters),
+        (
+            "`keyboard_command ED`, a silent device",
+            one(&silent_device()),
+            "65,536 status reads, the first before the byte, and 1 write; refused 5",
+        ),
+        (
+            "`keyboard_command ED`, a device that sends 55",
+            one(&prattling_device()),
+            "525,300 reads and 4 writes: four attempts, each busy 254 times, then 55 at 65,534 polls, then FE; refused 7",
+        ),
+        (
+            "`init` on a recorded script",
+            one("init script=0333551D001D001C1DFAAA1C3DFAAA0003 log=64"),
+            "17 reads and 18 writes, and the record before each call",
+        ),
+        ("`read_config`", one("read_config script=03 log=2"), "a write and a read: the least call, so the most that a loop adds to a call"),
+        ("`to_ascii`", every_character(), "the mean over the 94 keycodes that events have and all flags"),
     ];
-    for (name, calls, lines) in rows {
-        let repeated =
-            |times| Ok(lines.iter().flat_map(|line| format!("{line} repeat={times}\n").into_bytes()).collect());
-        let parsed: Vec<Call> = lines.iter().map(|line| call::parse(line).expect("a good line")).collect();
-        let rust = Side { program: &[own, "replay"], input: &repeated, error: &line_error };
-        let port = Side {
-            program: &[port[Program::of(&parsed[0].op) as usize]],
-            input: &|times| packed(&parsed, times),
-            error: &|output| packed_error(&parsed, output),
-        };
-        let times = rust.enough()?;
-        if let Err(why) = measure(name, calls as f64, times, rounds, &rust, &port) {
-            println!("{name:<44} not measured: {why}");
-        }
+    let mut oracle = Oracle::new();
+    for (name, lines, contents) in rows {
+        table.row(name, measure_calls(&mut oracle, &lines, port, rounds), contents);
     }
 
     // This program can't repeat: it is run on all the keys, and on none, to take off its start.
     let keys = keys();
-    let input = |times| Ok(if times == 1 { Vec::new() } else { keys.clone() });
-    let rust = Side { program: &[own, "tablekeys"], input: &input, error: &|_| None };
-    let port = Side { program: &[tablekeys], input: &input, error: &|_| None };
-    let name = "tablekeys, 65,536 bytes of keys";
-    match port.run(2) {
-        Ok((_, written)) if written == rust.run(2)?.1 => measure(name, 1.0, 2, 5 * rounds, &rust, &port)?,
-        Ok(_) => println!("{name:<44} not measured: the two sides write different lines"),
-        Err(why) => println!("{name:<44} not measured: {why}"),
+    let (rust, port) = ([own, "tablekeys"], [tablekeys]);
+    let both = match (run(&rust, &keys)?, run(&port, &keys)) {
+        (_, Err(why)) => Err(why),
+        ((_, of_rust), Ok((_, of_port))) if of_rust != of_port => {
+            Err(io::Error::other("the two sides write different lines"))
+        }
+        _ => {
+            let beyond_start = |program: &[&str]| Ok(run(program, &keys)?.0 - run(program, &[])?.0);
+            measure(1.0, 5 * rounds, || beyond_start(&rust), || beyond_start(&port))
+        }
+    };
+    let frame = measured("key-frame")?;
+    let with_frames = both.as_ref().map_or(String::new(), |(rust, _)| rust.to_string());
+    let contents = format!(
+        "65,536 handler calls, takings and lines, without the programs' start. \
+         The Rust's took {with_frames} with a frame for each call, {frame}, which is taken off"
+    );
+    let both = both.map(|(rust, port)| (rust.without(keys.len() as f64, frame), port));
+    table.row("`tablekeys` on 65,536 bytes of keys, none a lock", both, &contents);
+
+    let direct = |name: &str| {
+        let of = |what: &str| measured(&format!("{name}-{what}"));
+        Ok::<_, io::Error>(of("direct")?.without(1.0, of("ready")?))
+    };
+    println!();
+    println!(
+        "Called with no frame, so with no registers to save, the Rust's reading of the byte and `handle_keyboard_input` took \
+         {} ns on a plain key and {} ns on a lock.",
+        direct("key")?,
+        direct("lock")?
+    );
+    println!(
+        "A read of the Rust's stand-in for a port took {} ns by itself; the port reads a slice.",
+        bare_read(10 * rounds)
+    );
+    if let (Some((own, all)), Some((own_now, all_now))) = (before, own_and_all()) {
+        let others = (all_now - all - (own_now - own)).max(0.0) / start.elapsed().as_secs_f64();
+        println!("Other programs of the machine took {others:.2} of its processors meanwhile.");
     }
-    println!("Of the Rust's handler rows {:.1} ns are the way in and out by an interrupt frame.", entering(rounds));
-    Ok(ExitCode::SUCCESS)
+    Ok(ExitCode::from(!table.whole as u8))
 }

@@ -35,7 +35,6 @@ fn sample(calls: u64, seed: u64) -> io::Result<ExitCode> {
 
 /// Document 01's program over the Rust: the events of the first 65,536 bytes of standard input.
 fn tablekeys() -> io::Result<ExitCode> {
-    use answer::Done::*;
     let mut script = Vec::new();
     io::stdin().lock().take(65536).read_to_end(&mut script)?;
     let length = script.len();
@@ -45,19 +44,18 @@ fn tablekeys() -> io::Result<ExitCode> {
     port_io::wire().script = script;
     let mut at = 0;
     while at < length {
-        if let Handled { used, end, .. } = oracle.handle(at, 16) {
-            at += used;
-            if end != 0 {
-                writeln!(out, "refused {end}")?;
-            }
-            if end == 2 {
-                break;
-            }
+        let (end, _) = oracle.enter(at, 16);
+        at = port_io::wire().at;
+        if end != 0 {
+            writeln!(out, "refused {end}")?;
         }
-        if let Taken(Some(event)) = oracle.take() {
+        if end == 2 {
+            break;
+        }
+        if let Some((event, character)) = oracle.take_with_character() {
             let action = if event.released { 'R' } else { 'P' };
             write!(out, "{:02X} {action} {:03X} ", event.keycode, event.flags)?;
-            match event.ascii() {
+            match character {
                 Some(character) => writeln!(out, "{}", character as u32)?,
                 None => writeln!(out, "-")?,
             }

@@ -85,15 +85,10 @@ impl KeyEvent {
             flags: from_flags(event.modifiers),
         }
     }
-
-    /// The character that the Rust gives an event.
-    pub fn ascii(self) -> Option<char> {
-        Keycode::try_from(self.keycode).unwrap().to_ascii(to_flags(self.flags))
-    }
 }
 
 /// How a call of the Rust ended: 0, or the number of its refusal.
-type End = u8;
+pub type End = u8;
 
 /// Runs a call of the Rust on the script from its start. A lack ends it with 2 or 3, a panic with its number.
 fn run<T>(room: usize, call: impl FnOnce() -> Result<T, &'static str>) -> (End, Option<T>) {
@@ -180,6 +175,37 @@ impl Oracle {
         let (used, log) = (wire().at, wire().log.clone());
         let record = if call.op == Op::KeyboardInit && end == 0 { Record::Handler(self.left()) } else { record };
         Answer::Call { end, used, log, value, record }
+    }
+
+    /// Makes a call so many times for measuring, with nothing between two calls but what sets state, script and log again. The
+    /// script and the room must suffice.
+    pub fn repeat(&mut self, call: &Call, times: u64) {
+        let c = self.controller;
+        let again = || wire().begin(0, call.room, false);
+        wire().script.clone_from(&call.script);
+        again();
+        match call.op {
+            Op::Init(state) => (0..times).for_each(|_| {
+                reach::set_controller(state.init.then(|| reach::controller(state.kbd, state.mouse)));
+                again();
+                let _ = black_box(ps2::init());
+            }),
+            Op::ReadConfig => (0..times).for_each(|_| {
+                again();
+                black_box(c.read_config());
+            }),
+            Op::Keyboard(KeyboardOp::Command(byte)) => {
+                let (keyboard, command) = (PS2Keyboard::new(c), keyboard_command(byte));
+                (0..times).for_each(|_| {
+                    again();
+                    let byte = HostToKeyboardCommandOrData::KeyboardCommand(black_box(command.clone()));
+                    let _ = black_box(reach::command_to_keyboard(&keyboard, byte));
+                })
+            }
+            Op::ToAscii(keycode, flags) => drop(answer_to_ascii(keycode, flags, times)),
+            _ => unreachable!("{} is not measured", call.op.name()),
+        }
+        assert_eq!(wire().lack, 0, "the script and the log suffice");
     }
 
     /// Has a device make up the script of an operation while the Rust reads it. Gives the script and the number of
@@ -297,6 +323,12 @@ impl Oracle {
 
     /// A handler call on the script from a place on.
     pub fn handle(&mut self, at: usize, room: usize) -> Done {
+        let (end, lamps_failed) = self.enter(at, room);
+        Done::Handled { used: wire().at - at, log: wire().log.clone(), end, lamps_failed }
+    }
+
+    /// Enters the handler: how the call ended, and whether a lamp exchange failed.
+    pub fn enter(&mut self, at: usize, room: usize) -> (End, bool) {
         wire().begin(at, room, false);
         log::errors().clear();
         interrupts::raise();
@@ -311,12 +343,18 @@ impl Oracle {
         if wire().lack != 0 {
             (end, lamps_failed) = (wire().lack, false);
         }
-        Done::Handled { used: wire().at - at, log: wire().log.clone(), end, lamps_failed }
+        (end, lamps_failed)
     }
 
     /// A taking from the queue.
-    pub fn take(&mut self) -> Done {
+    fn take(&mut self) -> Done {
         Done::Taken(self.queue.pop().map(|event| KeyEvent::of_rust(&event)))
+    }
+
+    /// A taking from the queue, with the event's character.
+    pub fn take_with_character(&mut self) -> Option<(KeyEvent, Option<char>)> {
+        let event = self.queue.pop()?;
+        Some((KeyEvent::of_rust(&event), event.0.keycode.to_ascii(event.0.modifiers)))
     }
 
     /// Makes the handler's record this one. The prefix can't be reached: a byte E0 sets it, 00 clears it.
@@ -368,6 +406,10 @@ fn leds(bits: u8) -> LEDState {
     LEDState::new().with_scroll_lock(bits & 1 != 0).with_number_lock(bits & 2 != 0).with_caps_lock(bits & 4 != 0)
 }
 
+fn keyboard_command(byte: u8) -> HostToKeyboardCommand {
+    reach::keyboard_commands().into_iter().find(|c| c.clone() as u8 == byte).unwrap()
+}
+
 fn keyboard_operation(keyboard: &PS2Keyboard, op: KeyboardOp, room: usize) -> (End, Value) {
     use HostToKeyboardCommandOrData as Byte;
     let command = |byte: Byte| run(room, || reach::command_to_keyboard(keyboard, byte));
@@ -377,10 +419,7 @@ fn keyboard_operation(keyboard: &PS2Keyboard, op: KeyboardOp, room: usize) -> (E
             let (end, found) = run(room, || keyboard.keyboard_detect());
             return (end, found.map_or(Value::Nothing, keyboard_value));
         }
-        KeyboardOp::Command(byte) => {
-            let known = reach::keyboard_commands().into_iter().find(|c| c.clone() as u8 == byte);
-            command(Byte::KeyboardCommand(known.unwrap()))
-        }
+        KeyboardOp::Command(byte) => command(Byte::KeyboardCommand(keyboard_command(byte))),
         KeyboardOp::DataSet(set) => command(Byte::ScancodeSet(set.try_into().unwrap())),
         KeyboardOp::DataLed(bits) => command(Byte::LEDState(leds(bits))),
         KeyboardOp::Reset => run(room, || keyboard.reset()),

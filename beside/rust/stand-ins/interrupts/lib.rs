@@ -40,10 +40,15 @@ pub fn raise() {
     enter(HANDLER.0.get().expect("no handler is registered"));
 }
 
-/// Ours: entering a handler that does nothing, to know what entering costs.
-pub fn raise_nothing() {
+/// Ours: a handler that does nothing is registered, to know what entering one costs. Gives the one that was.
+pub fn register_nothing() -> Option<Handler> {
     extern "x86-interrupt" fn nothing(_: InterruptStackFrame) {}
-    enter(nothing);
+    HANDLER.0.replace(Some(nothing))
+}
+
+/// Ours: a handler that `register_nothing` gave is registered again.
+pub fn register_again(handler: Option<Handler>) {
+    HANDLER.0.set(handler);
 }
 
 /// The compiler refuses to call such a function, so this does what the processor does: it aligns the stack, pushes
