@@ -59,8 +59,15 @@ pub enum Record {
 /// One call of a run.
 #[derive(Clone, Debug, PartialEq)]
 pub enum Done {
-    Handled { used: usize, log: Vec<u8>, end: u8, lamps_failed: bool },
+    Handled {
+        used: usize,
+        log: Vec<u8>,
+        end: u8,
+        lamps_failed: bool,
+    },
     Taken(Option<KeyEvent>),
+    /// A taking that was refused with this number.
+    NotTaken(u8),
 }
 
 impl Keyboard {
@@ -124,6 +131,7 @@ impl fmt::Display for Done {
             }
             Done::Taken(Some(event)) => write!(f, "t:{event}"),
             Done::Taken(None) => f.write_str("t:none"),
+            Done::NotTaken(number) => write!(f, "t:{number}"),
         }
     }
 }
@@ -154,9 +162,18 @@ impl fmt::Display for Answer {
 pub fn counts(done: &[Done]) -> (usize, usize) {
     let handled = done.iter().filter_map(|d| match d {
         Done::Handled { used, log, .. } => Some((used, log.len() / 2)),
-        Done::Taken(_) => None,
+        Done::Taken(_) | Done::NotTaken(_) => None,
     });
     handled.fold((0, 0), |sums, (used, pairs)| (sums.0 + used, sums.1 + pairs))
+}
+
+/// Whether two answer lines say the same. Of a run the first word says nothing: what ended it stands among its calls.
+pub fn alike(one: &str, other: &str) -> bool {
+    let said = |line: &str| match line.contains(" calls=") {
+        true => line.split_once(' ').map_or(line, |(_, rest)| rest).to_string(),
+        false => line.to_string(),
+    };
+    said(one) == said(other)
 }
 
 /// Reads the answer to a call of an operation.
@@ -185,7 +202,7 @@ pub fn parse(op: &Op, line: &str) -> Result<Answer, String> {
         }
     };
     // What is read is all that the line says.
-    match answer.to_string() == line {
+    match alike(&answer.to_string(), line) {
         true => Ok(answer),
         false => Err(format!("the answer is not written as it reads: {answer}")),
     }
@@ -231,6 +248,7 @@ fn parse_done(text: &str) -> Result<Done, String> {
     let bad = || format!("'{text}' is no call of a run");
     match text.split(':').collect::<Vec<_>>()[..] {
         ["t", "none"] => Ok(Done::Taken(None)),
+        ["t", "21"] => Ok(Done::NotTaken(21)),
         ["t", event] => Ok(Done::Taken(Some(parse_event(event)?))),
         ["h", used, _, log, end] => {
             let number = end.strip_suffix("+14").unwrap_or(end);

@@ -98,6 +98,7 @@ pub const RATES: [u8; 7] = [10, 20, 40, 60, 80, 100, 200];
 pub const LAST_KEYCODE: u8 = 0x5D;
 /// The keycodes above the last: `ControlReleased` and its like. No event has one.
 pub const RELEASE_KEYCODES: [u8; 6] = [0x9D, 0xB8, 0xAA, 0xB6, 0xDB, 0xDC];
+/// The flags of a well-formed record, and those that the Rust has.
 pub const ALL_FLAGS: u16 = 0x3FF;
 pub const QUEUE_PLACES: usize = 128;
 
@@ -291,11 +292,9 @@ pub fn parse_identity(state: Option<&str>) -> Result<Option<u8>, String> {
     Ok(identity)
 }
 
+/// Flags may be any that three digits tell; the Rust has none above `ALL_FLAGS`.
 fn parse_flags(text: &str) -> Result<u16, String> {
-    match hex(text, 3)? {
-        flags if flags <= ALL_FLAGS => Ok(flags),
-        _ => Err(format!("flags {text}: the Rust has no record with a flag above bit 9")),
-    }
+    hex(text, 3)
 }
 
 pub fn parse_handler(state: Option<&str>) -> Result<Handler, String> {
@@ -310,7 +309,7 @@ pub fn parse_handler(state: Option<&str>) -> Result<Handler, String> {
                     let (event, times) = part.split_once('*').unwrap_or((part, "1"));
                     let (event, times) = (parse_event(event)?, decimal(times)? as usize);
                     if handler.queue.len() + times > QUEUE_PLACES {
-                        return Err(format!("the Rust has no queue of more than {QUEUE_PLACES} events"));
+                        return Err(format!("a queue has no more than {QUEUE_PLACES} events"));
                     }
                     handler.queue.extend(vec![event; times]);
                 }
@@ -438,7 +437,26 @@ impl fmt::Display for Handler {
     }
 }
 
+impl Handler {
+    /// Whether a handler call or a taking is refused 21.
+    pub fn is_malformed(&self) -> bool {
+        self.flags > ALL_FLAGS
+    }
+}
+
 impl Op {
+    /// Why the port alone can answer a call of this operation; nothing where the Rust can too.
+    pub fn beyond_rust(&self) -> Option<&'static str> {
+        let is_beyond = match self {
+            Op::Handle(handler, _) => {
+                handler.is_malformed() || handler.queue.iter().any(|event| event.flags > ALL_FLAGS)
+            }
+            Op::ToAscii(_, flags) => *flags > ALL_FLAGS,
+            _ => false,
+        };
+        is_beyond.then_some("the Rust has no flag above bit 9")
+    }
+
     pub fn name(&self) -> &'static str {
         match self {
             Op::Init(_) => "init",

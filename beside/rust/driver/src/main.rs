@@ -14,10 +14,13 @@ use packed::Program;
 use std::io::{self, BufWriter, Read, Write};
 use std::process::ExitCode;
 
-/// Answers the call lines of standard input by the Rust.
-fn replay() -> io::Result<ExitCode> {
+/// The Rust's answer to a call, or why it has none.
+fn by_rust() -> impl FnMut(&call::Call) -> Result<answer::Answer, String> {
     let mut oracle = oracle::Oracle::new();
-    port::answer_lines(|call| Ok(oracle.answer(call)))
+    move |call| match call.op.beyond_rust() {
+        Some(why) => Err(why.to_string()),
+        None => Ok(oracle.answer(call)),
+    }
 }
 
 /// Writes calls of every operation with the Rust's answers.
@@ -78,12 +81,15 @@ fn main() -> io::Result<ExitCode> {
     let args: Vec<String> = std::env::args().skip(1).collect();
     let (calls, seed) = (number(&args, "--calls"), number(&args, "--seed"));
     let port = option(&args, "--port").and_then(|ports| Some([ports, option(&args, "--keys")?]));
+    let but = option(&args, "--but").map_or(Ok(Default::default()), port::calls_of);
     match (args.first().map(String::as_str), calls, seed, port) {
-        (Some("replay"), None, None, None) => replay(),
+        (Some("replay"), None, None, None) => port::answer_lines(by_rust()),
         (Some("replay"), None, None, Some(port)) => port::replay(port),
+        (Some("held"), None, None, None) => port::held(&but?, by_rust()),
+        (Some("held"), None, None, Some(port)) => port::held_port(port, &but?),
         (Some("pack"), ..) => {
             let named = |name: &str| args.iter().any(|arg| arg == name);
-            port::pack(if named("--keys") { Program::Keys } else { Program::Ports }, named("--answers"))
+            port::pack(if named("--keys") { Program::Keys } else { Program::Ports }, named("--answers"), &but?)
         }
         (Some("bench"), None, None, Some(port)) => {
             let rounds = number(&args, "--rounds").unwrap_or(7).max(1) as usize;
@@ -96,8 +102,9 @@ fn main() -> io::Result<ExitCode> {
         }
         _ => {
             eprintln!(
-                "usage: beside replay [PORT] | pack [--keys] [--answers] | tablekeys | sample --calls N --seed S"
+                "usage: beside replay [PORT] | held [PORT] [--but TRACE] | tablekeys | sample --calls N --seed S"
             );
+            eprintln!("       beside pack [--keys] [--answers] [--but TRACE]");
             eprintln!("       beside compare --calls N --seed S PORT [--damage CALL]");
             eprintln!("       beside bench [--rounds N] PORT --tablekeys PROGRAM");
             eprintln!("where PORT is --port PROGRAM --keys PROGRAM");

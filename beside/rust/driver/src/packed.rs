@@ -41,8 +41,9 @@ const LEFT: u8 = 37;
 const NONE_TAKEN: u8 = 2;
 const TAKEN: u8 = 3;
 
-/// The refusal's number of a call that the port's program can't make.
+/// The refusal's number of a call that the port's program can't make, and of one on a malformed record.
 const NO_CALL: u8 = 255;
+const MALFORMED: u8 = 21;
 
 /// An instruction of 10 bytes, numbers with their low byte first.
 struct Instruction {
@@ -270,6 +271,11 @@ pub fn put_answer(op: &Op, answer: &Answer, out: &mut Vec<u8>) -> Result<(), Str
                 put_done(handle_of(plan), d, out);
             }
             Packed { op: LEFT, value: record_number(left), ..Default::default() }.put(out);
+            if left.is_malformed() {
+                // Nothing can be taken from it.
+                not_taken(WAITING, MALFORMED).put(out);
+                return Ok(());
+            }
             for event in &left.queue {
                 taken(WAITING, Some(event)).put(out);
             }
@@ -305,6 +311,7 @@ fn put_done(handle: u8, done: &Done, out: &mut Vec<u8>) {
             Packed { op: handle, number: *end, left: *lamps_failed as u8, used: *used, value: 0, log: log.clone() }
         }
         Done::Taken(event) => taken(TAKE, event.as_ref()),
+        Done::NotTaken(number) => not_taken(TAKE, *number),
     };
     packed.put(out)
 }
@@ -312,6 +319,10 @@ fn put_done(handle: u8, done: &Done, out: &mut Vec<u8>) {
 fn taken(op: u8, event: Option<&KeyEvent>) -> Packed {
     let (left, value) = event.map_or((NONE_TAKEN, 0), |event| (TAKEN, event_number(event)));
     Packed { op, left, value, ..Default::default() }
+}
+
+fn not_taken(op: u8, number: u8) -> Packed {
+    Packed { op, number, left: NONE_TAKEN, ..Default::default() }
 }
 
 /// Reads the port's answer to a call of an operation. What is no answer to it is told as an error.
@@ -374,7 +385,9 @@ fn read_run(plan: &[Step], from: &mut impl Read) -> io::Result<Result<Answer, St
     let (mut done, mut queue, mut record) = (Vec::new(), Vec::new(), None);
     loop {
         let packed = Packed::read(from)?;
-        let plain = packed.number == 0 && packed.used == 0 && packed.log.is_empty();
+        let empty = packed.used == 0 && packed.log.is_empty();
+        let plain = packed.number == 0 && empty;
+        let malformed = packed.number == MALFORMED && empty;
         match (packed.op, packed.left, packed.value) {
             (op, 0 | 1, 0) if op == handle && packed.number != NO_CALL => done.push(Done::Handled {
                 used: packed.used,
@@ -383,10 +396,12 @@ fn read_run(plan: &[Step], from: &mut impl Read) -> io::Result<Result<Answer, St
                 lamps_failed: packed.left == 1,
             }),
             (TAKE, NONE_TAKEN, 0) if plain => done.push(Done::Taken(None)),
+            (TAKE, NONE_TAKEN, 0) if malformed => done.push(Done::NotTaken(MALFORMED)),
             (TAKE, TAKEN, event) if plain => done.push(Done::Taken(Some(event_of(event)))),
             (LEFT, 0, left) if plain => record = Some(left),
             (WAITING, TAKEN, event) if plain => queue.push(event_of(event)),
-            (WAITING, NONE_TAKEN, 0) if plain => break,
+            // Of a malformed record the events that wait are not told.
+            (WAITING, NONE_TAKEN, 0) if plain || malformed => break,
             _ => return Ok(Err(format!("no answer to a call of a run: {packed:?}"))),
         }
     }

@@ -3,6 +3,7 @@
 use crate::answer::{self, Answer};
 use crate::call::{self, Call, Op};
 use crate::packed::{put_answer, put_call, read_answer, Program};
+use std::collections::BTreeSet;
 use std::io::{self, BufRead, BufReader, BufWriter, Write};
 use std::process::{Child, ChildStdin, ChildStdout, Command, ExitCode, Stdio};
 
@@ -67,13 +68,70 @@ pub fn replay(paths: Paths) -> io::Result<ExitCode> {
     answer_lines(|call| programs[Program::of(&call.op) as usize].answer(call))
 }
 
-/// Writes the traces of standard input as one of the port's programs takes them: its calls, or their recorded answers.
-pub fn pack(program: Program, answers: bool) -> io::Result<ExitCode> {
-    let is_its = |op: &Op| Program::of(op) as usize == program as usize;
-    let (mut packed, mut op) = (Vec::new(), None);
+/// Holds the port's programs to the trace of standard input.
+pub fn held_port(paths: Paths, but: &BTreeSet<String>) -> io::Result<ExitCode> {
+    let mut programs = start(paths)?;
+    held(but, |call| programs[Program::of(&call.op) as usize].answer(call))
+}
+
+/// The call lines of a trace.
+pub fn calls_of(path: &str) -> io::Result<BTreeSet<String>> {
+    let lines = std::fs::read_to_string(path)?;
+    Ok(lines.lines().filter(|line| !call::is_skipped(line)).map(String::from).collect())
+}
+
+/// Holds a side to the trace of standard input, without the calls `but`: each call must be followed by its answer, and be answered so.
+/// Writes what is otherwise, by its line, or how many calls there were.
+pub fn held(but: &BTreeSet<String>, mut answer: impl FnMut(&Call) -> Result<Answer, String>) -> io::Result<ExitCode> {
+    let (mut calls, mut wrong) = (0, 0);
+    let mut tell = |number: usize, call: &str, what: &str| {
+        wrong += 1;
+        println!("line {number}: {call}\n{what}");
+    };
+    // The call that waits for its answer, with its line's number.
+    let mut asked: Option<(usize, String)> = None;
     for (number, line) in (1..).zip(io::stdin().lock().lines()) {
         let line = line?;
-        let done = if !call::is_skipped(&line) {
+        if !call::is_skipped(&line) {
+            if let Some((number, call)) = asked.replace((number, line)) {
+                tell(number, &call, "has no answer");
+            }
+        } else if line.starts_with("out=") {
+            match asked.take() {
+                None => tell(number, &line, "is the answer to no call"),
+                Some((_, call)) if but.contains(&call) => {}
+                Some((number, call)) => {
+                    calls += 1;
+                    let given = call::parse(&call).and_then(|call| answer(&call));
+                    let given = given.map_or_else(|why| format!("error: {why}"), |answer| answer.to_string());
+                    if !answer::alike(&given, &line) {
+                        tell(number, &call, &format!("is answered {given}\nand not     {line}"));
+                    }
+                }
+            }
+        }
+    }
+    if let Some((number, call)) = asked {
+        tell(number, &call, "has no answer");
+    }
+    if wrong == 0 {
+        println!("{calls}");
+    }
+    Ok(ExitCode::from((wrong > 0) as u8))
+}
+
+/// Writes the traces of standard input, without the calls `but`, as one of the port's programs takes them: its calls, or their recorded answers.
+pub fn pack(program: Program, answers: bool, but: &BTreeSet<String>) -> io::Result<ExitCode> {
+    let is_its = |op: &Op| Program::of(op) as usize == program as usize;
+    let (mut packed, mut op, mut is_left_out) = (Vec::new(), None, false);
+    for (number, line) in (1..).zip(io::stdin().lock().lines()) {
+        let line = line?;
+        if !call::is_skipped(&line) {
+            is_left_out = but.contains(&line);
+        }
+        let done = if is_left_out {
+            Ok(())
+        } else if !call::is_skipped(&line) {
             call::parse(&line).and_then(|call| {
                 let done = if answers || !is_its(&call.op) { Ok(()) } else { put_call(&call, &mut packed) };
                 op = Some(call.op);
