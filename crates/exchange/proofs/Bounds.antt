@@ -6,7 +6,7 @@ use native.Mathlib.Omega.{arith}
 use mathlib.Core.List.{List, [], _∷_}
 use mathlib.Core.Path.{_≡_, refl}
 use lib.ListN.{length}
-use Rattle.exchange.specs.Exchange.{Exchange, bind, yields, noLog, play}
+use Rattle.exchange.specs.Exchange.{Exchange, bind, yields, noLog, lacks, play}
 use Rattle.exchange.specs.Bounds.{Within, within-done, within-read, within-write}
 use Rattle.exchange.specs.Repeat.{Turn, found, again, turned, repeat}
 
@@ -70,7 +70,7 @@ module _ {A : Type 0} where
   within-yields (within-write x) s (a ∷ b ∷ l) h k = within-yields x s l h (omega arith)
 
   -- with that much log no write lacks room
-  pub within-room : {r w : ℕ} {t : Exchange A} → Within r w t → (s l : List ℕ) → 2 * w ≤ length l → play t s l .end ≡ noLog → ⊥
+  pub within-room : {r w : ℕ} {t : Exchange A} → Within r w t → (s l : List ℕ) → 2 * w ≤ length l → play t s l .end ≡ lacks noLog → ⊥
   unfolding play
   within-room within-done s l k e = let z : _≡_ {A = ℕ} 0 1 = cc in omega arith
   within-room (within-read f) [] l k e = let z : _≡_ {A = ℕ} 0 1 = cc in omega arith

@@ -5,7 +5,7 @@ use mathlib.Core.List.{List, [], _∷_}
 use mathlib.Core.Path.{_≡_, subst}
 use Rattle.exchange.specs.Exchange.{Exchange, bind, yields, play}
 use Rattle.exchange.specs.Only.{Only, only-done, only-read, only-write}
-use Rattle.exchange.proofs.Steps.{no-script-yields, no-log-yields}
+use Rattle.exchange.proofs.Steps.{lacks-yields}
 
 pub only-bind : {A B : Type 0} {P : A → Type 0} {Q : B → Type 0} {t : Exchange A} {g : A → Exchange B} → Only P t → ((a : A) → P a → Only Q (g a)) → Only Q (bind t g)
 unfolding bind
@@ -18,8 +18,8 @@ unfolding play
 only-play {P = P} (only-done {a = b} h) s l a q =
     let e : b ≡ a = cc in
     subst P e h
-only-play (only-read f) [] l a q = absurd (no-script-yields q)
+only-play (only-read f) [] l a q = absurd (lacks-yields q)
 only-play (only-read f) (b ∷ s) l a q = only-play (f b) s l a q
-only-play (only-write x) s [] a q = absurd (no-log-yields q)
-only-play (only-write x) s (y ∷ []) a q = absurd (no-log-yields q)
+only-play (only-write x) s [] a q = absurd (lacks-yields q)
+only-play (only-write x) s (y ∷ []) a q = absurd (lacks-yields q)
 only-play (only-write x) s (y ∷ z ∷ l) a q = only-play x s l a q

@@ -8,7 +8,7 @@ use mathlib.Core.List.{List, [], _++_, append-assoc}
 use mathlib.Core.Path.{_≡_, refl, sym, ap, _∙_}
 use lib.ListN.{length, getD, set, take, drop, length-set, length-append, length-drop, take-append-drop}
 use lib.Seq.{drop-drop, length-take-le}
-use Rattle.exchange.specs.Exchange.{Port, number, Exchange, done, read, write, End, yields, noScript, noLog, Played, played, play, Reads, Writes}
+use Rattle.exchange.specs.Exchange.{Port, number, Exchange, done, read, write, noScript, noLog, End, yields, lacks, Played, played, play, Reads, Writes}
 use Rattle.exchange.specs.Sequence.{onward}
 use Rattle.exchange.specs.Position.{Reached}
 use Rattle.exchange.proofs.Kept.{used-le, pairs-le, log-length}
@@ -32,10 +32,10 @@ module _ {A : Type 0} (t : Exchange A) (s l : List ℕ) {e : End A} {u w : ℕ} 
   pub call-tail-le : 2 * w ≤ length l′
   call-tail-le = rw call-log-length call-pairs-le
 
-pub reads-used-le : {A : Type 0} {t : Exchange A} {s : List ℕ} {e : End A} {u : ℕ} → Reads t s e u → u ≤ length s
+pub reads-used-le : {A : Type 0} {t : Exchange A} {s : List ℕ} {e : End A} {u w : ℕ} → Reads t s e u w → u ≤ length s
 reads-used-le {t = t} {s = s} r = call-used-le t s [] (r .with-any [])
 
-module _ {A : Type 0} {t : Exchange A} {l : List ℕ} {e : End A} {w : ℕ} {l′ : List ℕ} (r : Writes t l e w l′) where
+module _ {A : Type 0} {t : Exchange A} {l : List ℕ} {e : End A} {u w : ℕ} {l′ : List ℕ} (r : Writes t l e u w l′) where
   pub writes-pairs-le : 2 * w ≤ length l
   writes-pairs-le = call-pairs-le t [] l (r .with-any [])
 
@@ -104,7 +104,7 @@ module _ {A : Type 0} {whole : Exchange A} {s l : List ℕ} {u w : ℕ} {l′ : 
       }
 
   pub reached-no-byte : {p : Port} {f : ℕ → Exchange A} → Reached whole s l (read p f) u w l′ → length s ≤ u
-      → played noScript u w l′ ≡ play whole s l
+      → played (lacks (noScript p)) u w l′ ≡ play whole s l
   reached-no-byte {p} {f} at h =
       sym (at .goes-on ∙ rw (read-past p f s (drop (2 * w) l′) u h, take-append-drop, add-zero u, add-zero w))
 
@@ -124,7 +124,7 @@ module _ {A : Type 0} {whole : Exchange A} {s l : List ℕ} {u w : ℕ} {l′ : 
       }
 
   pub reached-no-pair : {p : Port} {v : ℕ} {t : Exchange A} → Reached whole s l (write p v t) u w l′ → length l′ ≤ 2 * w + 1
-      → played noLog u w l′ ≡ play whole s l
+      → played (lacks noLog) u w l′ ≡ play whole s l
   reached-no-pair {p} {v} {t} at h =
       let q : length (drop (2 * w) l′) ≤ 1 = rw (length-drop (2 * w) l′) (omega arith) in
       sym (at .goes-on ∙ rw (write-short p v t (drop u s) (drop (2 * w) l′) q, take-append-drop, add-zero u, add-zero w))

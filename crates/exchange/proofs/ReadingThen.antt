@@ -20,7 +20,7 @@ module _ {A B : Type 0} {whole : Exchange B} {s : List ℕ} {u : ℕ} (n : ℕ) 
   read-to-then-step m h = read-to-same at (repeat-then-step d t g n m h)
 
   -- a callee that makes one turn
-  module _ {e : End (Turn A)} {u₂ : ℕ} (r : Reads t (part u s) e u₂) where
+  module _ {e : End (Turn A)} {u₂ w₂ : ℕ} (r : Reads t (part u s) e u₂ w₂) where
     pub read-to-then-again : (m : ℕ) → n ≡ suc m → e ≡ yields again → ReadTo whole s (bind (repeat m d t) g) (u + u₂)
     read-to-then-again m h q = read-to-call t (λ r. bind (turned r (repeat m d t)) g) (read-to-then-step m h) r q
 
@@ -30,6 +30,6 @@ module _ {A B : Type 0} {whole : Exchange B} {s : List ℕ} {u : ℕ} (n : ℕ) 
         (found-then g (repeat (n - 1) d t) a)
 
   -- a turn that ends whatever follows it
-  pub read-to-then-end : {e : End B} {u₂ : ℕ} → ((k : Turn A → Exchange B) → Reads (bind t k) (part u s) e u₂) → 0 < n → Reads whole s e (u + u₂)
+  pub read-to-then-end : {e : End B} {u₂ w₂ : ℕ} → ((k : Turn A → Exchange B) → Reads (bind t k) (part u s) e u₂ w₂) → 0 < n → Reads whole s e (u + u₂) 0
   read-to-then-end r h =
       read-to-last (bind t (λ r. bind (turned r (repeat (n - 1) d t)) g)) (read-to-then-step (n - 1) (omega arith)) (r (λ r. bind (turned r (repeat (n - 1) d t)) g))

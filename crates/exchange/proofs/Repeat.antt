@@ -4,12 +4,12 @@ use Prim.Native.Nat.{ℕ, zero, suc, _+_, _*_, _-_, _≤_, _<_}
 use native.Mathlib.Omega.{arith}
 use mathlib.Core.List.{List}
 use mathlib.Core.Path.{_≡_, refl}
-use Rattle.exchange.specs.Exchange.{Exchange, done, bind, End, yields, noScript, noLog, played, play, Reads}
+use Rattle.exchange.specs.Exchange.{Exchange, done, bind, Lack, End, yields, lacks, played, play, Reads}
 use Rattle.exchange.specs.Parts.{part, restored}
 use Rattle.exchange.specs.Position.{Reached}
 use Rattle.exchange.specs.Repeat.{Turn, found, again, turned, foundEnd, repeat}
 use Rattle.exchange.proofs.Position.{reached-done}
-use Rattle.exchange.proofs.Calls.{bind-done, bind-no-script, bind-no-log, reached-last, reached-call, reached-no-script, reached-no-log, reached-call-reads, reached-no-script-reads}
+use Rattle.exchange.proofs.Calls.{bind-done, bind-lacks, reached-last, reached-call, reached-lacks, reached-call-reads, reached-lacks-reads}
 
 -- the next of the turns that are left, and none left; n may count down, or be what a count up leaves
 pub repeat-step : {A : Type 0} (n m : ℕ) (d : A) (t : Exchange (Turn A)) → n ≡ suc m → repeat n d t ≡ bind t (λ r. turned r (repeat m d t))
@@ -31,8 +31,7 @@ less-one n h = omega arith
 pub bind-ended : {A : Type 0} (t : Exchange (Turn A)) (rest : Exchange A) (s l : List ℕ) {u w : ℕ} {l′ : List ℕ} (e : End A)
     → played (foundEnd e) u w l′ ≡ play t s l → played e u w l′ ≡ play (bind t (λ r. turned r rest)) s l
 bind-ended t rest s l (yields a) r = bind-done t (λ x. turned x rest) s l r refl refl
-bind-ended t rest s l noScript r = bind-no-script t (λ x. turned x rest) s l r refl
-bind-ended t rest s l noLog r = bind-no-log t (λ x. turned x rest) s l r refl
+bind-ended t rest s l (lacks x) r = bind-lacks t (λ y. turned y rest) s l r refl
 
 -- ---- at a position of the whole
 
@@ -57,19 +56,16 @@ module _ {A : Type 0} {whole : Exchange A} {s l : List ℕ} {u w : ℕ} {l′ : 
     pub reached-found : {a : A} → 0 < n → e ≡ yields (found a) → played (yields a) (u + u₂) (w + w₂) (restored k l′ x) ≡ play whole s l
     reached-found c q = reached-done (reached-call t (λ y. turned y (repeat (n - 1) d t)) (reached-turn (n - 1) (less-one n c)) h r q)
 
-    pub turn-no-script : 0 < n → e ≡ noScript → played noScript (u + u₂) (w + w₂) (restored k l′ x) ≡ play whole s l
-    turn-no-script c q = reached-no-script t (λ y. turned y (repeat (n - 1) d t)) (reached-turn (n - 1) (less-one n c)) h r q
-
-    pub turn-no-log : 0 < n → e ≡ noLog → played noLog (u + u₂) (w + w₂) (restored k l′ x) ≡ play whole s l
-    turn-no-log c q = reached-no-log t (λ y. turned y (repeat (n - 1) d t)) (reached-turn (n - 1) (less-one n c)) h r q
+    pub turn-lacks : {y : Lack} → 0 < n → e ≡ lacks y → played (lacks y) (u + u₂) (w + w₂) (restored k l′ x) ≡ play whole s l
+    turn-lacks c q = reached-lacks t (λ y. turned y (repeat (n - 1) d t)) (reached-turn (n - 1) (less-one n c)) h r q
 
   -- a callee that makes one turn and only reads
-  module _ {e : End (Turn A)} {u₂ : ℕ} (r : Reads t (part u s) e u₂) where
+  module _ {e : End (Turn A)} {u₂ w₂ : ℕ} (r : Reads t (part u s) e u₂ w₂) where
     pub reached-again-reads : (m : ℕ) → n ≡ suc m → e ≡ yields again → Reached whole s l (repeat m d t) (u + u₂) w l′
     reached-again-reads m c q = reached-call-reads t (λ y. turned y (repeat m d t)) (reached-turn m c) r q
 
     pub reached-found-reads : {a : A} → 0 < n → e ≡ yields (found a) → played (yields a) (u + u₂) w l′ ≡ play whole s l
     reached-found-reads c q = reached-done (reached-call-reads t (λ y. turned y (repeat (n - 1) d t)) (reached-turn (n - 1) (less-one n c)) r q)
 
-    pub turn-no-script-reads : 0 < n → e ≡ noScript → played noScript (u + u₂) w l′ ≡ play whole s l
-    turn-no-script-reads c q = reached-no-script-reads t (λ y. turned y (repeat (n - 1) d t)) (reached-turn (n - 1) (less-one n c)) r q
+    pub turn-lacks-reads : {y : Lack} → 0 < n → e ≡ lacks y → played (lacks y) (u + u₂) w l′ ≡ play whole s l
+    turn-lacks-reads c q = reached-lacks-reads t (λ y. turned y (repeat (n - 1) d t)) (reached-turn (n - 1) (less-one n c)) r q

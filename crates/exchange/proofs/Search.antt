@@ -9,7 +9,7 @@ use mathlib.Core.Path.{_≡_, refl}
 use lib.Dec.{T}
 use lib.ListN.{drop}
 use lib.Seq.{drop-drop}
-use Rattle.exchange.specs.Exchange.{Exchange, bind, End, yields, noScript, noLog, play}
+use Rattle.exchange.specs.Exchange.{Exchange, bind, End, yields, lacks, play}
 use Rattle.exchange.specs.Answer.{Answer, gives, refuses, onGiven, andThen}
 use Rattle.exchange.specs.Refuses.{among, RefusesWith, Refuses}
 use Rattle.exchange.specs.Repeat.{Turn, found, again, turned, repeat}
@@ -17,7 +17,7 @@ use Rattle.exchange.specs.Search.{Search, over, next, hit, scriptAfter, 
 use Rattle.exchange.specs.Sequence.{follow}
 use Rattle.exchange.proofs.Only.{only-play}
 use Rattle.exchange.proofs.Sequence.{play-bind}
-use Rattle.exchange.proofs.Steps.{no-script-yields, no-log-yields}
+use Rattle.exchange.proofs.Steps.{lacks-yields}
 use Rattle.exchange.proofs.Then.{Finds}
 
 gives-refuses : {A : Type 0} {a : A} {n : ℕ} → gives a ≡ refuses n → ⊥
@@ -36,8 +36,7 @@ module _ {A B : Type 0} (g : A → Exchange B) where
       → (a : A) × (e ≡ yields a) × (play (g a) (drop u s) (drop (2 * w) l) .end ≡ yields c)
   unfolding follow
   follow-yields (yields a) u w s l c h = (a, refl, h)
-  follow-yields noScript u w s l c h = absurd (no-script-yields h)
-  follow-yields noLog u w s l c h = absurd (no-log-yields h)
+  follow-yields (lacks x) u w s l c h = absurd (lacks-yields h)
 
   pub bind-after : (t : Exchange A) (s l : List ℕ) (c : B) → play (bind t g) s l .end ≡ yields c → (a : A) × After t g s l a c
   bind-after t s l c h =
@@ -115,8 +114,7 @@ module _ {A : Type 0} (One : List ℕ → Turn A → List ℕ → Type 0) (t : E
       rw (add-zero u) (inl (hit (rw e at (one (found b) refl))))
   searched-first n s (yields again) u w l a one rest h =
       searched-next n s u (play (repeat n d t) (drop u s) (drop (2 * w) l) .used) a (one again refl) (rest (drop u s) (drop (2 * w) l) h)
-  searched-first n s noScript u w l a one rest h = absurd (no-script-yields h)
-  searched-first n s noLog u w l a one rest h = absurd (no-log-yields h)
+  searched-first n s (lacks x) u w l a one rest h = absurd (lacks-yields h)
 
   pub search-play : (n : ℕ) (s l : List ℕ) (a : A) → play (repeat n d t) s l .end ≡ yields a → Searched n s (play (repeat n d t) s l .used) a
   unfolding repeat play

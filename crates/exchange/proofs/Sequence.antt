@@ -4,7 +4,7 @@ use Prim.Native.Nat.{ℕ, suc, _+_}
 use native.Mathlib.Nat.{zero-add, suc-add, add-assoc}
 use mathlib.Core.List.{List, [], _∷_, _++_, append-assoc}
 use mathlib.Core.Path.{_≡_, refl, ap, _∙_, fun-ext}
-use Rattle.exchange.specs.Exchange.{Port, number, Exchange, done, read, write, bind, End, yields, noScript, noLog, Played, afterRead, afterWrite, play}
+use Rattle.exchange.specs.Exchange.{Port, number, Exchange, done, read, write, bind, End, yields, lacks, Played, afterRead, afterWrite, play}
 use Rattle.exchange.specs.Sequence.{onward, follow}
 use Rattle.exchange.proofs.Parts.{twice-suc}
 
@@ -46,14 +46,12 @@ module _ {A B : Type 0} (g : A → Exchange B) where
   follow-read : (b : ℕ) (s : List ℕ) (e : End A) (u w : ℕ) (l : List ℕ) → afterRead (follow e u w l s g) ≡ follow e (suc u) w l (b ∷ s) g
   unfolding follow
   follow-read b s (yields a) u w l = rw suc-add
-  follow-read b s noScript u w l = refl
-  follow-read b s noLog u w l = refl
+  follow-read b s (lacks x) u w l = refl
 
   follow-write : (p : Port) (v : ℕ) (s : List ℕ) (e : End A) (u w : ℕ) (l : List ℕ) → afterWrite p v (follow e u w l s g) ≡ follow e u (suc w) (number p ∷ v ∷ l) s g
   unfolding follow
   follow-write p v s (yields a) u w l = rw (twice-suc w, suc-add)
-  follow-write p v s noScript u w l = refl
-  follow-write p v s noLog u w l = refl
+  follow-write p v s (lacks x) u w l = refl
 
   pub play-bind : (t : Exchange A) (s l : List ℕ)
       → play (bind t g) s l ≡ follow (play t s l .end) (play t s l .used) (play t s l .pairs) (play t s l .log) s g

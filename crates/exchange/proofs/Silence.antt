@@ -7,10 +7,10 @@ use mathlib.Core.List.{List, [], _++_, append-assoc, append-nil}
 use mathlib.Core.Path.{_≡_, refl, ap, _∙_}
 use lib.ListN.{length, take, drop}
 use lib.Seq.{drop-drop}
-use Rattle.exchange.specs.Exchange.{Exchange, End, yields, noScript, noLog, Played, played, play}
+use Rattle.exchange.specs.Exchange.{Exchange, End, yields, lacks, Played, played, play}
 use Rattle.exchange.specs.Sequence.{onward, follow}
 use Rattle.exchange.specs.Repeat.{Turn, found, again, turned, repeat, Silent, over, silent, times}
-use Rattle.exchange.proofs.Steps.{no-script-yields, no-log-yields}
+use Rattle.exchange.proofs.Steps.{lacks-yields}
 use Rattle.exchange.proofs.Sequence.{play-bind, onward-onward}
 use Rattle.exchange.proofs.Longer.{play-append}
 
@@ -24,8 +24,7 @@ module _ {A : Type 0} (t : Exchange (Turn A)) (d : A) where
       let q : a ≡ d = cc in
       absurd (never (rw q))
   first-silent n s (yields again) u w l never h = (refl, h)
-  first-silent n s noScript u w l never h = absurd (no-script-yields h)
-  first-silent n s noLog u w l never h = absurd (no-log-yields h)
+  first-silent n s (lacks x) u w l never h = absurd (lacks-yields h)
 
   -- where no turn can find d itself
   pub silence : ((s l : List ℕ) → play t s l .end ≡ yields (found d) → ⊥)

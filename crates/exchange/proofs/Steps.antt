@@ -7,14 +7,11 @@ use mathlib.Core.Path.{_≡_, refl}
 use native.Mathlib.Numerals.{add-one}
 use lib.ListN.{length, getD, set, drop, drop-of-length-le}
 use lib.Seq.{drop-cons}
-use Rattle.exchange.specs.Exchange.{Port, number, Exchange, done, read, write, yields, noScript, noLog, played, afterRead, afterWrite, play}
+use Rattle.exchange.specs.Exchange.{Port, number, Exchange, done, read, write, Lack, noScript, noLog, yields, lacks, played, afterRead, afterWrite, play}
 
 -- a play that lacks a byte or room yields nothing
-pub no-script-yields : {A : Type 0} {a : A} → noScript ≡ yields a → ⊥
-no-script-yields h = let z : _≡_ {A = ℕ} 0 1 = cc in omega arith
-
-pub no-log-yields : {A : Type 0} {a : A} → noLog ≡ yields a → ⊥
-no-log-yields h = let z : _≡_ {A = ℕ} 0 1 = cc in omega arith
+pub lacks-yields : {A : Type 0} {x : Lack} {a : A} → lacks x ≡ yields a → ⊥
+lacks-yields h = let z : _≡_ {A = ℕ} 0 1 = cc in omega arith
 
 module _ {A : Type 0} where
   pub play-done : (a : A) (s l : List ℕ) → play (done a) s l ≡ played (yields a) 0 0 l
@@ -22,7 +19,7 @@ module _ {A : Type 0} where
   play-done a s l = refl
 
   -- a read on a script that is used up
-  pub read-none : (p : Port) (f : ℕ → Exchange A) (l : List ℕ) → play (read p f) [] l ≡ played noScript 0 0 l
+  pub read-none : (p : Port) (f : ℕ → Exchange A) (l : List ℕ) → play (read p f) [] l ≡ played (lacks (noScript p)) 0 0 l
   unfolding play
   read-none p f l = refl
 
@@ -36,12 +33,12 @@ module _ {A : Type 0} where
   unfolding play
   read-at p f s l i h = rw (drop-cons s i 0 h, add-one)
 
-  pub read-past : (p : Port) (f : ℕ → Exchange A) (s l : List ℕ) (i : ℕ) → length s ≤ i → play (read p f) (drop i s) l ≡ played noScript 0 0 l
+  pub read-past : (p : Port) (f : ℕ → Exchange A) (s l : List ℕ) (i : ℕ) → length s ≤ i → play (read p f) (drop i s) l ≡ played (lacks (noScript p)) 0 0 l
   unfolding play
   read-past p f s l i h = rw (drop-of-length-le s h)
 
   -- a write on a log with fewer than two bytes leaves it as it is
-  pub write-short : (p : Port) (v : ℕ) (t : Exchange A) (s l : List ℕ) → length l ≤ 1 → play (write p v t) s l ≡ played noLog 0 0 l
+  pub write-short : (p : Port) (v : ℕ) (t : Exchange A) (s l : List ℕ) → length l ≤ 1 → play (write p v t) s l ≡ played (lacks noLog) 0 0 l
   unfolding play
   write-short p v t s [] h = refl
   write-short p v t s (x ∷ []) h = refl

@@ -1,18 +1,31 @@
 -- What an operation answers: what it is for, or a refusal by document 01's number.
 -- Assumes nothing.
 use Prim.Native.Nat.{ℕ}
-use Rattle.exchange.specs.Exchange.{Exchange, done, bind, End, yields, noScript, noLog}
+use Rattle.exchange.specs.Exchange.{Exchange, done, bind, Lack, noScript, noLog, End, yields, lacks}
 
 -- An operation either gives a value or refuses, by the number of document 01's question that was answered "no".
 pub data Answer (A : Type 0) : Type 0 where
   gives : A → Answer A
   refuses : ℕ → Answer A
 
--- The answer of a play's end: 2 where a read found the script used up, 3 where a write found no room. No operation makes these numbers; only the play does.
+-- Document 01's number of a lack: 2 where a read found the script used up, 3 where a write found no room. No operation makes these numbers; only the play does.
+abbrev pub lackNumber : Lack → ℕ
+lackNumber (noScript p) = 2
+lackNumber noLog = 3
+
+-- The answer of a play's end.
 unfoldable pub answered : {A : Type 0} → End (Answer A) → Answer A
 answered (yields a) = a
-answered noScript = refuses 2
-answered noLog = refuses 3
+answered (lacks x) = refuses (lackNumber x)
+
+-- The number that is answered, and 0 where nothing is refused: of an answer, and of a play's end.
+abbrev pub numberAnswered : {A : Type 0} → Answer A → ℕ
+numberAnswered (gives a) = 0
+numberAnswered (refuses n) = n
+
+abbrev pub numberEnded : {A : Type 0} → End (Answer A) → ℕ
+numberEnded (yields a) = numberAnswered a
+numberEnded (lacks x) = lackNumber x
 
 -- One operation, then another that goes by what the first gave; the refusal of the first ends both.
 abbrev pub onGiven : {A B : Type 0} → (A → Exchange (Answer B)) → Answer A → Exchange (Answer B)

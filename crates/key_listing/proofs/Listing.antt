@@ -3,26 +3,27 @@
 use mathlib.Core.Path.{_≡_, refl, ap, _∙_}
 use mathlib.Core.Bool.{Bool, true, false, cond}
 use mathlib.Core.List.{List, [], _∷_, _++_, append-nil}
+use mathlib.Core.Option.{Option, none, some}
 use Prim.Native.Nat.{ℕ, zero, suc, _*_, _-_, _≤_}
 use native.Mathlib.Nat.{le-refl}
 use native.Mathlib.Omega.{arith}
-use lib.Dec.{ltb}
+use lib.Dec.{eqb, ltb}
 use lib.ListN.{length, take, drop, length-append, length-take, length-drop}
 use Rattle.keycodes_ascii.specs.declared.Character.{Character}
 use Rattle.keycodes_ascii.specs.declared.KeyAction.{KeyAction}
 use Rattle.keycodes_ascii.specs.declared.KeyEvent.{KeyEvent}
 use Rattle.keycodes_ascii.specs.Characters.{characterOf}
-use Rattle.keyboard_rule.specs.declared.HandlerAnswer.{HandlerAnswer}
-use Rattle.keyboard_rule.specs.declared.KeyboardHandler.{KeyboardHandler}
-use Rattle.keyboard_rule.specs.declared.TakenEvent.{TakenEvent}
-use Rattle.keyboard_rule.specs.Answers.{ends2-3-21}
-use Rattle.keyboard_rule.specs.Events.{eventOf}
-use Rattle.keyboard_rule.specs.Past.{Past, nothing, _▸_}
-use Rattle.keyboard_rule.specs.Said.{flagsSaid}
-use Rattle.keyboard_rule.specs.Taking.{taken}
-use Rattle.keyboard_rule.proofs.AsSaid.{as-fresh, as-well}
-use Rattle.keyboard_rule.proofs.Ways.{As}
-use Rattle.key_listing.specs.Text.{digits, decimal}
+use Rattle.exchange.specs.Exchange.{End}
+use Rattle.exchange.specs.Answer.{Answer, gives, numberEnded}
+use Rattle.ps2_answers.specs.Refusals.{Success}
+use Rattle.keyboard_record.specs.declared.KeyboardHandler.{KeyboardHandler}
+use Rattle.keyboard.specs.Answers.{ends2-3-21}
+use Rattle.keyboard_scancodes.specs.Events.{eventOf}
+use Rattle.keyboard_history.specs.Past.{Past, nothing, _▸_}
+use Rattle.keyboard_history.specs.Said.{flagsSaid}
+use Rattle.keyboard_record.specs.Taking.{taken}
+use Rattle.keyboard_history.proofs.AsSaid.{As, as-fresh, as-well}
+use Rattle.key_listing.specs.Text.{ascii, digits, decimal}
 use Rattle.key_listing.specs.Lines.{actionText, characterText, eventLine, takenLine, refusalLine}
 use Rattle.key_listing.specs.Listing.{scriptLimit, callOn, recordAfter, callsText, listing}
 use Rattle.key_listing.specs.Listed.{After, Listed, used-up, an-event, no-event, a-19, a-2}
@@ -32,11 +33,11 @@ use Rattle.key_listing.proofs.Steps.{Step, step-2, step-19, step-silent
 -- ---- the lines
 
 -- a call that is not refused prints its event alone, or nothing
-silent-line : refusalLine HandlerAnswer.Done ++ takenLine TakenEvent.Nothing ≡ []
+silent-line : refusalLine 0 ++ takenLine (gives none) ≡ []
 unfolding refusalLine
 silent-line = refl
 
-event-line : (e : KeyEvent) → refusalLine HandlerAnswer.Done ++ takenLine (TakenEvent.Event e) ≡ eventLine e
+event-line : (e : KeyEvent) → refusalLine 0 ++ takenLine (gives (some e)) ≡ eventLine e
 unfolding refusalLine
 event-line e = refl
 
@@ -44,7 +45,7 @@ module _ (n : ℕ) {h : KeyboardHandler} {bytes : Past ℕ} (a : As h bytes []) 
   abbrev left : List ℕ
   left = drop (callOn h (b ∷ s) .used) (b ∷ s)
 
-  after-byte : ends2-3-21 (callOn h (b ∷ s) .answer) ≡ false → After b s left
+  after-byte : ends2-3-21 (callOn h (b ∷ s) .end) ≡ false → After b s left
   after-byte e =
       let u = used-byte h b s e in
       let k : callOn h (b ∷ s) .used ≡ suc (callOn h (b ∷ s) .used - 1) = omega arith in
@@ -55,18 +56,18 @@ module _ (n : ℕ) {h : KeyboardHandler} {bytes : Past ℕ} (a : As h bytes []) 
       }
 
   -- a call that another follows: its line, and the text of what is left
-  goes-on : {x : HandlerAnswer} {t : TakenEvent} {line : List ℕ} → callOn h (b ∷ s) .answer ≡ x → taken (callOn h (b ∷ s) .handler) .event ≡ t
-      → ends2-3-21 x ≡ false → refusalLine x ++ takenLine t ≡ line
+  goes-on : {x : End (Answer Success)} {t : Answer (Option KeyEvent)} {line : List ℕ} → callOn h (b ∷ s) .end ≡ x → taken (callOn h (b ∷ s) .handler) .answer ≡ t
+      → ends2-3-21 x ≡ false → refusalLine (numberEnded x) ++ takenLine t ≡ line
       → (After b s left → Listed bytes (b ∷ s) (line ++ callsText n (recordAfter h (b ∷ s)) left)) → Listed bytes (b ∷ s) (callsText (suc n) h (b ∷ s))
   goes-on x t e l more =
       let g = ap ends2-3-21 x ∙ e in
-      rw (calls-more n h b s g, call-text h (b ∷ s) x t ∙ l) (more (after-byte g))
+      rw (calls-more n h b s g, call-text h (b ∷ s) (ap numberEnded x) t ∙ l) (more (after-byte g))
 
   by-step : (As (recordAfter h (b ∷ s)) (bytes ▸ b) [] → After b s left → Listed (bytes ▸ b) left (callsText n (recordAfter h (b ∷ s)) left))
       → Step h bytes b s → Listed bytes (b ∷ s) (callsText (suc n) h (b ∷ s))
-  by-step ih (step-2 k x t) =
-      rw (calls-last n h b s (ap ends2-3-21 x), call-text h (b ∷ s) x t, append-nil (refusalLine HandlerAnswer.NoScriptByte)) (a-2 b k)
-  by-step ih (step-19 q g x t r) = goes-on x t refl (append-nil (refusalLine HandlerAnswer.UnknownScancode)) (λ f. a-19 b q g f (ih r f))
+  by-step ih (step-2 p k x t) =
+      rw (calls-last n h b s (ap ends2-3-21 x), call-text h (b ∷ s) (ap numberEnded x) t, append-nil (refusalLine 2)) (a-2 b k)
+  by-step ih (step-19 q g x t r) = goes-on x t refl (append-nil (refusalLine 19)) (λ f. a-19 b q g f (ih r f))
   by-step ih (step-silent q x t r) = goes-on x t refl silent-line (λ f. no-event b q f (ih r f))
   by-step ih (step-event g x t r) = goes-on x t refl (event-line (eventOf b (flagsSaid (bytes ▸ b)))) (λ f. an-event b g f (ih r f))
 
@@ -109,14 +110,13 @@ event-length e =
     simp length-append
     (omega (arith, action-length (e .action), character-length (characterOf (e .keycode) (e .modifiers))))
 
-refusal-length : (a : HandlerAnswer) → length (refusalLine a) ≤ 13
-unfolding refusalLine decimal
-refusal-length HandlerAnswer.Done = omega arith
-refusal-length HandlerAnswer.NoScriptByte = omega arith
-refusal-length HandlerAnswer.NoLogRoom = omega arith
-refusal-length HandlerAnswer.UnknownScancode = omega arith
-refusal-length HandlerAnswer.QueueFull = omega arith
-refusal-length HandlerAnswer.MalformedRecord = omega arith
+by-number : (n : ℕ) (c : Bool) → length (cond c [] (ascii "refused " ++ decimal n ++ ascii "\n")) ≤ 13
+by-number n true = omega arith
+by-number n false = simp length-append (omega (arith, decimal-length n))
+
+refusal-length : (n : ℕ) → length (refusalLine n) ≤ 13
+unfolding refusalLine
+refusal-length n = by-number n (eqb n 0)
 
 listed-length : {bytes : Past ℕ} {s text : List ℕ} → Listed bytes s text → length text ≤ 13 * length s
 listed-length used-up = omega arith
@@ -125,8 +125,8 @@ listed-length (an-event {bytes = bytes} {text = text} b g f t) =
     omega (arith, length-append (eventLine e) text, event-length e, left-le f, listed-length t)
 listed-length (no-event b q f t) = omega (arith, left-le f, listed-length t)
 listed-length (a-19 {text = text} b q g f t) =
-    omega (arith, length-append (refusalLine HandlerAnswer.UnknownScancode) text, refusal-length HandlerAnswer.UnknownScancode, left-le f, listed-length t)
-listed-length (a-2 b k) = omega (arith, refusal-length HandlerAnswer.NoScriptByte)
+    omega (arith, length-append (refusalLine 19) text, refusal-length 19, left-le f, listed-length t)
+listed-length (a-2 b k) = omega (arith, refusal-length 2)
 
 pub listing-length : (script : List ℕ) → length (listing script) ≤ 13 * length (take scriptLimit script)
 listing-length script = listed-length (listing-listed script)

@@ -13,21 +13,20 @@ use Rattle.keycodes_ascii.specs.Characters.{characterOf}
 use Rattle.ps2_polling.specs.Polling.{sendTry, pollingSend, poll, pollingReceive, pollingSendReceive}
 use Rattle.ps2_command.specs.Command.{attempt, command}
 use Rattle.ps2_keyboard.specs.Keyboard.{commandToKeyboard, setLedBy, setKeyboardLed}
-use Rattle.keyboard_rule.specs.Events.{keycodeAt, eventOf}
-use Rattle.keyboard_rule.specs.FlagTable.{flagTable, flagLimit, isOf, pressesLock}
-use Rattle.keyboard_rule.specs.FlagsAfter.{flagsAfter, flagsThen}
-use Rattle.keyboard_rule.specs.Handler.{queued, lampExchange, onByte, handle, handled}
-use Rattle.keyboard_rule.specs.Lamps.{lampsLit}
-use Rattle.keyboard_rule.specs.Queue.{pushed, withoutOldest}
-use Rattle.keyboard_rule.specs.Record.{wellFormed}
-use Rattle.keyboard_rule.specs.Taking.{taken}
+use Rattle.keyboard_scancodes.specs.Events.{keycodeAt, eventOf}
+use Rattle.keyboard_scancodes.specs.FlagTable.{flagTable, flagLimit, isOf, pressesLock}
+use Rattle.keyboard_scancodes.specs.FlagsAfter.{flagsAfter, flagsThen}
+use Rattle.keyboard.specs.Handler.{queued, lampExchange, onByte, handle, effects, handled}
+use Rattle.keyboard_scancodes.specs.Lamps.{lampsLit}
+use Rattle.keyboard_record.specs.Record.{wellFormed}
+use Rattle.keyboard_record.specs.Taking.{taken}
 use Rattle.key_listing.specs.Text.{ascii, decimal}
 use Rattle.key_listing.specs.Lines.{eventLine, refusalLine}
 use Rattle.key_listing.specs.Listing.{callText, recordAfter, callsText, listing}
 
 -- "Input 2A 1E 9E AA prints".
 pub shifted-a : listing (0x2A ∷ 0x1E ∷ 0x9E ∷ 0xAA ∷ []) ≡ ascii "2A P 001 -\n1E P 001 65\n1E R 001 65\n2A R 000 -\n"
-unfolding listing callsText callText recordAfter refusalLine eventLine decimal handled handle onByte lampExchange queued wellFormed taken pushed withoutOldest flagTable flagLimit flagsThen flagsAfter isOf pressesLock putBit bit odd eventOf keycodeAt keycodeOf numbered keycodes characterOf play bind xor
+unfolding listing callsText callText recordAfter refusalLine eventLine decimal handled effects handle onByte lampExchange queued wellFormed taken flagTable flagLimit flagsThen flagsAfter isOf pressesLock putBit bit odd eventOf keycodeAt keycodeOf numbered keycodes characterOf play bind xor
 shifted-a = refl
 
 -- In order: Caps Lock with its replies, and A; the same where the keyboard fails its self test at ED; A, then Caps Lock in whose lamp exchange the script ends; 5E, which no key has, and A.
@@ -36,5 +35,5 @@ pub runs :
     × (listing (0x3A ∷ 0x00 ∷ 0x01 ∷ 0xFC ∷ 0x1E ∷ []) ≡ ascii "3A P 080 -\n1E P 080 65\n")
     × (listing (0x1E ∷ 0x3A ∷ 0x00 ∷ 0x01 ∷ []) ≡ ascii "1E P 000 97\nrefused 2\n")
     × (listing (0x5E ∷ 0x1E ∷ []) ≡ ascii "refused 19\n1E P 000 97\n")
-unfolding listing callsText callText recordAfter refusalLine eventLine decimal handled handle onByte lampExchange queued wellFormed taken pushed withoutOldest flagTable flagLimit flagsThen flagsAfter isOf pressesLock putBit bit odd eventOf keycodeAt keycodeOf numbered keycodes characterOf play bind xor andThen refusingAs repeat commandToKeyboard command attempt pollingSendReceive pollingSend sendTry pollingReceive poll decode setLedBy setKeyboardLed lampsLit
+unfolding listing callsText callText recordAfter refusalLine eventLine decimal handled effects handle onByte lampExchange queued wellFormed taken flagTable flagLimit flagsThen flagsAfter isOf pressesLock putBit bit odd eventOf keycodeAt keycodeOf numbered keycodes characterOf play bind xor andThen refusingAs repeat commandToKeyboard command attempt pollingSendReceive pollingSend sendTry pollingReceive poll decode setLedBy setKeyboardLed lampsLit
 runs = (refl, refl, refl, refl)

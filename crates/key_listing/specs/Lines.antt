@@ -2,16 +2,15 @@
 -- Assumes nothing.
 use mathlib.Core.Bool.{cond}
 use mathlib.Core.List.{List, [], _++_}
+use mathlib.Core.Option.{Option, none, some}
 use Prim.Native.Nat.{ℕ}
 use lib.Dec.{eqb}
+use Rattle.exchange.specs.Answer.{Answer, gives, refuses}
 use Rattle.keycodes_ascii.specs.declared.Character.{Character}
 use Rattle.keycodes_ascii.specs.declared.KeyAction.{KeyAction}
 use Rattle.keycodes_ascii.specs.declared.KeyEvent.{KeyEvent}
 use Rattle.keycodes_ascii.specs.Keycode.{numberOf}
 use Rattle.keycodes_ascii.specs.Characters.{characterOf}
-use Rattle.keyboard_rule.specs.declared.HandlerAnswer.{HandlerAnswer}
-use Rattle.keyboard_rule.specs.declared.TakenEvent.{TakenEvent}
-use Rattle.keyboard_rule.specs.Answers.{answerNumber}
 use Rattle.key_listing.specs.Text.{ascii, digits, decimal}
 
 -- "P or R".
@@ -31,11 +30,11 @@ eventLine e =
     ++ characterText (characterOf (e .keycode) (e .modifiers)) ++ ascii "\n"
 
 -- What a taking prints: the event taken, if there was one.
-abbrev pub takenLine : TakenEvent → List ℕ
-takenLine (TakenEvent.Event e) = eventLine e
-takenLine TakenEvent.Nothing = []
-takenLine TakenEvent.MalformedRecord = []
+abbrev pub takenLine : Answer (Option KeyEvent) → List ℕ
+takenLine (gives (some e)) = eventLine e
+takenLine (gives none) = []
+takenLine (refuses n) = []
 
--- What a handler call's answer prints: its number, where it is refused. A failed lamp exchange is no refusal of the call.
-unfoldable pub refusalLine : HandlerAnswer → List ℕ
-refusalLine answer = cond (eqb (answerNumber answer) 0) [] (ascii "refused " ++ decimal (answerNumber answer) ++ ascii "\n")
+-- What a handler call's answer prints: its number, where it is refused; 0 is none. A failed lamp exchange is no refusal of the call.
+unfoldable pub refusalLine : ℕ → List ℕ
+refusalLine number = cond (eqb number 0) [] (ascii "refused " ++ decimal number ++ ascii "\n")

@@ -4,13 +4,13 @@ use mathlib.Core.Bool.{cond}
 use mathlib.Core.List.{List, [], _∷_, _++_}
 use Prim.Native.Nat.{ℕ, zero, suc}
 use lib.ListN.{length, take, drop, replicate}
-use Rattle.keyboard_rule.specs.declared.Handled.{Handled}
-use Rattle.keyboard_rule.specs.declared.KeyboardHandler.{KeyboardHandler}
-use Rattle.keyboard_rule.specs.Answers.{ends2-3-21}
-use Rattle.keyboard_rule.specs.Handler.{handled}
-use Rattle.keyboard_rule.specs.KeyboardLamps.{keyboardLamps}
-use Rattle.keyboard_rule.specs.Record.{fresh}
-use Rattle.keyboard_rule.specs.Taking.{taken}
+use Rattle.exchange.specs.Answer.{numberEnded}
+use Rattle.keyboard_record.specs.declared.KeyboardHandler.{KeyboardHandler}
+use Rattle.keyboard.specs.Answers.{ends2-3-21}
+use Rattle.keyboard.specs.Handler.{Called, handled}
+use Rattle.keyboard.specs.KeyboardLamps.{keyboardLamps}
+use Rattle.keyboard_record.specs.Record.{fresh}
+use Rattle.keyboard_record.specs.Taking.{taken}
 use Rattle.key_listing.specs.Lines.{takenLine, refusalLine}
 
 -- "Reads the first 65,536 script bytes from standard input and ignores more."
@@ -18,16 +18,16 @@ abbrev pub scriptLimit : ℕ
 scriptLimit = 65536
 
 -- A handler call "with a 16-byte log each time".
-abbrev pub callOn : KeyboardHandler → List ℕ → Handled
+abbrev pub callOn : KeyboardHandler → List ℕ → Called
 callOn h script = handled keyboardLamps h script (replicate 16 0)
 
 -- What one call prints: its refusal, if it is refused, and the event that is taken "at once".
 unfoldable pub callText : KeyboardHandler → List ℕ → List ℕ
-callText h script = refusalLine (callOn h script .answer) ++ takenLine (taken (callOn h script .handler) .event)
+callText h script = refusalLine (numberEnded (callOn h script .end)) ++ takenLine (taken (callOn h script .handler) .answer)
 
 -- The record after a call and its taking.
 unfoldable pub recordAfter : KeyboardHandler → List ℕ → KeyboardHandler
-recordAfter h script = taken (callOn h script .handler) .handler
+recordAfter h script = taken (callOn h script .handler) .now
 
 -- What at most n calls print, each made on the record and on the script that the last one left, "until the script is used". After 2, 3 or 21, where a call leaves its record as it was, no call follows.
 unfoldable pub callsText : ℕ → KeyboardHandler → List ℕ → List ℕ
@@ -35,7 +35,7 @@ callsText zero h script = []
 callsText (suc n) h [] = []
 callsText (suc n) h (b ∷ script) =
     callText h (b ∷ script)
-    ++ cond (ends2-3-21 (callOn h (b ∷ script) .answer)) []
+    ++ cond (ends2-3-21 (callOn h (b ∷ script) .end)) []
     (callsText n (recordAfter h (b ∷ script)) (drop (callOn h (b ∷ script) .used) (b ∷ script)))
 
 -- What is printed from a record on. Every call that another follows uses a byte, so there are no more calls than bytes.

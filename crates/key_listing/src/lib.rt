@@ -2,19 +2,21 @@
 ghost use mathlib.Core.Path.{_≡_};
 ghost use mathlib.Core.List.{[], _∷_};
 ghost use Prim.Native.Nat.{_<_};
-ghost use Rattle.keyboard_rule.specs.Answers.{ends2-3-21};
-ghost use Rattle.keyboard_rule.specs.Record.{fresh};
+ghost use Rattle.exchange.specs.Answer.{numberEnded};
+ghost use Rattle.keyboard.specs.Answers.{saidCall, ends2-3-21};
+ghost use Rattle.keyboard_record.specs.Record.{fresh};
+ghost use Rattle.keyboard_record.specs.Taking.{saidTaken};
 ghost use Rattle.key_listing.specs.Text.{digit as Text·digit, digits, decimal};
 ghost use Rattle.key_listing.specs.Lines.{actionText, characterText, eventLine, takenLine, refusalLine};
 ghost use Rattle.key_listing.specs.Listing.{callOn, callText, recordAfter, listingFrom, listing};
 ghost use Rattle.buffer.specs.Buffer.{Holds, place, put};
 use buffer::put_byte;
 use buffer::put_text;
+use keyboard::HandlerAnswer;
 use keyboard::handle;
-use keyboard_rule::HandlerAnswer;
-use keyboard_rule::KeyboardHandler;
-use keyboard_rule::TakenEvent;
-use keyboard_taking::take_event;
+use keyboard_record::KeyboardHandler;
+use keyboard_record::TakenEvent;
+use keyboard_record::take_event;
 use keycodes_ascii::Character;
 use keycodes_ascii::KeyAction;
 use keycodes_ascii::KeyEvent;
@@ -62,7 +64,7 @@ fn list_calls(script: &[u8], out: &mut [u8]) -> usize
 
 // One handler call on what is left of the script, and the taking after it. What they print is put into `out` from `at` on.
 fn call_once(handler: KeyboardHandler, script: &[u8], out: &mut [u8], at: usize) -> Called
-    ensures { λ r. ⌜ (r .«is_last» ≡ ends2-3-21 (callOn handler (now (script .entry)) .answer)) × (r .used ≡ callOn handler (now (script .entry)) .used) × (r .handler ≡ recordAfter handler (now (script .entry))) × (place (r .at) (now (out .exit)) ≡ put (callText handler (now (script .entry))) (place at (now (out .entry)))) ⌝ }
+    ensures { λ r. ⌜ (r .«is_last» ≡ ends2-3-21 (callOn handler (now (script .entry)) .end)) × (r .used ≡ callOn handler (now (script .entry)) .used) × (r .handler ≡ recordAfter handler (now (script .entry))) × (place (r .at) (now (out .exit)) ≡ put (callText handler (now (script .entry))) (place at (now (out .entry)))) ⌝ }
 {
     let mut log = [0u8; 16];
     let call = handle(handler, script, &mut log);
@@ -85,12 +87,11 @@ fn call_once(handler: KeyboardHandler, script: &[u8], out: &mut [u8], at: usize)
 
 // Whether no call follows one that is answered so.
 fn is_last(answer: HandlerAnswer) -> bool
-    ensures { λ r. ⌜ r ≡ ends2-3-21 answer ⌝ }
+    ensures { λ r. ⌜ r ≡ ends2-3-21 (saidCall answer) ⌝ }
 {
     match answer {
         HandlerAnswer::Done => false,
-        HandlerAnswer::NoScriptByte => true,
-        HandlerAnswer::NoLogRoom => true,
+        HandlerAnswer::Lacking(_) => true,
         HandlerAnswer::UnknownScancode => false,
         HandlerAnswer::QueueFull => false,
         HandlerAnswer::MalformedRecord => true,
@@ -99,7 +100,7 @@ fn is_last(answer: HandlerAnswer) -> bool
 
 // Puts the number of a refusal; an answer that is none puts nothing.
 fn put_refusal(out: &mut [u8], at: usize, answer: HandlerAnswer) -> usize
-    ensures { λ r. ⌜ place r (now (out .exit)) ≡ put (refusalLine answer) (place at (now (out .entry))) ⌝ }
+    ensures { λ r. ⌜ place r (now (out .exit)) ≡ put (refusalLine (numberEnded (saidCall answer))) (place at (now (out .entry))) ⌝ }
 {
     let number = answer.number();
     if number == 0 {
@@ -112,7 +113,7 @@ fn put_refusal(out: &mut [u8], at: usize, answer: HandlerAnswer) -> usize
 
 // Puts the line of an event that was taken; where none was, nothing.
 fn put_taken(out: &mut [u8], at: usize, event: TakenEvent) -> usize
-    ensures { λ r. ⌜ place r (now (out .exit)) ≡ put (takenLine event) (place at (now (out .entry))) ⌝ }
+    ensures { λ r. ⌜ place r (now (out .exit)) ≡ put (takenLine (saidTaken event)) (place at (now (out .entry))) ⌝ }
 {
     match event {
         TakenEvent::Event(e) => put_event(out, at, e),

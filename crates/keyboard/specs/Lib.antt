@@ -1,2 +1,6 @@
--- What the code makes of a call before the queue is changed.
-pub mod Effects
+-- What a handler call means, and what the code's answers say.
+pub mod Answers
+pub mod Handler
+pub mod KeyboardLamps
+pub mod Outcomes
+pub mod Scancode

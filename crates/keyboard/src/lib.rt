@@ -1,51 +1,85 @@
-// The code of the handler call: Theseus's `keyboard`.
+// The handler call: Theseus's `keyboard`.
 ghost use mathlib.Core.Bool.{true};
 ghost use mathlib.Core.Path.{_≡_};
-ghost use Rattle.keyboard_rule.specs.Strokes.{lowPart};
-ghost use Rattle.keyboard_rule.specs.FlagTable.{isLockPress};
-ghost use Rattle.keyboard_rule.specs.KeyboardLamps.{keyboardLamps};
-ghost use Rattle.keyboard_rule.specs.Events.{keycodeAt, eventOf};
-ghost use Rattle.keyboard_rule.specs.Handler.{queued, onByte, handled, logLeft};
-ghost use Rattle.keyboard_rule.specs.Outcomes.{handledOf, handledBy, onKey};
-ghost use Rattle.keyboard.specs.Effects.{handledWith};
+ghost use Rattle.exchange.specs.Answer.{numberEnded};
 ghost use Rattle.exchange.specs.Exchange.{play};
-use keyboard_bytes::is_lock_press;
-use keyboard_bytes::is_prefix;
-use keyboard_bytes::is_silent;
-use keyboard_bytes::leds;
-use keyboard_bytes::modifiers_after;
+ghost use Rattle.keyboard_scancodes.specs.Strokes.{lowPart};
+ghost use Rattle.keyboard_scancodes.specs.FlagTable.{isLockPress};
+ghost use Rattle.keyboard_scancodes.specs.Events.{keycodeAt, eventOf};
+ghost use Rattle.keyboard.specs.Answers.{saidCall, saidLamps};
+ghost use Rattle.keyboard.specs.KeyboardLamps.{keyboardLamps};
+ghost use Rattle.keyboard.specs.Handler.{queued, onByte, effectsBy, effects, logLeft, handled};
+ghost use Rattle.keyboard.specs.Outcomes.{saidEffect, saidHandled, effectsOf, onKey};
 use keyboard_modifiers::KeyboardModifiers;
-use keyboard_rule::EventQueue;
-use keyboard_rule::Handled;
-use keyboard_rule::HandlerAnswer;
-use keyboard_rule::KeyboardHandler;
-use keyboard_rule::KeyboardState;
-use keyboard_rule::QUEUE_LENGTH;
+use keyboard_record::HandlerState;
+use keyboard_record::KeyboardHandler;
+use keyboard_record::QUEUE_LENGTH;
+use keyboard_scancodes::KeyboardState;
+use keyboard_scancodes::is_lock_press;
+use keyboard_scancodes::is_prefix;
+use keyboard_scancodes::is_silent;
+use keyboard_scancodes::leds;
+use keyboard_scancodes::modifiers_after;
 use keycodes_ascii::FoundKeycode;
 use keycodes_ascii::KEY_RELEASED_OFFSET;
 use keycodes_ascii::KeyAction;
 use keycodes_ascii::KeyEvent;
 use keycodes_ascii::Keycode;
-use ps2_command::CommandAnswer;
+use ps2_answers::ByteAnswer;
+use ps2_answers::Completion;
+use ps2_answers::Lack;
+use ps2_answers::ReadPort;
+use ps2_answers::Refusal;
 use ps2_keyboard::read_scancode;
 use ps2_keyboard::set_keyboard_led;
-use ps2_ports::ByteAnswer;
-use ps2_ports::Refusal;
+
+// How a handler call ends: done, for lack of a byte or room, or with the refusal that document 01 numbers 19, 20 or 21.
+pub enum HandlerAnswer {
+    Done,
+    Lacking(Lack),
+    UnknownScancode,
+    QueueFull,
+    MalformedRecord,
+}
+
+impl HandlerAnswer {
+    // The number that document 01 gives to a refusal, and 0 where there is none.
+    pub fn number(self) -> u8
+        ensures { λ r. ⌜ r ≡ numberEnded (saidCall self) ⌝ }
+    {
+        match self {
+            HandlerAnswer::Done => 0,
+            HandlerAnswer::Lacking(lack) => lack.number(),
+            HandlerAnswer::UnknownScancode => 19,
+            HandlerAnswer::QueueFull => 20,
+            HandlerAnswer::MalformedRecord => 21,
+        }
+    }
+}
+
+// What a handler call gives back. A lamp exchange that failed, document 01's 14, is shown beside the answer.
+pub struct Handled {
+    pub answer: HandlerAnswer,
+    pub lamps_failed: bool,
+    pub used: usize,
+    pub pairs: usize,
+    pub handler: KeyboardHandler,
+}
 
 // The event that a call puts into the queue, if any.
-enum NewEvent {
+pub enum NewEvent {
     Event(KeyEvent),
     Nothing,
 }
 
-// All that a call does, but for the queue: it is copied and changed in one place, in `handle`.
-struct Effect {
-    answer: HandlerAnswer,
-    lamps_failed: bool,
-    used: usize,
-    pairs: usize,
-    keyboard: KeyboardState,
-    event: NewEvent,
+// What a handler call gives back but for the places: a new event goes into the first place behind those that wait.
+pub struct Effect {
+    pub answer: HandlerAnswer,
+    pub lamps_failed: bool,
+    pub used: usize,
+    pub pairs: usize,
+    pub state: HandlerState,
+    pub event: NewEvent,
 }
 
 // The event of a scancode whose low part is this keycode's number.
@@ -67,28 +101,34 @@ fn event_of(keycode: Keycode, scan_code: u8, modifiers: KeyboardModifiers) -> Ke
 
 // What follows a scancode's lamp exchange, which used and wrote this much: its event is queued, where it has one and there is room.
 fn queue_event(
-    handler: KeyboardHandler,
+    state: HandlerState,
     scan_code: u8,
     modifiers: KeyboardModifiers,
     lamps_failed: bool,
     used: usize,
     pairs: usize,
 ) -> Effect
-    ensures { λ r. ⌜ handledWith (handler .queue) r ≡ handledOf (queued handler «scan_code» (modifiers .bits) «lamps_failed») used pairs ⌝ }
+    ensures { λ r. ⌜ saidEffect r ≡ effectsOf (queued state «scan_code» (modifiers .bits) (saidLamps «lamps_failed»)) used pairs ⌝ }
 {
     let keyboard = KeyboardState {
         prefix: false,
         modifiers,
     };
+    let start = state.start;
+    let count = state.count;
     match Keycode::from_byte(scan_code & 0x7F) {
         FoundKeycode::Found(keycode) => {
-            if QUEUE_LENGTH <= handler.queue.count {
+            if QUEUE_LENGTH <= count {
                 return Effect {
                     answer: HandlerAnswer::QueueFull,
                     lamps_failed,
                     used,
                     pairs,
-                    keyboard,
+                    state: HandlerState {
+                        keyboard,
+                        start,
+                        count,
+                    },
                     event: NewEvent::Nothing,
                 };
             }
@@ -98,7 +138,11 @@ fn queue_event(
                 lamps_failed,
                 used,
                 pairs,
-                keyboard,
+                state: HandlerState {
+                    keyboard,
+                    start,
+                    count: count + 1,
+                },
                 event: NewEvent::Event(event),
             }
         }
@@ -107,7 +151,11 @@ fn queue_event(
             lamps_failed,
             used,
             pairs,
-            keyboard,
+            state: HandlerState {
+                keyboard,
+                start,
+                count,
+            },
             event: NewEvent::Nothing,
         },
     }
@@ -115,49 +163,40 @@ fn queue_event(
 
 // The press of a lock, with the flags just after it: the lamps are set, then the event is queued whether they could be or not.
 fn lock_pressed(
-    handler: KeyboardHandler,
+    state: HandlerState,
     scan_code: u8,
     modifiers: KeyboardModifiers,
     script: &[u8],
     log: &mut [u8],
 ) -> Effect
     requires { ⌜ isLockPress «scan_code» ≡ true ⌝ }
-    ensures { λ r. ⌜ (handledWith (handler .queue) r ≡ handledBy handler (play (onKey keyboardLamps handler «scan_code» (modifiers .bits)) (now (script .entry)) (now (log .entry)))) × (now (log .exit) ≡ play (onKey keyboardLamps handler «scan_code» (modifiers .bits)) (now (script .entry)) (now (log .entry)) .log) ⌝ }
+    ensures { λ r. ⌜ (saidEffect r ≡ effectsBy state (play (onKey keyboardLamps state «scan_code» (modifiers .bits)) (now (script .entry)) (now (log .entry)))) × (now (log .exit) ≡ play (onKey keyboardLamps state «scan_code» (modifiers .bits)) (now (script .entry)) (now (log .entry)) .log) ⌝ }
 {
-    let keyboard = handler.keyboard;
     let lit = set_keyboard_led(script, log, leds(modifiers));
     let used = lit.used;
     let pairs = lit.pairs;
     let answer = lit.answer;
     match answer {
-        CommandAnswer::Accepted => queue_event(handler, scan_code, modifiers, false, used, pairs),
-        CommandAnswer::Refused(e) => match e {
-            Refusal::ScriptUsedUp => Effect {
-                answer: HandlerAnswer::NoScriptByte,
+        Completion::Done => queue_event(state, scan_code, modifiers, false, used, pairs),
+        Completion::Refused(e) => match e {
+            Refusal::Lacking(lack) => Effect {
+                answer: HandlerAnswer::Lacking(lack),
                 lamps_failed: false,
                 used,
                 pairs,
-                keyboard,
+                state,
                 event: NewEvent::Nothing,
             },
-            Refusal::LogFull => Effect {
-                answer: HandlerAnswer::NoLogRoom,
-                lamps_failed: false,
-                used,
-                pairs,
-                keyboard,
-                event: NewEvent::Nothing,
-            },
-            Refusal::Failed(f) => queue_event(handler, scan_code, modifiers, true, used, pairs),
+            Refusal::Failed(_) => queue_event(state, scan_code, modifiers, true, used, pairs),
         },
     }
 }
 
 // A scancode that was read.
-fn on_byte(handler: KeyboardHandler, scan_code: u8, script: &[u8], log: &mut [u8]) -> Effect
-    ensures { λ r. ⌜ (handledWith (handler .queue) r ≡ handledBy handler (play (onByte keyboardLamps handler «scan_code») (now (script .entry)) (now (log .entry)))) × (now (log .exit) ≡ play (onByte keyboardLamps handler «scan_code») (now (script .entry)) (now (log .entry)) .log) ⌝ }
+fn on_byte(state: HandlerState, scan_code: u8, script: &[u8], log: &mut [u8]) -> Effect
+    ensures { λ r. ⌜ (saidEffect r ≡ effectsBy state (play (onByte keyboardLamps state «scan_code») (now (script .entry)) (now (log .entry)))) × (now (log .exit) ≡ play (onByte keyboardLamps state «scan_code») (now (script .entry)) (now (log .entry)) .log) ⌝ }
 {
-    let keyboard = handler.keyboard;
+    let keyboard = state.keyboard;
     if is_silent(scan_code) {
         let modifiers = keyboard.modifiers;
         let prefix = is_prefix(scan_code);
@@ -166,31 +205,32 @@ fn on_byte(handler: KeyboardHandler, scan_code: u8, script: &[u8], log: &mut [u8
             lamps_failed: false,
             used: 0,
             pairs: 0,
-            keyboard: KeyboardState { prefix, modifiers },
+            state: HandlerState {
+                keyboard: KeyboardState { prefix, modifiers },
+                start: state.start,
+                count: state.count,
+            },
             event: NewEvent::Nothing,
         };
     }
     let modifiers = modifiers_after(keyboard, scan_code);
     if is_lock_press(scan_code) {
-        return lock_pressed(handler, scan_code, modifiers, script, log);
+        return lock_pressed(state, scan_code, modifiers, script, log);
     }
-    queue_event(handler, scan_code, modifiers, false, 0, 0)
+    queue_event(state, scan_code, modifiers, false, 0, 0)
 }
 
-// What a handler call does, but for the queue: one scancode is read without asking the status, and handled.
-fn effect_of(handler: KeyboardHandler, script: &[u8], log: &mut [u8]) -> Effect
-    ensures { λ r. ⌜ (handledWith (handler .queue) r ≡ handled keyboardLamps handler (now (script .entry)) (now (log .entry))) × (now (log .exit) ≡ logLeft keyboardLamps handler (now (script .entry)) (now (log .entry))) ⌝ }
+// A handler call but for the places: 21 is asked, then one scancode is read without asking the status, and handled.
+pub fn effect_of(state: HandlerState, script: &[u8], log: &mut [u8]) -> Effect
+    ensures { λ r. ⌜ (saidEffect r ≡ effects keyboardLamps state (now (script .entry)) (now (log .entry))) × (now (log .exit) ≡ logLeft keyboardLamps state (now (script .entry)) (now (log .entry))) ⌝ }
 {
-    let keyboard = handler.keyboard;
-    if !handler.well_formed() {
-        // This is asked before a byte is read.
-        let used = 0;
+    if !state.well_formed() {
         return Effect {
             answer: HandlerAnswer::MalformedRecord,
             lamps_failed: false,
-            used,
+            used: 0,
             pairs: 0,
-            keyboard,
+            state,
             event: NewEvent::Nothing,
         };
     }
@@ -199,25 +239,25 @@ fn effect_of(handler: KeyboardHandler, script: &[u8], log: &mut [u8]) -> Effect
     let answer = read.answer;
     match answer {
         ByteAnswer::Byte(scan_code) => {
-            let after = on_byte(handler, scan_code, &script[used..], log);
+            let after = on_byte(state, scan_code, &script[used..], log);
             let answer = after.answer;
-            let keyboard = after.keyboard;
+            let left = after.state;
             let event = after.event;
             Effect {
                 answer,
                 lamps_failed: after.lamps_failed,
                 used: used + after.used,
                 pairs: after.pairs,
-                keyboard,
+                state: left,
                 event,
             }
         }
-        ByteAnswer::Refused(e) => Effect {
-            answer: HandlerAnswer::NoScriptByte,
+        ByteAnswer::Refused(_) => Effect {
+            answer: HandlerAnswer::Lacking(Lack::Script(ReadPort::Data)),
             lamps_failed: false,
             used,
             pairs: 0,
-            keyboard,
+            state,
             event: NewEvent::Nothing,
         },
     }
@@ -225,33 +265,25 @@ fn effect_of(handler: KeyboardHandler, script: &[u8], log: &mut [u8]) -> Effect
 
 // A handler call.
 pub fn handle(handler: KeyboardHandler, script: &[u8], log: &mut [u8]) -> Handled
-    ensures { λ r. ⌜ (r ≡ handled keyboardLamps handler (now (script .entry)) (now (log .entry))) × (now (log .exit) ≡ logLeft keyboardLamps handler (now (script .entry)) (now (log .entry))) ⌝ }
+    ensures { λ r. ⌜ (saidHandled r ≡ handled keyboardLamps handler (now (script .entry)) (now (log .entry))) × (now (log .exit) ≡ logLeft keyboardLamps (handler .state) (now (script .entry)) (now (log .entry))) ⌝ }
 {
-    let queue = handler.queue;
-    let start = queue.start;
-    let mut count = queue.count;
-    let mut places = queue.places;
-    let effect = effect_of(handler, script, log);
+    let before = handler.state;
+    let start = before.start;
+    let count = before.count;
+    let mut places = handler.places;
+    let effect = effect_of(before, script, log);
     let answer = effect.answer;
-    let keyboard = effect.keyboard;
+    let state = effect.state;
     let new = effect.event;
     if let NewEvent::Event(event) = new {
         let place = (start + count) % QUEUE_LENGTH;
         places[place] = event;
-        count += 1;
     }
     Handled {
         answer,
         lamps_failed: effect.lamps_failed,
         used: effect.used,
         pairs: effect.pairs,
-        handler: KeyboardHandler {
-            keyboard,
-            queue: EventQueue {
-                start,
-                count,
-                places,
-            },
-        },
+        handler: KeyboardHandler { state, places },
     }
 }

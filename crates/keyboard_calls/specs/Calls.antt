@@ -2,9 +2,9 @@
 -- Assumes nothing.
 use mathlib.Core.List.{List}
 use Prim.Native.Nat.{ℕ, zero, suc}
-use Rattle.keyboard_rule.specs.declared.KeyboardHandler.{KeyboardHandler}
-use Rattle.keyboard_rule.specs.KeyboardLamps.{keyboardLamps}
-use Rattle.keyboard_rule.specs.Handler.{handled, logLeft}
+use Rattle.keyboard_record.specs.declared.KeyboardHandler.{KeyboardHandler}
+use Rattle.keyboard.specs.KeyboardLamps.{keyboardLamps}
+use Rattle.keyboard.specs.Handler.{handled, logLeft}
 
 -- What a call leaves: the record and the log.
 pub record Left : Type 0 where
@@ -16,7 +16,7 @@ left h log = record { handler = h; log = log }
 
 -- One call more.
 abbrev pub oneMore : List ℕ → Left → Left
-oneMore script x = left (handled keyboardLamps (x .handler) script (x .log) .handler) (logLeft keyboardLamps (x .handler) script (x .log))
+oneMore script x = left (handled keyboardLamps (x .handler) script (x .log) .handler) (logLeft keyboardLamps (x .handler .state) script (x .log))
 
 -- What so many calls leave.
 unfoldable pub called : ℕ → List ℕ → Left → Left

@@ -1,11 +1,11 @@
 // The handler call on a record that lies behind a reference: it stores what the by-value call returns.
 ghost use mathlib.Core.Path.{_≡_};
-ghost use Rattle.keyboard_rule.specs.KeyboardLamps.{keyboardLamps};
-ghost use Rattle.keyboard_rule.specs.Handler.{handled, logLeft};
-ghost use Rattle.keyboard_in_place.specs.InPlace.{inPlace};
+ghost use Rattle.keyboard.specs.KeyboardLamps.{keyboardLamps};
+ghost use Rattle.keyboard.specs.Handler.{handled, logLeft};
+ghost use Rattle.keyboard_in_place.specs.InPlace.{saidInPlace};
+use keyboard::HandlerAnswer;
 use keyboard::handle;
-use keyboard_rule::HandlerAnswer;
-use keyboard_rule::KeyboardHandler;
+use keyboard_record::KeyboardHandler;
 
 // What the call gives back beside the record, which it changes in place.
 pub struct HandledInPlace {
@@ -21,7 +21,7 @@ pub fn handle_in_place(
     script: &[u8],
     log: &mut [u8],
 ) -> HandledInPlace
-    ensures { λ r. ⌜ (r ≡ inPlace (handled keyboardLamps (now (handler .entry)) (now (script .entry)) (now (log .entry)))) × (now (handler .exit) ≡ handled keyboardLamps (now (handler .entry)) (now (script .entry)) (now (log .entry)) .handler) × (now (log .exit) ≡ logLeft keyboardLamps (now (handler .entry)) (now (script .entry)) (now (log .entry))) ⌝ }
+    ensures { λ r. ⌜ (saidInPlace r (now (handler .exit)) ≡ handled keyboardLamps (now (handler .entry)) (now (script .entry)) (now (log .entry))) × (now (log .exit) ≡ logLeft keyboardLamps (now (handler .entry) .state) (now (script .entry)) (now (log .entry))) ⌝ }
 {
     let done = handle(*handler, script, log);
     *handler = done.handler;

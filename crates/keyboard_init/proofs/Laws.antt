@@ -8,7 +8,7 @@ use Rattle.exchange.specs.Attains.{Most}
 use Rattle.exchange.specs.Refuses.{Refuses}
 use Rattle.exchange.proofs.Then.{within-then, attains-then, within-as, attains-as, refuses-then, refuses-more, refuses-as}
 use Rattle.ps2_bytes.specs.declared.data.ScancodeSet.the-variants.{Set1}
-use Rattle.ps2_ports.specs.Refusals.{success}
+use Rattle.ps2_answers.specs.Refusals.{success}
 use Rattle.ps2_command.proofs.Refuses.{commandAnd}
 use Rattle.ps2_keyboard.specs.Keyboard.{setScancodeSet}
 use Rattle.ps2_detect.specs.Detection.{keyboardDetect}

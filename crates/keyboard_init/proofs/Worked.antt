@@ -7,7 +7,7 @@ use Rattle.bits.specs.Table.{decode}
 use Rattle.exchange.specs.Exchange.{bind, yields, played, play}
 use Rattle.exchange.specs.Answer.{gives, refuses, andThen, refusingAs}
 use Rattle.exchange.specs.Repeat.{repeat}
-use Rattle.ps2_ports.specs.Refusals.{success}
+use Rattle.ps2_answers.specs.Refusals.{success}
 use Rattle.ps2_polling.specs.Polling.{sendTry, pollingSend, poll, pollingReceive, pollingSendReceive}
 use Rattle.ps2_command.specs.Command.{attempt, command}
 use Rattle.ps2_command.proofs.Runs.{room, fa}

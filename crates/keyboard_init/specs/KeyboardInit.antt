@@ -4,7 +4,7 @@ use Rattle.exchange.specs.Exchange.{Exchange}
 use Rattle.exchange.specs.Answer.{Answer, andThen, refusingAs}
 use Rattle.ps2_bytes.specs.declared.data.ScancodeSet.the-variants.{Set1}
 use Rattle.ps2_bytes.specs.declared.response.KeyboardType.{KeyboardType}
-use Rattle.ps2_ports.specs.Refusals.{Success}
+use Rattle.ps2_answers.specs.Refusals.{Success}
 use Rattle.ps2_keyboard.specs.Keyboard.{setScancodeSet}
 use Rattle.ps2_detect.specs.Detection.{keyboardDetect}
 

@@ -3,17 +3,17 @@ ghost use mathlib.Core.Path.{_≡_};
 ghost use Rattle.exchange.specs.Exchange.{play, played};
 ghost use Rattle.ps2_detect.specs.Answers.{saidType};
 ghost use Rattle.keyboard_init.specs.KeyboardInit.{detection, keyboardInit};
-ghost use Rattle.keyboard_rule.specs.Record.{fresh};
-ghost use Rattle.ps2_ports.specs.Refusals.{saidDone};
-use keyboard_rule::KeyboardHandler;
+ghost use Rattle.keyboard_record.specs.Record.{fresh};
+ghost use Rattle.ps2_answers.specs.Refusals.{saidDone};
+use keyboard_record::KeyboardHandler;
+use ps2_answers::Completion;
+use ps2_answers::Failure;
 use ps2_bytes::ScancodeSet;
 use ps2_command::refusing_as;
 use ps2_detect::Detected;
 use ps2_detect::TypeAnswer;
 use ps2_detect::keyboard_detect;
 use ps2_keyboard::set_keyboard_scancode_set;
-use ps2_ports::Completion;
-use ps2_ports::Failure;
 
 // The handler's record, which is good where the answer is that all was done.
 pub struct KeyboardInitialized {

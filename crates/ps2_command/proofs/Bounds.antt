@@ -16,30 +16,30 @@ use Rattle.exchange.proofs.Bounds.{within-repeat}
 use Rattle.exchange.proofs.Then.{on-cond, within-then, attains-then, within-told, attains-told}
 use Rattle.ps2_bytes.specs.declared.response.DeviceToHostResponse.the-variants.{Acknowledge, ResendCommand}
 use Rattle.ps2_bytes.specs.declared.writable.HostToDevice.{HostToDevice}
-use Rattle.ps2_ports.specs.Refusals.{success}
+use Rattle.ps2_answers.specs.Refusals.{success}
 use Rattle.ps2_ports.specs.Ports.{writePort}
 use Rattle.ps2_polling.proofs.Bounds.{within-send-receive}
 use Rattle.ps2_polling.proofs.Attained.{attains-send-receive}
-use Rattle.ps2_command.specs.Command.{accepted, settled, attempts, attempt, command, commandToPort2}
+use Rattle.ps2_command.specs.Command.{commandReads, settled, attempts, attempt, command, commandToPort2}
 use Rattle.ps2_command.specs.Search.{pollWhen, selfTestWithin}
 
 module _ (value : HostToDevice) where
-  pub within-command : Within 525300 4 (command value)
+  pub within-command : Within commandReads 4 (command value)
   unfolding command attempt
   within-command = within-repeat (within-told (λ a. settled a) (within-send-receive value)) (refuses 7) attempts
 
   -- FE three times and then FA, each with the last poll
-  pub attains-command : Attains (gives accepted) 525300 4 (command value)
+  pub attains-command : Attains (gives success) commandReads 4 (command value)
   unfolding command attempt decode
   attains-command =
       attains-last (refuses 7) (attains-told (λ a. settled a) (attains-send-receive value 0xFE (omega arith) ResendCommand refl)) 3
       (attains-told (λ a. settled a) (attains-send-receive value 0xFA (omega arith) Acknowledge refl))
 
-  pub within-commandToPort2 : Within 525300 5 (commandToPort2 value)
+  pub within-commandToPort2 : Within commandReads 5 (commandToPort2 value)
   unfolding commandToPort2 writePort
   within-commandToPort2 = within-then (within-write {r = 0} {w = 0} within-done) (λ _. within-command)
 
-  pub attains-commandToPort2 : Attains (gives accepted) 525300 5 (commandToPort2 value)
+  pub attains-commandToPort2 : Attains (gives success) commandReads 5 (commandToPort2 value)
   unfolding commandToPort2 writePort
   attains-commandToPort2 = attains-then (λ _. command value) (attains-write attains-done) attains-command
 

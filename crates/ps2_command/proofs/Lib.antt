@@ -7,5 +7,4 @@ pub mod Reset
 pub mod Runs
 pub mod Attempts
 pub mod Replaced
-pub mod Accepted
 pub mod Worked

@@ -12,7 +12,8 @@ use Rattle.ps2_bytes.specs.declared.writable.HostToDevice.{HostToDevice}
 use Rattle.ps2_bytes.specs.Writable.{toDevice}
 use Rattle.ps2_ports.specs.Ports.{writePort}
 use Rattle.ps2_polling.proofs.Refuses.{DataByte, sends-send-receive}
-use Rattle.ps2_command.specs.Command.{Accepted, attempts, attempt, command, commandToPort2}
+use Rattle.ps2_answers.specs.Refusals.{Success}
+use Rattle.ps2_command.specs.Command.{attempts, attempt, command, commandToPort2}
 
 -- a command writes its byte, to port 60, and nothing else
 pub sends-command : (value : HostToDevice) → Sends (DataByte (toDevice value)) (command value)
@@ -29,6 +30,6 @@ after-write : (v : ℕ) {A : Type 0} {c : ℕ} {t rest : Exchange A} {a : Access
 after-write v {c = c} h (by-write m) = ap (λ (l : List ℕ). c ∷ l) (sends-data {W = λ x. x ≡ v} h m)
 
 -- however far it has come: of its accesses, if there are any, one is a controller command, and it is D4
-pub port2-once : (value : HostToDevice) {a : Access} {made : List Access} {rest : Exchange (Answer Accepted)}
+pub port2-once : (value : HostToDevice) {a : Access} {made : List Access} {rest : Exchange (Answer Success)}
     → Makes (commandToPort2 value) (a ∷ made) rest → toController (a ∷ made) ≡ 0xD4 ∷ []
 port2-once value m = after-write (toDevice value) (sends-command value) (rw (port2-first value) at m)

@@ -5,11 +5,11 @@ use mathlib.Core.List.{List}
 use mathlib.Core.Path.{_≡_, refl}
 use Rattle.exchange.specs.Exchange.{Exchange, done, End, yields, played, play}
 use Rattle.exchange.specs.Answer.{Answer, gives, renumbered, refusingAs}
-use Rattle.exchange.proofs.Calls.{bind-done, bind-no-script, bind-no-log}
-use Rattle.ps2_ports.specs.Refusals.{numberOf, refused}
-use Rattle.ps2_ports.specs.declared.Failure.{Failure}
-use Rattle.ps2_ports.specs.declared.Refusal.{Refusal}
-use Rattle.ps2_ports.specs.declared.Refusal.the-variants.{ScriptUsedUp, LogFull, Failed}
+use Rattle.exchange.proofs.Calls.{bind-done, bind-lacks}
+use Rattle.ps2_answers.specs.Refusals.{numberOf, refused}
+use Rattle.ps2_answers.specs.declared.Failure.{Failure}
+use Rattle.ps2_answers.specs.declared.Refusal.{Refusal}
+use Rattle.ps2_answers.specs.declared.Refusal.the-variants.{Lacking, Failed}
 use Rattle.ps2_command.specs.Replaced.{replacedBy}
 
 module _ {A : Type 0} (f : Failure) (t : Exchange (Answer A)) (s l : List ℕ) {e : End (Answer A)} {u w : ℕ} {l′ : List ℕ} (r : played e u w l′ ≡ play t s l) where
@@ -19,6 +19,5 @@ module _ {A : Type 0} (f : Failure) (t : Exchange (Answer A)) (s l : List ℕ) {
 
   pub refusing-refused : (x : Refusal) → e ≡ refused x → played (refused (replacedBy f x)) u w l′ ≡ play (refusingAs (numberOf f) t) s l
   unfolding refusingAs
-  refusing-refused ScriptUsedUp q = bind-no-script t (λ a. done (renumbered (numberOf f) a)) s l r q
-  refusing-refused LogFull q = bind-no-log t (λ a. done (renumbered (numberOf f) a)) s l r q
+  refusing-refused (Lacking x) q = bind-lacks t (λ a. done (renumbered (numberOf f) a)) s l r q
   refusing-refused (Failed x) q = bind-done t (λ a. done (renumbered (numberOf f) a)) s l r q refl

@@ -8,21 +8,20 @@ use Rattle.exchange.specs.Answer.{Answer, gives, refuses, andThen}
 use Rattle.exchange.specs.Refuses.{Refuses}
 use Rattle.exchange.specs.Search.{scriptAfter, logAfter}
 use Rattle.exchange.proofs.Search.{then-gives, then-refuses}
-use Rattle.ps2_ports.specs.Refusals.{Success, success}
-use Rattle.ps2_command.specs.Command.{Accepted, accepted}
+use Rattle.ps2_answers.specs.Refusals.{Success, success}
 use Rattle.ps2_command.specs.Reset.{OwnAA, NoAA}
 use Rattle.ps2_command.specs.Search.{selfTestWithin}
 use Rattle.ps2_command.proofs.Refuses.{commandRefusals}
 use Rattle.ps2_command.proofs.Search.{self-test-gives, self-test-refuses}
 
--- there is one success, and one way to be accepted
+-- there is one success
 pub the-success : (x : Success) → x ≡ success
 the-success success = refl
 
-pub the-accepted : (x : Accepted) → x ≡ accepted
-the-accepted accepted = refl
+pub the-accepted : (x : Success) → x ≡ success
+the-accepted success = refl
 
-module _ (ff : Exchange (Answer Accepted)) (n : ℕ) (then : Exchange (Answer Success)) (s l : List ℕ) where
+module _ (ff : Exchange (Answer Success)) (n : ℕ) (then : Exchange (Answer Success)) (s l : List ℕ) where
   pub own-aa : ((s l : List ℕ) → play then s l .end ≡ yields (gives success) → play (selfTestWithin n) s l .end ≡ yields (gives success))
       → play (andThen ff (λ _. then)) s l .end ≡ yields (gives success) → OwnAA ff n s l
   own-aa through h =

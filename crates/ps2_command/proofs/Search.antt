@@ -12,12 +12,12 @@ use Rattle.exchange.specs.Refuses.{RefusesWith}
 use Rattle.exchange.specs.Repeat.{Turn, found, again, repeat}
 use Rattle.exchange.specs.Search.{Search, scriptAfter}
 use Rattle.exchange.proofs.Search.{search-gives, search-refuses}
-use Rattle.exchange.proofs.Steps.{no-script-yields}
+use Rattle.exchange.proofs.Steps.{lacks-yields}
 use Rattle.exchange.proofs.Then.{Finds}
 use Rattle.ps2_bytes.specs.declared.response.DeviceToHostResponse.the-variants.{SelfTestPassed}
 use Rattle.ps2_bytes.specs.Responses.{responseByte}
 use Rattle.ps2_layouts.specs.Status.{outputBufferFull}
-use Rattle.ps2_ports.specs.Refusals.{success}
+use Rattle.ps2_answers.specs.Refusals.{success}
 use Rattle.ps2_polling.specs.Polling.{dataTurn, poll}
 use Rattle.ps2_polling.proofs.Refuses.{finds-listed, finds-passed}
 use Rattle.ps2_command.specs.Search.{pollWhen, listedTurn, selfTestTurn, selfTestWithin, PollBrings, nothing-there, brought, DataBrings, taken}
@@ -29,7 +29,7 @@ module _ {A : Type 0} (ready : ℕ → Bool) (worth : ℕ → Turn A) where
       → play (cond ok (read p60 (λ b. done (worth b))) (done again)) s l .end ≡ yields x
       → PollBrings ready worth (status ∷ s) x (drop (play (cond ok (read p60 (λ b. done (worth b))) (done again)) s l .used) s)
   unfolding play
-  after-status status true e [] l x h = absurd (no-script-yields h)
+  after-status status true e [] l x h = absurd (lacks-yields h)
   after-status status true e (b ∷ s) l x h =
       let q : worth b ≡ x = cc in
       rw (← q) (brought e)
@@ -39,7 +39,7 @@ module _ {A : Type 0} (ready : ℕ → Bool) (worth : ℕ → Turn A) where
 
   pub brings-poll : (s l : List ℕ) (x : Turn A) → play (pollWhen ready worth) s l .end ≡ yields x → PollBrings ready worth s x (drop (play (pollWhen ready worth) s l .used) s)
   unfolding pollWhen play
-  brings-poll [] l x h = absurd (no-script-yields h)
+  brings-poll [] l x h = absurd (lacks-yields h)
   brings-poll (status ∷ s) l x h = after-status status (ready status) refl s l x h
 
   pub polled-finds : (P : A → Type 0) → ((b : ℕ) → Finds P (worth b)) → (s : List ℕ) (x : Turn A) (rest : List ℕ) → PollBrings ready worth s x rest → Finds P x
@@ -54,7 +54,7 @@ module _ {A : Type 0} (worth : ℕ → Turn A) where
 
   brings-data : (s l : List ℕ) (x : Turn A) → play (dataTurn worth) s l .end ≡ yields x → DataBrings worth s x (drop (play (dataTurn worth) s l .used) s)
   unfolding play
-  brings-data [] l x h = absurd (no-script-yields h)
+  brings-data [] l x h = absurd (lacks-yields h)
   brings-data (b ∷ s) l x h =
       let q : worth b ≡ x = cc in
       rw (← q) taken

@@ -10,7 +10,7 @@ use Rattle.exchange.specs.Answer.{Answer, gives, refuses}
 use Rattle.exchange.specs.Repeat.{Turn, found, again, repeat}
 use Rattle.ps2_bytes.specs.declared.response.DeviceToHostResponse.the-variants.{SelfTestPassed}
 use Rattle.ps2_bytes.specs.Responses.{responseByte}
-use Rattle.ps2_ports.specs.Refusals.{Success}
+use Rattle.ps2_answers.specs.Refusals.{Success}
 use Rattle.ps2_polling.specs.Polling.{dataTurn, passedTurn}
 
 -- A poll that reads data only where the status says that a byte is there.

@@ -4,10 +4,14 @@ ghost use mathlib.Core.List.{List};
 ghost use Prim.Native.Nat.{ℕ};
 ghost use Rattle.exchange.specs.Exchange.{Exchange, play, played, yields, Reads};
 ghost use Rattle.exchange.specs.Answer.{Answer, andThen, refusingAs};
-ghost use Rattle.ps2_ports.specs.Refusals.{numberOf, saidDone};
-ghost use Rattle.ps2_command.specs.Command.{Accepted, command as commandRule, commandToPort2, commandBy, attempt as attemptRule, saidCommand, saidAttempt, verdict as verdictRule};
+ghost use Rattle.ps2_answers.specs.Refusals.{numberOf, saidDone, Success};
+ghost use Rattle.ps2_command.specs.Command.{command as commandRule, commandToPort2, commandBy, attempt as attemptRule, saidAttempt, verdict as verdictRule};
 ghost use Rattle.ps2_command.specs.Replaced.{replacedBy};
 ghost use Rattle.ps2_command.specs.Search.{selfTestWithin};
+use ps2_answers::Completed;
+use ps2_answers::Completion;
+use ps2_answers::Failure;
+use ps2_answers::Refusal;
 use ps2_bytes::DeviceToHostResponse;
 use ps2_bytes::HostToControllerCommand;
 use ps2_bytes::HostToDevice;
@@ -15,11 +19,7 @@ use ps2_polling::ResponseAnswer;
 use ps2_polling::Waiting;
 use ps2_polling::polling_send_receive;
 use ps2_polling::read_test_result;
-use ps2_ports::CompletedRead;
-use ps2_ports::Completion;
 use ps2_ports::DevicePort;
-use ps2_ports::Failure;
-use ps2_ports::Refusal;
 use ps2_ports::write_command;
 
 // The attempts that a command has.
@@ -28,21 +28,9 @@ const ATTEMPTS: u8 = 4;
 // A device's byte for a self test that it passed.
 const SELF_TEST_PASSED: u8 = 0xAA;
 
-// The answer of a command.
-pub enum CommandAnswer {
-    Accepted,
-    Refused(Refusal),
-}
-
-pub struct Commanded {
-    pub answer: CommandAnswer,
-    pub used: usize,
-    pub pairs: usize,
-}
-
 // What one attempt comes to: it settles the command, or another is to be made.
 pub enum Attempt {
-    Settled(CommandAnswer),
+    Settled(Completion),
     Again,
 }
 
@@ -58,14 +46,14 @@ fn verdict(response: DeviceToHostResponse) -> Attempt
 {
     match response {
         DeviceToHostResponse::KeyDetectionErrorOrInternalBufferOverrun1 => Attempt::Again,
-        DeviceToHostResponse::SelfTestPassed => Attempt::Settled(CommandAnswer::Accepted),
+        DeviceToHostResponse::SelfTestPassed => Attempt::Settled(Completion::Done),
         DeviceToHostResponse::ResponseToEcho => Attempt::Again,
-        DeviceToHostResponse::Acknowledge => Attempt::Settled(CommandAnswer::Accepted),
+        DeviceToHostResponse::Acknowledge => Attempt::Settled(Completion::Done),
         DeviceToHostResponse::SelfTestFailed1 => {
-            Attempt::Settled(CommandAnswer::Refused(Refusal::Failed(Failure::SelfTestFailed)))
+            Attempt::Settled(Completion::Refused(Refusal::Failed(Failure::SelfTestFailed)))
         }
         DeviceToHostResponse::SelfTestFailed2 => {
-            Attempt::Settled(CommandAnswer::Refused(Refusal::Failed(Failure::SelfTestFailed)))
+            Attempt::Settled(Completion::Refused(Refusal::Failed(Failure::SelfTestFailed)))
         }
         DeviceToHostResponse::ResendCommand => Attempt::Again,
         DeviceToHostResponse::KeyDetectionErrorOrInternalBufferOverrun2 => Attempt::Again,
@@ -82,7 +70,7 @@ fn attempt_once(script: &[u8], log: &mut [u8], value: HostToDevice) -> Attempted
     let answer = s.answer;
     let attempt = match answer {
         ResponseAnswer::Response(response) => verdict(response),
-        ResponseAnswer::Refused(e) => Attempt::Settled(CommandAnswer::Refused(e)),
+        ResponseAnswer::Refused(e) => Attempt::Settled(Completion::Refused(e)),
     };
     Attempted {
         attempt,
@@ -92,15 +80,15 @@ fn attempt_once(script: &[u8], log: &mut [u8], value: HostToDevice) -> Attempted
 }
 
 // A command to the device of the first port, or to whichever the controller was told to send the next byte to.
-pub fn command(script: &[u8], log: &mut [u8], value: HostToDevice) -> Commanded
-    ensures { λ r. ⌜ played (saidCommand (r .answer)) (r .used) (r .pairs) (now (log .exit)) ≡ play (commandRule value) (now (script .entry)) (now (log .entry)) ⌝ }
+pub fn command(script: &[u8], log: &mut [u8], value: HostToDevice) -> Completed
+    ensures { λ r. ⌜ played (saidDone (r .answer)) (r .used) (r .pairs) (now (log .exit)) ≡ play (commandRule value) (now (script .entry)) (now (log .entry)) ⌝ }
 {
     let mut used: usize = 0;
     let mut pairs: usize = 0;
     let mut attempts = ATTEMPTS;
     let answer = loop {
         if attempts == 0 {
-            break CommandAnswer::Refused(Refusal::Failed(Failure::NotAcknowledged));
+            break Completion::Refused(Refusal::Failed(Failure::NotAcknowledged));
         }
         let at = 2 * pairs;
         let a = attempt_once(&script[used..], &mut log[at..], value);
@@ -115,7 +103,7 @@ pub fn command(script: &[u8], log: &mut [u8], value: HostToDevice) -> Commanded
         }
         attempts -= 1;
     };
-    Commanded {
+    Completed {
         answer,
         used,
         pairs,
@@ -123,8 +111,8 @@ pub fn command(script: &[u8], log: &mut [u8], value: HostToDevice) -> Commanded
 }
 
 // A command to the device of the second port: the controller is told once to send the next byte there.
-pub fn command_to_port2(script: &[u8], log: &mut [u8], value: HostToDevice) -> Commanded
-    ensures { λ r. ⌜ played (saidCommand (r .answer)) (r .used) (r .pairs) (now (log .exit)) ≡ play (commandToPort2 value) (now (script .entry)) (now (log .entry)) ⌝ }
+pub fn command_to_port2(script: &[u8], log: &mut [u8], value: HostToDevice) -> Completed
+    ensures { λ r. ⌜ played (saidDone (r .answer)) (r .used) (r .pairs) (now (log .exit)) ≡ play (commandToPort2 value) (now (script .entry)) (now (log .entry)) ⌝ }
 {
     let w = write_command(log, HostToControllerCommand::WriteByteToPort2InputBuffer);
     let pairs = w.pairs;
@@ -134,14 +122,14 @@ pub fn command_to_port2(script: &[u8], log: &mut [u8], value: HostToDevice) -> C
             let at = 2 * pairs;
             let c = command(script, &mut log[at..], value);
             let answer = c.answer;
-            Commanded {
+            Completed {
                 answer,
                 used: c.used,
                 pairs: pairs + c.pairs,
             }
         }
-        Completion::Refused(e) => Commanded {
-            answer: CommandAnswer::Refused(e),
+        Completion::Refused(e) => Completed {
+            answer: Completion::Refused(e),
             used: 0,
             pairs,
         },
@@ -149,8 +137,8 @@ pub fn command_to_port2(script: &[u8], log: &mut [u8], value: HostToDevice) -> C
 }
 
 // A command to the device of either port.
-pub fn command_by(script: &[u8], log: &mut [u8], port: DevicePort, value: HostToDevice) -> Commanded
-    ensures { λ r. ⌜ played (saidCommand (r .answer)) (r .used) (r .pairs) (now (log .exit)) ≡ play (commandBy port value) (now (script .entry)) (now (log .entry)) ⌝ }
+pub fn command_by(script: &[u8], log: &mut [u8], port: DevicePort, value: HostToDevice) -> Completed
+    ensures { λ r. ⌜ played (saidDone (r .answer)) (r .used) (r .pairs) (now (log .exit)) ≡ play (commandBy port value) (now (script .entry)) (now (log .entry)) ⌝ }
 {
     match port {
         DevicePort::Port1 => command(script, log, value),
@@ -165,26 +153,26 @@ pub fn command_pair(
     port: DevicePort,
     first: HostToDevice,
     second: HostToDevice,
-) -> Commanded
-    ensures { λ r. ⌜ played (saidCommand (r .answer)) (r .used) (r .pairs) (now (log .exit)) ≡ play (andThen (commandBy port first) (λ _. commandBy port second)) (now (script .entry)) (now (log .entry)) ⌝ }
+) -> Completed
+    ensures { λ r. ⌜ played (saidDone (r .answer)) (r .used) (r .pairs) (now (log .exit)) ≡ play (andThen (commandBy port first) (λ _. commandBy port second)) (now (script .entry)) (now (log .entry)) ⌝ }
 {
     let c = command_by(script, log, port, first);
     let used = c.used;
     let pairs = c.pairs;
     let accepted = c.answer;
     match accepted {
-        CommandAnswer::Accepted => {
+        Completion::Done => {
             let at = 2 * pairs;
             let d = command_by(&script[used..], &mut log[at..], port, second);
             let answer = d.answer;
-            Commanded {
+            Completed {
                 answer,
                 used: used + d.used,
                 pairs: pairs + d.pairs,
             }
         }
-        CommandAnswer::Refused(e) => Commanded {
-            answer: CommandAnswer::Refused(e),
+        Completion::Refused(e) => Completed {
+            answer: Completion::Refused(e),
             used,
             pairs,
         },
@@ -192,8 +180,8 @@ pub fn command_pair(
 }
 
 // Reads data, without asking the status, until a device says that it passed its self test.
-pub fn read_self_test_result(script: &[u8], reads: u32) -> CompletedRead
-    ensures { λ r. ⌜ Reads (selfTestWithin reads) (now (script .entry)) (saidDone (r .answer)) (r .used) ⌝ }
+pub fn read_self_test_result(script: &[u8], reads: u32) -> Completed
+    ensures { λ r. ⌜ Reads (selfTestWithin reads) (now (script .entry)) (saidDone (r .answer)) (r .used) (r .pairs) ⌝ }
 {
     read_test_result(
         script,
@@ -209,27 +197,26 @@ pub fn refusing_as(e: Refusal, failure: Failure) -> Refusal
     ensures { λ r. ⌜ r ≡ replacedBy failure e ⌝ }
 {
     match e {
-        Refusal::ScriptUsedUp => Refusal::ScriptUsedUp,
-        Refusal::LogFull => Refusal::LogFull,
+        Refusal::Lacking(lack) => Refusal::Lacking(lack),
         Refusal::Failed(_) => Refusal::Failed(failure),
     }
 }
 
 // The outcome of an operation with its refusals replaced by one of its own.
-pub fn failing_as(c: Commanded, failure: Failure) -> Commanded
-    ensures { λ r. ⌜ ((t : Exchange (Answer Accepted)) (script log left : List ℕ) → played (saidCommand (c .answer)) (c .used) (c .pairs) left ≡ play t script log → played (saidCommand (r .answer)) (r .used) (r .pairs) left ≡ play (refusingAs (numberOf failure) t) script log) ⌝ }
+pub fn failing_as(c: Completed, failure: Failure) -> Completed
+    ensures { λ r. ⌜ ((t : Exchange (Answer Success)) (script log left : List ℕ) → played (saidDone (c .answer)) (c .used) (c .pairs) left ≡ play t script log → played (saidDone (r .answer)) (r .used) (r .pairs) left ≡ play (refusingAs (numberOf failure) t) script log) ⌝ }
 {
     let used = c.used;
     let pairs = c.pairs;
     let accepted = c.answer;
     match accepted {
-        CommandAnswer::Accepted => Commanded {
-            answer: CommandAnswer::Accepted,
+        Completion::Done => Completed {
+            answer: Completion::Done,
             used,
             pairs,
         },
-        CommandAnswer::Refused(e) => Commanded {
-            answer: CommandAnswer::Refused(refusing_as(e, failure)),
+        Completion::Refused(e) => Completed {
+            answer: Completion::Refused(refusing_as(e, failure)),
             used,
             pairs,
         },

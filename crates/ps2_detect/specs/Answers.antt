@@ -5,7 +5,7 @@ use Rattle.bits.specs.Table.{decode}
 use Rattle.exchange.specs.Exchange.{End, yields}
 use Rattle.exchange.specs.Answer.{Answer, gives}
 use Rattle.ps2_bytes.specs.declared.response.KeyboardType.{KeyboardType}
-use Rattle.ps2_ports.specs.Refusals.{refused}
+use Rattle.ps2_answers.specs.Refusals.{refused}
 use Rattle.ps2_detect.specs.declared.TypeAnswer.{TypeAnswer}
 use Rattle.ps2_detect.specs.declared.SecondByte.{SecondByte}
 use Rattle.ps2_detect.specs.Detection.{secondBytes}

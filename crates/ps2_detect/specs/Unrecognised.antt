@@ -11,7 +11,7 @@ use Rattle.exchange.specs.Search.{Search, scriptAfter, logAfter}
 use Rattle.ps2_bytes.specs.declared.command.HostToKeyboardCommand.the-variants.{DisableScanning, IdentifyKeyboard}
 use Rattle.ps2_layouts.specs.Status.{outputBufferFull}
 use Rattle.ps2_polling.specs.Polling.{pollLimit}
-use Rattle.ps2_command.specs.Command.{accepted}
+use Rattle.ps2_answers.specs.Refusals.{success}
 use Rattle.ps2_command.specs.Search.{listedTurn, PollBrings}
 use Rattle.ps2_keyboard.specs.Keyboard.{keyboardCommand}
 use Rattle.ps2_detect.specs.Detection.{cameAB, firstTurn, secondBytes}
@@ -24,6 +24,6 @@ pub data Unrecognised (script : List ℕ) : Type 0 where
 
 -- F5 was accepted, then F2, and what the script brought next is no type.
 pub record Undetected (script log : List ℕ) : Type 0 where
-  pub stopped : play (keyboardCommand DisableScanning) script log .end ≡ yields (gives accepted)
-  pub asked : play (keyboardCommand IdentifyKeyboard) (scriptAfter (keyboardCommand DisableScanning) script log) (logAfter (keyboardCommand DisableScanning) script log) .end ≡ yields (gives accepted)
+  pub stopped : play (keyboardCommand DisableScanning) script log .end ≡ yields (gives success)
+  pub asked : play (keyboardCommand IdentifyKeyboard) (scriptAfter (keyboardCommand DisableScanning) script log) (logAfter (keyboardCommand DisableScanning) script log) .end ≡ yields (gives success)
   pub unrecognised : Unrecognised (scriptAfter (keyboardCommand IdentifyKeyboard) (scriptAfter (keyboardCommand DisableScanning) script log) (logAfter (keyboardCommand DisableScanning) script log))

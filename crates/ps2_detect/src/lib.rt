@@ -6,19 +6,19 @@ ghost use Rattle.ps2_bytes.specs.declared.response.KeyboardType.{KeyboardType};
 ghost use Rattle.ps2_detect.specs.Detection.{typeSearch, keyboardDetect};
 ghost use Rattle.ps2_detect.specs.Parts.{enabledAfter, identification};
 ghost use Rattle.ps2_detect.specs.Answers.{saidType, secondByteRead};
+use ps2_answers::Completion;
+use ps2_answers::Failure;
+use ps2_answers::Refusal;
 use ps2_bytes::HostToDevice;
 use ps2_bytes::HostToKeyboardCommand;
 use ps2_bytes::HostToKeyboardCommandOrData;
 use ps2_bytes::KeyboardType;
-use ps2_command::CommandAnswer;
 use ps2_command::command_pair;
 use ps2_keyboard::command_to_keyboard;
 use ps2_polling::POLL_LIMIT;
 use ps2_polling::Polled;
 use ps2_polling::poll_data;
 use ps2_ports::DevicePort;
-use ps2_ports::Failure;
-use ps2_ports::Refusal;
 
 // The first byte of a keyboard's identity: an ancient keyboard has no other, and the others have a second one.
 const ANCIENT: u8 = 0x00;
@@ -29,11 +29,6 @@ const MF2: u8 = 0xAB;
 pub enum TypeAnswer {
     Recognised(KeyboardType),
     Refused(Refusal),
-}
-
-pub struct TypeRead {
-    pub answer: TypeAnswer,
-    pub used: usize,
 }
 
 pub struct Detected {
@@ -67,7 +62,7 @@ pub fn keyboard_detect(script: &[u8], log: &mut [u8]) -> Detected
     let pairs = c.pairs;
     let accepted = c.answer;
     match accepted {
-        CommandAnswer::Accepted => {
+        Completion::Done => {
             let at = 2 * pairs;
             let i = identify(&script[used..], &mut log[at..]);
             let answer = i.answer;
@@ -77,7 +72,7 @@ pub fn keyboard_detect(script: &[u8], log: &mut [u8]) -> Detected
                 pairs: pairs + i.pairs,
             }
         }
-        CommandAnswer::Refused(e) => Detected {
+        Completion::Refused(e) => Detected {
             answer: TypeAnswer::Refused(e),
             used,
             pairs,
@@ -95,16 +90,9 @@ fn identify(script: &[u8], log: &mut [u8]) -> Detected
     match found {
         TypeAnswer::Recognised(_) => {}
         TypeAnswer::Refused(refusal) => match refusal {
-            Refusal::ScriptUsedUp => {
+            Refusal::Lacking(lack) => {
                 return Detected {
-                    answer: TypeAnswer::Refused(Refusal::ScriptUsedUp),
-                    used,
-                    pairs: 0,
-                };
-            }
-            Refusal::LogFull => {
-                return Detected {
-                    answer: TypeAnswer::Refused(Refusal::LogFull),
+                    answer: TypeAnswer::Refused(Refusal::Lacking(lack)),
                     used,
                     pairs: 0,
                 };
@@ -134,12 +122,12 @@ fn enable_scanning(script: &[u8], log: &mut [u8], found: TypeAnswer) -> Detected
     let pairs = c.pairs;
     let accepted = c.answer;
     match accepted {
-        CommandAnswer::Accepted => Detected {
+        Completion::Done => Detected {
             answer: found,
             used,
             pairs,
         },
-        CommandAnswer::Refused(refusal) => Detected {
+        Completion::Refused(refusal) => Detected {
             answer: TypeAnswer::Refused(refusal),
             used,
             pairs,
@@ -148,8 +136,8 @@ fn enable_scanning(script: &[u8], log: &mut [u8], found: TypeAnswer) -> Detected
 }
 
 // Polls for the keyboard's identity. After AB the inner search decides, and the outer one does not go on.
-fn poll_keyboard_type(script: &[u8]) -> TypeRead
-    ensures { λ r. ⌜ Reads typeSearch (now (script .entry)) (saidType (r .answer)) (r .used) ⌝ }
+fn poll_keyboard_type(script: &[u8]) -> Detected
+    ensures { λ r. ⌜ Reads typeSearch (now (script .entry)) (saidType (r .answer)) (r .used) (r .pairs) ⌝ }
 {
     let mut used: usize = 0;
     let mut polls = POLL_LIMIT;
@@ -198,7 +186,11 @@ fn poll_keyboard_type(script: &[u8]) -> TypeRead
         }
         polls -= 1;
     };
-    TypeRead { answer, used }
+    Detected {
+        answer,
+        used,
+        pairs: 0,
+    }
 }
 
 // What the second byte of an identity says of the keyboard.

@@ -9,7 +9,7 @@ use Rattle.exchange.specs.Answer.{Answer}
 use Rattle.exchange.specs.Refuses.{given, succeeds}
 use Rattle.exchange.specs.Search.{scriptAfter, logAfter}
 use Rattle.exchange.proofs.Search.{bind-after}
-use Rattle.ps2_ports.specs.Refusals.{Success}
+use Rattle.ps2_answers.specs.Refusals.{Success}
 use Rattle.ps2_keyboard.specs.Keyboard.{resetKeyboard}
 use Rattle.ps2_mouse.specs.Mouse.{resetMouse}
 use Rattle.ps2_init.specs.declared.PS2Controller.{PS2Controller}

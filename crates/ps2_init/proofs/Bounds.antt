@@ -16,12 +16,12 @@ use Rattle.ps2_bytes.specs.declared.command.HostToControllerCommand.{HostToCont
 use Rattle.ps2_bytes.specs.declared.command.HostToControllerCommand.the-variants.{EnablePort1, EnablePort2, TestPort1, TestPort2}
 use Rattle.ps2_layouts.specs.declared.configuration.ControllerConfigurationByte.{ControllerConfigurationByte}
 use Rattle.ps2_layouts.specs.Configuration.{port1Interrupt, port2Interrupt, port1ClockDisabled, port2ClockDisabled}
-use Rattle.ps2_ports.specs.Refusals.{success}
+use Rattle.ps2_answers.specs.Refusals.{success}
 use Rattle.ps2_ports.specs.Ports.{writePort, flushOutputBuffer, readConfig, writeConfig}
 use Rattle.ps2_polling.proofs.Bounds.{within-test, within-test-port}
 use Rattle.ps2_polling.proofs.Attained.{attains-test, attains-test-port}
 use Rattle.ps2_keyboard.proofs.Bounds.{within-resetKeyboard, attains-resetKeyboard}
-use Rattle.ps2_mouse.proofs.Bounds.{within-resetMouse, attains-resetMouse}
+use Rattle.ps2_mouse.proofs.Bounds.{most-resetMouse}
 use Rattle.ps2_init.specs.declared.PS2Controller.{PS2Controller}
 use Rattle.ps2_setup.specs.SetUp.{config, quieted, running, disableDevices, testWith, Ports, testSecond, atLeastOne, testPorts, enablePort, enablePorts}
 use Rattle.ps2_init.specs.Init.{hasMouse, resetDevices, setUp, orPassed, initialize}
@@ -105,11 +105,11 @@ found = record { initialized = true; «keyboard_attached» = true; «mouse_attac
 
 within-resetDevices : Within 1509346 9 resetDevices
 unfolding resetDevices
-within-resetDevices = within-bind (within-succeeds within-resetKeyboard) (λ keyboard. within-told _ (within-succeeds within-resetMouse))
+within-resetDevices = within-bind (within-succeeds within-resetKeyboard) (λ keyboard. within-told _ (within-succeeds (most-resetMouse .within)))
 
 attains-resetDevices : Attains found 1509346 9 resetDevices
-unfolding resetDevices
-attains-resetDevices = attains-bind _ (attains-succeeds attains-resetKeyboard) (attains-told _ (attains-succeeds attains-resetMouse))
+unfolding resetDevices most-resetMouse
+attains-resetDevices = attains-bind _ (attains-succeeds attains-resetKeyboard) (attains-told _ (attains-succeeds (most-resetMouse .attains)))
 
 -- ---- all of them
 

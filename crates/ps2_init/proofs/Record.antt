@@ -7,13 +7,13 @@ use mathlib.Core.Path.{_≡_, refl, sym, ap, _∙_}
 use Rattle.exchange.specs.Exchange.{done, bind, End, Played, played, play}
 use Rattle.exchange.specs.Answer.{Answer, refuses}
 use Rattle.exchange.specs.Left.{Left, left, recordAfter}
-use Rattle.exchange.proofs.Calls.{bind-done, bind-no-script, bind-no-log}
+use Rattle.exchange.proofs.Calls.{bind-done, bind-lacks}
 use Rattle.exchange.proofs.Left.{record-after}
-use Rattle.ps2_ports.specs.declared.Completion.{Completion}
-use Rattle.ps2_ports.specs.declared.Failure.the-variants.{AlreadyInitialized}
-use Rattle.ps2_ports.specs.declared.Refusal.{Refusal}
-use Rattle.ps2_ports.specs.declared.Refusal.the-variants.{ScriptUsedUp, LogFull, Failed}
-use Rattle.ps2_ports.specs.Refusals.{Success}
+use Rattle.ps2_answers.specs.declared.Completion.{Completion}
+use Rattle.ps2_answers.specs.declared.Failure.the-variants.{AlreadyInitialized}
+use Rattle.ps2_answers.specs.declared.Refusal.{Refusal}
+use Rattle.ps2_answers.specs.declared.Refusal.the-variants.{Lacking, Failed}
+use Rattle.ps2_answers.specs.Refusals.{Success}
 use Rattle.ps2_init.specs.declared.PS2Controller.{PS2Controller}
 use Rattle.ps2_init.specs.declared.SetUpAnswer.{SetUpAnswer}
 use Rattle.ps2_init.specs.Init.{setUp, orPassed, initialize}
@@ -40,6 +40,5 @@ module _ (passed : PS2Controller) (s l : List ℕ) where
     init-ready now q = record-after passed (steps h (bind-done setUp (λ a. done (orPassed passed a)) s l r q refl)) refl
 
     pub init-refused : (x : Refusal) → e ≡ saidSetUp (SetUpAnswer.Refused x) → Promised passed (Completion.Refused x) passed u w l′ s l
-    init-refused ScriptUsedUp q = record-after passed (steps h (bind-no-script setUp (λ a. done (orPassed passed a)) s l r q)) refl
-    init-refused LogFull q = record-after passed (steps h (bind-no-log setUp (λ a. done (orPassed passed a)) s l r q)) refl
+    init-refused (Lacking x) q = record-after passed (steps h (bind-lacks setUp (λ a. done (orPassed passed a)) s l r q)) refl
     init-refused (Failed f) q = record-after passed (steps h (bind-done setUp (λ a. done (orPassed passed a)) s l r q refl)) refl

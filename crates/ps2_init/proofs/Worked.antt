@@ -11,7 +11,7 @@ use Rattle.exchange.specs.Answer.{gives, refuses, andThen}
 use Rattle.exchange.specs.Left.{left, recordAfter}
 use Rattle.exchange.specs.Refuses.{succeeds}
 use Rattle.exchange.specs.Repeat.{repeat}
-use Rattle.ps2_ports.specs.Refusals.{success}
+use Rattle.ps2_answers.specs.Refusals.{success}
 use Rattle.ps2_ports.specs.Ports.{flushOutputBuffer, writePort, readConfig, writeConfig}
 use Rattle.ps2_polling.specs.Polling.{sendTry, pollingSend, poll, pollingReceive, pollingSendReceive, controllerTestResult, testController, portTestResult, testPort}
 use Rattle.ps2_command.specs.Command.{attempt, command, commandToPort2}

@@ -4,7 +4,7 @@ use mathlib.Core.Bool.{Bool, true, false}
 use mathlib.Core.Path.{_≡_}
 use Rattle.exchange.specs.Answer.{gives, refuses}
 use Rattle.exchange.specs.Left.{Left, left}
-use Rattle.ps2_ports.specs.Refusals.{Success, success}
+use Rattle.ps2_answers.specs.Refusals.{Success, success}
 use Rattle.ps2_init.specs.declared.PS2Controller.{PS2Controller}
 
 -- 1 where the controller was initialised, and only there; success makes it initialised; 8 and 9 leave it as it was. There is no other answer.

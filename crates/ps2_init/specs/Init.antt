@@ -9,7 +9,7 @@ use Rattle.exchange.specs.Refuses.{succeeds}
 use Rattle.ps2_bytes.specs.declared.response.MouseId.the-variants.{Zero}
 use Rattle.ps2_layouts.specs.declared.configuration.ControllerConfigurationByte.{ControllerConfigurationByte}
 use Rattle.ps2_layouts.specs.Configuration.{port2ClockDisabled}
-use Rattle.ps2_ports.specs.Refusals.{Success, success}
+use Rattle.ps2_answers.specs.Refusals.{Success, success}
 use Rattle.ps2_ports.specs.Ports.{readConfig}
 use Rattle.ps2_keyboard.specs.Keyboard.{resetKeyboard}
 use Rattle.ps2_mouse.specs.Mouse.{resetMouse}

@@ -7,20 +7,19 @@ ghost use Rattle.ps2_mouse.specs.Mouse.{resetMouse};
 ghost use Rattle.ps2_setup.specs.Answers.{portsOf};
 ghost use Rattle.ps2_init.specs.Init.{withDevices, resetDevices, readLast, enabled, portsTested, tested, setUp, initialize, keyboardRef, mouseRef};
 ghost use Rattle.ps2_init.specs.Answers.{saidSetUp, saidInit};
+use ps2_answers::Completion;
+use ps2_answers::ConfigAnswer;
+use ps2_answers::Failure;
+use ps2_answers::Refusal;
 use ps2_keyboard::reset_keyboard;
 use ps2_layouts::ControllerConfigurationByte;
 use ps2_mouse::PS2Mouse;
-use ps2_ports::Completion;
-use ps2_ports::ConfigAnswer;
-use ps2_ports::Failure;
-use ps2_ports::Refusal;
 use ps2_ports::read_config;
 use ps2_setup::PortsAnswer;
 use ps2_setup::Trial;
 use ps2_setup::WorkingPorts;
 use ps2_setup::disable_devices;
 use ps2_setup::enable_ports;
-use ps2_setup::lack_refusal;
 use ps2_setup::quieted;
 use ps2_setup::test_ports;
 use ps2_setup::test_with;
@@ -267,8 +266,8 @@ fn reset_devices(script: &[u8], log: &mut [u8]) -> SetUp
                 pairs: pairs + s.pairs,
             }
         }
-        Trial::Lacked(x) => SetUp {
-            answer: SetUpAnswer::Refused(lack_refusal(x)),
+        Trial::Lacked(lack) => SetUp {
+            answer: SetUpAnswer::Refused(Refusal::Lacking(lack)),
             used,
             pairs,
         },
@@ -302,8 +301,8 @@ fn reset_mouse(script: &[u8], log: &mut [u8], keyboard_attached: bool) -> SetUp
                 pairs: pairs + s.pairs,
             }
         }
-        Trial::Lacked(x) => SetUp {
-            answer: SetUpAnswer::Refused(lack_refusal(x)),
+        Trial::Lacked(lack) => SetUp {
+            answer: SetUpAnswer::Refused(Refusal::Lacking(lack)),
             used,
             pairs,
         },

@@ -11,6 +11,7 @@ use Rattle.exchange.specs.Bounds.{Within, within-done, within-read}
 use Rattle.exchange.proofs.Attains.{attains-last}
 use Rattle.exchange.proofs.Bounds.{within-repeat}
 use Rattle.exchange.proofs.Then.{within-then, attains-then, within-as, attains-as}
+use Rattle.ps2_command.specs.Command.{commandReads}
 use Rattle.ps2_bytes.specs.declared.command.HostToKeyboardCommand.the-variants as Command
 use Rattle.ps2_layouts.specs.declared.leds.LEDState.{LEDState}
 use Rattle.ps2_bytes.specs.declared.data.ScancodeSet.{ScancodeSet}
@@ -19,12 +20,11 @@ use Rattle.ps2_bytes.specs.declared.writable.HostToDevice.the-variants.{Keyboar
 use Rattle.ps2_bytes.specs.declared.writable.HostToKeyboardCommandOrData.{HostToKeyboardCommandOrData}
 use Rattle.ps2_bytes.specs.declared.writable.HostToKeyboardCommandOrData.the-variants as Byte
 use Rattle.ps2_bytes.specs.Data.{scancodeSets}
-use Rattle.ps2_ports.specs.Refusals.{success}
+use Rattle.ps2_answers.specs.Refusals.{success}
 use Rattle.ps2_ports.specs.Ports.{readPort, readStatus}
 use Rattle.ps2_polling.specs.Polling.{pollLimit, poll}
 use Rattle.ps2_polling.proofs.Bounds.{within-poll}
 use Rattle.ps2_polling.proofs.Attained.{attains-poll}
-use Rattle.ps2_command.specs.Command.{accepted}
 use Rattle.ps2_command.specs.Search.{listedTurn, selfTestWithin}
 use Rattle.ps2_command.proofs.Bounds.{within-command, attains-command, within-selfTest, attains-selfTest}
 use Rattle.ps2_keyboard.specs.Keyboard.{commandToKeyboard, resetReads, resetKeyboard, setLedBy, setKeyboardLed, commandScancodeSet, getScancodeSet, setScancodeSet, readScancode, keyboardOutputBufferFull}
@@ -32,16 +32,16 @@ use Rattle.ps2_keyboard.specs.Keyboard.{commandToKeyboard, resetReads, r
 -- ---- a command: 525,300 reads and 4 writes
 
 module _ (value : HostToKeyboardCommandOrData) where
-  pub within-keyboard : Within 525300 4 (commandToKeyboard value)
+  pub within-keyboard : Within commandReads 4 (commandToKeyboard value)
   unfolding commandToKeyboard
   within-keyboard = within-command (Keyboard value)
 
-  pub attains-keyboard : Attains (gives accepted) 525300 4 (commandToKeyboard value)
+  pub attains-keyboard : Attains (gives success) commandReads 4 (commandToKeyboard value)
   unfolding commandToKeyboard
   attains-keyboard = attains-command (Keyboard value)
 
-  pub most-commandToKeyboard : Most 525300 4 (commandToKeyboard value)
-  most-commandToKeyboard = record { within = within-keyboard; yielded = gives accepted; attains = attains-keyboard }
+  pub most-commandToKeyboard : Most commandReads 4 (commandToKeyboard value)
+  most-commandToKeyboard = record { within = within-keyboard; yielded = gives success; attains = attains-keyboard }
 
 -- ---- reset
 
@@ -64,7 +64,7 @@ unfolding setKeyboardLed setLedBy
 most-setKeyboardLed leds =
     record {
       within = within-as 14 (within-then (within-keyboard (Byte.KeyboardCommand Command.SetLEDStatus)) (λ _. within-keyboard (Byte.LEDState leds)));
-      yielded = gives accepted;
+      yielded = gives success;
       attains =
           attains-as 14 (attains-then (λ _. commandToKeyboard (Byte.LEDState leds)) (attains-keyboard (Byte.KeyboardCommand Command.SetLEDStatus)) (attains-keyboard (Byte.LEDState leds)));
     }
@@ -76,7 +76,7 @@ module _ (set : ScancodeSet) where
   unfolding commandScancodeSet
   within-commandScancodeSet = within-then (within-keyboard (Byte.KeyboardCommand Command.ScancodeSet)) (λ _. within-keyboard (Byte.ScancodeSet set))
 
-  attains-commandScancodeSet : Attains (gives accepted) 1050600 8 (commandScancodeSet set)
+  attains-commandScancodeSet : Attains (gives success) 1050600 8 (commandScancodeSet set)
   unfolding commandScancodeSet
   attains-commandScancodeSet =
       attains-then (λ _. commandToKeyboard (Byte.ScancodeSet set)) (attains-keyboard (Byte.KeyboardCommand Command.ScancodeSet)) (attains-keyboard (Byte.ScancodeSet set))

@@ -17,7 +17,7 @@ use Rattle.ps2_bytes.specs.declared.writable.HostToKeyboardCommandOrData.the-va
 use Rattle.ps2_bytes.specs.Data.{scancodeSets}
 use Rattle.ps2_polling.specs.Polling.{pollLimit}
 use Rattle.ps2_polling.proofs.Refuses.{only-poll, finds-listed}
-use Rattle.ps2_command.specs.Command.{Accepted}
+use Rattle.ps2_answers.specs.Refusals.{Success}
 use Rattle.ps2_command.specs.Search.{listedTurn}
 use Rattle.ps2_command.proofs.Refuses.{commandRefusals, commandAnd, refuses-command, refuses-selfTest}
 use Rattle.ps2_keyboard.specs.Keyboard.{commandToKeyboard, resetReads, resetKeyboard, setLedBy, setKeyboardLed, commandScancodeSet, getScancodeSet, setScancodeSet}
@@ -38,7 +38,7 @@ refuses-resetKeyboard =
     (λ _. refuses-more (10 ∷ []) (commandAnd 10) tt (refuses-selfTest resetReads))
 
 -- over every way to a keyboard: 14 and nothing else
-pub refuses-setLedBy : (way : HostToKeyboardCommandOrData → Exchange (Answer Accepted)) (leds : LEDState) → Refuses (14 ∷ []) (setLedBy way leds)
+pub refuses-setLedBy : (way : HostToKeyboardCommandOrData → Exchange (Answer Success)) (leds : LEDState) → Refuses (14 ∷ []) (setLedBy way leds)
 unfolding setLedBy
 refuses-setLedBy way leds = refuses-as 14 (andThen (way (Byte.KeyboardCommand Command.SetLEDStatus)) (λ _. way (Byte.LEDState leds)))
 

@@ -7,7 +7,7 @@ use Rattle.exchange.specs.Exchange.{yields, play}
 use Rattle.exchange.specs.Answer.{gives, refuses}
 use Rattle.ps2_bytes.specs.declared.command.HostToKeyboardCommand.the-variants.{ResetAndStartSelfTest}
 use Rattle.ps2_bytes.specs.declared.writable.HostToKeyboardCommandOrData.the-variants.{KeyboardCommand}
-use Rattle.ps2_ports.specs.Refusals.{success}
+use Rattle.ps2_answers.specs.Refusals.{success}
 use Rattle.ps2_command.specs.Reset.{OwnAA, NoAA}
 use Rattle.ps2_command.specs.Search.{selfTestWithin}
 use Rattle.ps2_command.proofs.Reset.{own-aa, no-aa}

@@ -3,7 +3,7 @@
 use Rattle.exchange.specs.Exchange.{End, yields}
 use Rattle.exchange.specs.Answer.{Answer, gives}
 use Rattle.ps2_bytes.specs.declared.data.ScancodeSet.{ScancodeSet}
-use Rattle.ps2_ports.specs.Refusals.{refused}
+use Rattle.ps2_answers.specs.Refusals.{refused}
 use Rattle.ps2_keyboard.specs.declared.SetAnswer.{SetAnswer}
 
 -- The scancode set that the keyboard tells, or a refusal.

@@ -16,20 +16,20 @@ use Rattle.ps2_bytes.specs.declared.writable.HostToKeyboardCommandOrData.{HostT
 use Rattle.ps2_bytes.specs.declared.writable.HostToKeyboardCommandOrData.the-variants as Byte
 use Rattle.ps2_bytes.specs.Data.{scancodeSets}
 use Rattle.ps2_layouts.specs.Status.{outputBufferFull}
-use Rattle.ps2_ports.specs.Refusals.{Success, success}
+use Rattle.ps2_answers.specs.Refusals.{Success, success}
 use Rattle.ps2_ports.specs.Ports.{readData, readStatus}
 use Rattle.ps2_polling.specs.Polling.{pollLimit, poll}
-use Rattle.ps2_command.specs.Command.{Accepted, command}
+use Rattle.ps2_command.specs.Command.{command}
 use Rattle.ps2_command.specs.Search.{listedTurn, selfTestWithin}
 
 -- ---- commands
 
 -- A byte for a keyboard, by the command rule.
-unfoldable pub commandToKeyboard : HostToKeyboardCommandOrData → Exchange (Answer Accepted)
+unfoldable pub commandToKeyboard : HostToKeyboardCommandOrData → Exchange (Answer Success)
 commandToKeyboard value = command (Keyboard value)
 
 -- One of its commands.
-abbrev pub keyboardCommand : HostToKeyboardCommand → Exchange (Answer Accepted)
+abbrev pub keyboardCommand : HostToKeyboardCommand → Exchange (Answer Success)
 keyboardCommand c = commandToKeyboard (Byte.KeyboardCommand c)
 
 -- ---- reset
@@ -45,17 +45,17 @@ resetKeyboard = andThen (keyboardCommand Command.ResetAndStartSelfTest) (λ _. s
 -- ---- lamps
 
 -- "the lamp exchange (ED, then scroll 1, number 2, caps 4 added)", over some way to a keyboard. "Did the lamp exchange succeed? 14"
-unfoldable pub setLedBy : (HostToKeyboardCommandOrData → Exchange (Answer Accepted)) → LEDState → Exchange (Answer Accepted)
+unfoldable pub setLedBy : (HostToKeyboardCommandOrData → Exchange (Answer Success)) → LEDState → Exchange (Answer Success)
 setLedBy way leds = refusingAs 14 (andThen (way (Byte.KeyboardCommand Command.SetLEDStatus)) (λ _. way (Byte.LEDState leds)))
 
 -- To the keyboard of the first port.
-unfoldable pub setKeyboardLed : LEDState → Exchange (Answer Accepted)
+unfoldable pub setKeyboardLed : LEDState → Exchange (Answer Success)
 setKeyboardLed leds = setLedBy commandToKeyboard leds
 
 -- ---- scancode set
 
 -- F0 and its byte: 00 asks for the set, 1 to 3 set it.
-unfoldable pub commandScancodeSet : ScancodeSet → Exchange (Answer Accepted)
+unfoldable pub commandScancodeSet : ScancodeSet → Exchange (Answer Success)
 commandScancodeSet set = andThen (keyboardCommand Command.ScancodeSet) (λ _. commandToKeyboard (Byte.ScancodeSet set))
 
 -- "F0, 00, polls for a byte 0 to 3". "Did the scancode set (0 to 3) .. come within 65,535 polls? 11"

@@ -1,19 +1,24 @@
 // The keyboard: its commands, its reset, its lamps and its scancode set.
 ghost use mathlib.Core.Path.{_≡_};
 ghost use Rattle.exchange.specs.Exchange.{play, played, Reads};
-ghost use Rattle.ps2_ports.specs.Refusals.{saidDone};
-ghost use Rattle.ps2_ports.specs.Ports.{saidByte, saidFull};
-ghost use Rattle.ps2_command.specs.Command.{saidCommand};
+ghost use Rattle.ps2_answers.specs.Refusals.{saidDone};
+ghost use Rattle.ps2_answers.specs.Answers.{saidByte, saidFull};
 ghost use Rattle.ps2_keyboard.specs.Keyboard.{commandToKeyboard, resetKeyboard, setKeyboardLed, commandScancodeSet, getScancodeSet, setScancodeSet, readScancode, keyboardOutputBufferFull};
 ghost use Rattle.ps2_keyboard.specs.Parts.{setSearch};
 ghost use Rattle.ps2_keyboard.specs.Answers.{saidSet};
+use ps2_answers::ByteRead;
+use ps2_answers::Completed;
+use ps2_answers::Completion;
+use ps2_answers::Failure;
+use ps2_answers::FullAnswer;
+use ps2_answers::FullRead;
+use ps2_answers::Refusal;
+use ps2_answers::StatusAnswer;
 use ps2_bytes::HostToDevice;
 use ps2_bytes::HostToKeyboardCommand;
 use ps2_bytes::HostToKeyboardCommandOrData;
 use ps2_bytes::ScancodeSet;
 use ps2_bytes::ScancodeSetByte;
-use ps2_command::CommandAnswer;
-use ps2_command::Commanded;
 use ps2_command::command;
 use ps2_command::command_pair;
 use ps2_command::failing_as;
@@ -22,15 +27,7 @@ use ps2_layouts::LEDState;
 use ps2_polling::POLL_LIMIT;
 use ps2_polling::Polled;
 use ps2_polling::poll_data;
-use ps2_ports::ByteRead;
-use ps2_ports::Completed;
-use ps2_ports::Completion;
 use ps2_ports::DevicePort;
-use ps2_ports::Failure;
-use ps2_ports::FullAnswer;
-use ps2_ports::FullRead;
-use ps2_ports::Refusal;
-use ps2_ports::StatusAnswer;
 use ps2_ports::read_data;
 use ps2_ports::status_register;
 
@@ -46,11 +43,6 @@ pub enum SetAnswer {
 pub struct SetRead {
     pub answer: SetAnswer,
     pub used: usize,
-}
-
-pub struct SetAsked {
-    pub answer: SetAnswer,
-    pub used: usize,
     pub pairs: usize,
 }
 
@@ -59,8 +51,8 @@ pub fn command_to_keyboard(
     script: &[u8],
     log: &mut [u8],
     value: HostToKeyboardCommandOrData,
-) -> Commanded
-    ensures { λ r. ⌜ played (saidCommand (r .answer)) (r .used) (r .pairs) (now (log .exit)) ≡ play (commandToKeyboard value) (now (script .entry)) (now (log .entry)) ⌝ }
+) -> Completed
+    ensures { λ r. ⌜ played (saidDone (r .answer)) (r .used) (r .pairs) (now (log .exit)) ≡ play (commandToKeyboard value) (now (script .entry)) (now (log .entry)) ⌝ }
 {
     command(script, log, HostToDevice::Keyboard(value))
 }
@@ -78,7 +70,7 @@ pub fn reset_keyboard(script: &[u8], log: &mut [u8]) -> Completed
     let pairs = c.pairs;
     let accepted = c.answer;
     match accepted {
-        CommandAnswer::Accepted => {
+        Completion::Done => {
             let r = read_self_test_result(&script[used..], RESET_READS);
             let answer = r.answer;
             Completed {
@@ -87,7 +79,7 @@ pub fn reset_keyboard(script: &[u8], log: &mut [u8]) -> Completed
                 pairs,
             }
         }
-        CommandAnswer::Refused(e) => Completed {
+        Completion::Refused(e) => Completed {
             answer: Completion::Refused(e),
             used,
             pairs,
@@ -96,8 +88,8 @@ pub fn reset_keyboard(script: &[u8], log: &mut [u8]) -> Completed
 }
 
 // Sets the keyboard's lamps.
-pub fn set_keyboard_led(script: &[u8], log: &mut [u8], value: LEDState) -> Commanded
-    ensures { λ r. ⌜ played (saidCommand (r .answer)) (r .used) (r .pairs) (now (log .exit)) ≡ play (setKeyboardLed value) (now (script .entry)) (now (log .entry)) ⌝ }
+pub fn set_keyboard_led(script: &[u8], log: &mut [u8], value: LEDState) -> Completed
+    ensures { λ r. ⌜ played (saidDone (r .answer)) (r .used) (r .pairs) (now (log .exit)) ≡ play (setKeyboardLed value) (now (script .entry)) (now (log .entry)) ⌝ }
 {
     let c = command_pair(
         script,
@@ -120,7 +112,7 @@ pub fn set_keyboard_scancode_set(script: &[u8], log: &mut [u8], value: ScancodeS
     let pairs = c.pairs;
     let accepted = c.answer;
     match accepted {
-        CommandAnswer::Accepted => {
+        Completion::Done => {
             let at = 2 * pairs;
             let g = get_keyboard_scancode_set(&script[used..], &mut log[at..]);
             let both = used + g.used;
@@ -139,7 +131,7 @@ pub fn set_keyboard_scancode_set(script: &[u8], log: &mut [u8], value: ScancodeS
                 },
             }
         }
-        CommandAnswer::Refused(e) => Completed {
+        Completion::Refused(e) => Completed {
             answer: Completion::Refused(e),
             used,
             pairs,
@@ -148,7 +140,7 @@ pub fn set_keyboard_scancode_set(script: &[u8], log: &mut [u8], value: ScancodeS
 }
 
 // Asks for the scancode set.
-pub fn get_keyboard_scancode_set(script: &[u8], log: &mut [u8]) -> SetAsked
+pub fn get_keyboard_scancode_set(script: &[u8], log: &mut [u8]) -> SetRead
     ensures { λ r. ⌜ played (saidSet (r .answer)) (r .used) (r .pairs) (now (log .exit)) ≡ play getScancodeSet (now (script .entry)) (now (log .entry)) ⌝ }
 {
     let c = command_scancode_set(script, log, ScancodeSet::Get);
@@ -156,16 +148,16 @@ pub fn get_keyboard_scancode_set(script: &[u8], log: &mut [u8]) -> SetAsked
     let pairs = c.pairs;
     let accepted = c.answer;
     match accepted {
-        CommandAnswer::Accepted => {
+        Completion::Done => {
             let r = poll_scancode_set(&script[used..]);
             let answer = r.answer;
-            SetAsked {
+            SetRead {
                 answer,
                 used: used + r.used,
                 pairs,
             }
         }
-        CommandAnswer::Refused(e) => SetAsked {
+        Completion::Refused(e) => SetRead {
             answer: SetAnswer::Refused(e),
             used,
             pairs,
@@ -174,8 +166,8 @@ pub fn get_keyboard_scancode_set(script: &[u8], log: &mut [u8]) -> SetAsked
 }
 
 // The command for the scancode set, and its byte: a set, or the question for it.
-fn command_scancode_set(script: &[u8], log: &mut [u8], value: ScancodeSet) -> Commanded
-    ensures { λ r. ⌜ played (saidCommand (r .answer)) (r .used) (r .pairs) (now (log .exit)) ≡ play (commandScancodeSet value) (now (script .entry)) (now (log .entry)) ⌝ }
+fn command_scancode_set(script: &[u8], log: &mut [u8], value: ScancodeSet) -> Completed
+    ensures { λ r. ⌜ played (saidDone (r .answer)) (r .used) (r .pairs) (now (log .exit)) ≡ play (commandScancodeSet value) (now (script .entry)) (now (log .entry)) ⌝ }
 {
     command_pair(
         script,
@@ -190,7 +182,7 @@ fn command_scancode_set(script: &[u8], log: &mut [u8], value: ScancodeSet) -> Co
 
 // Polls for a scancode set.
 fn poll_scancode_set(script: &[u8]) -> SetRead
-    ensures { λ r. ⌜ Reads setSearch (now (script .entry)) (saidSet (r .answer)) (r .used) ⌝ }
+    ensures { λ r. ⌜ Reads setSearch (now (script .entry)) (saidSet (r .answer)) (r .used) (r .pairs) ⌝ }
 {
     let mut used: usize = 0;
     let mut polls = POLL_LIMIT;
@@ -214,12 +206,16 @@ fn poll_scancode_set(script: &[u8]) -> SetRead
         }
         polls -= 1;
     };
-    SetRead { answer, used }
+    SetRead {
+        answer,
+        used,
+        pairs: 0,
+    }
 }
 
 // Whether there is a byte of the keyboard to read.
 pub fn is_output_buffer_full(script: &[u8]) -> FullRead
-    ensures { λ r. ⌜ Reads keyboardOutputBufferFull (now (script .entry)) (saidFull (r .answer)) (r .used) ⌝ }
+    ensures { λ r. ⌜ Reads keyboardOutputBufferFull (now (script .entry)) (saidFull (r .answer)) (r .used) (r .pairs) ⌝ }
 {
     let s = status_register(script);
     let used = s.used;
@@ -228,17 +224,19 @@ pub fn is_output_buffer_full(script: &[u8]) -> FullRead
         StatusAnswer::Status(status) => FullRead {
             answer: FullAnswer::Full(status.output_buffer_full()),
             used,
+            pairs: 0,
         },
         StatusAnswer::Refused(e) => FullRead {
             answer: FullAnswer::Refused(e),
             used,
+            pairs: 0,
         },
     }
 }
 
 // Reads a scancode, without asking the status.
 pub fn read_scancode(script: &[u8]) -> ByteRead
-    ensures { λ r. ⌜ Reads readScancode (now (script .entry)) (saidByte (r .answer)) (r .used) ⌝ }
+    ensures { λ r. ⌜ Reads readScancode (now (script .entry)) (saidByte (r .answer)) (r .used) (r .pairs) ⌝ }
 {
     read_data(script)
 }

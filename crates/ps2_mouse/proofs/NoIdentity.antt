@@ -12,7 +12,7 @@ use Rattle.ps2_bytes.specs.declared.command.HostToMouseCommand.the-variants.{Ge
 use Rattle.ps2_bytes.specs.declared.writable.HostToMouseCommandOrData.the-variants.{MouseCommand}
 use Rattle.ps2_bytes.specs.Responses.{mouseIds}
 use Rattle.ps2_polling.specs.Polling.{pollLimit}
-use Rattle.ps2_command.specs.Command.{accepted}
+use Rattle.ps2_answers.specs.Refusals.{success}
 use Rattle.ps2_command.specs.Search.{listedTurn, PollBrings}
 use Rattle.ps2_command.proofs.Refuses.{commandRefusals}
 use Rattle.ps2_command.proofs.Reset.{the-accepted}
@@ -21,7 +21,7 @@ use Rattle.ps2_mouse.specs.Mouse.{mouseCommand, mouseByteWaits, mouseId}
 use Rattle.ps2_mouse.proofs.Refuses.{refuses-commandToMouse}
 
 pub mouse-id-refuses : (s l : List ℕ) → play mouseId s l .end ≡ yields (refuses 11)
-    → (play (mouseCommand GetDeviceID) s l .end ≡ yields (gives accepted))
+    → (play (mouseCommand GetDeviceID) s l .end ≡ yields (gives success))
     × (rest : List ℕ) × Search (PollBrings mouseByteWaits (listedTurn mouseIds)) pollLimit again (scriptAfter (mouseCommand GetDeviceID) s l) rest
 unfolding mouseId
 mouse-id-refuses s l h =

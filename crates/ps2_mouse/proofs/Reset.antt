@@ -9,7 +9,7 @@ use Rattle.exchange.specs.Only.{only-done, only-read}
 use Rattle.exchange.proofs.Search.{then-gives, refuses-before}
 use Rattle.ps2_bytes.specs.declared.command.HostToMouseCommand.the-variants.{Reset}
 use Rattle.ps2_bytes.specs.declared.writable.HostToMouseCommandOrData.the-variants.{MouseCommand}
-use Rattle.ps2_ports.specs.Refusals.{Success, success}
+use Rattle.ps2_answers.specs.Refusals.{Success, success}
 use Rattle.ps2_ports.specs.Ports.{flushOutputBuffer}
 use Rattle.ps2_command.specs.Reset.{OwnAA, NoAA}
 use Rattle.ps2_command.specs.Search.{selfTestWithin}

@@ -5,7 +5,7 @@ use Rattle.exchange.specs.Answer.{Answer, gives}
 use Rattle.exchange.specs.Repeat.{Turn, again, foundEnd}
 use Rattle.ps2_bytes.specs.declared.response.MouseId.{MouseId}
 use Rattle.ps2_bytes.specs.declared.response.MouseId.the-variants.{Zero}
-use Rattle.ps2_ports.specs.Refusals.{refused}
+use Rattle.ps2_answers.specs.Refusals.{refused}
 use Rattle.ps2_mouse.specs.declared.PS2Mouse.{PS2Mouse}
 use Rattle.ps2_mouse.specs.declared.IdAnswer.{IdAnswer}
 use Rattle.ps2_mouse.specs.declared.IdPoll.{IdPoll}

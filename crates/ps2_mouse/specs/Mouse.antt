@@ -16,20 +16,20 @@ use Rattle.ps2_bytes.specs.declared.writable.HostToMouseCommandOrData.{HostToMo
 use Rattle.ps2_bytes.specs.declared.writable.HostToMouseCommandOrData.the-variants as Byte
 use Rattle.ps2_bytes.specs.Responses.{mouseIds}
 use Rattle.ps2_layouts.specs.Status.{outputBufferFull, secondPortOutputFull}
-use Rattle.ps2_ports.specs.Refusals.{Success}
+use Rattle.ps2_answers.specs.Refusals.{Success}
 use Rattle.ps2_ports.specs.Ports.{readStatus, flushOutputBuffer}
 use Rattle.ps2_polling.specs.Polling.{pollLimit}
-use Rattle.ps2_command.specs.Command.{Accepted, commandToPort2}
+use Rattle.ps2_command.specs.Command.{commandToPort2}
 use Rattle.ps2_command.specs.Search.{pollWhen, listedTurn, selfTestWithin}
 
 -- ---- commands
 
 -- A byte for the mouse, which is on the second port, by the command rule.
-unfoldable pub commandToMouse : HostToMouseCommandOrData → Exchange (Answer Accepted)
+unfoldable pub commandToMouse : HostToMouseCommandOrData → Exchange (Answer Success)
 commandToMouse value = commandToPort2 (Mouse value)
 
 -- One of its commands.
-abbrev pub mouseCommand : HostToMouseCommand → Exchange (Answer Accepted)
+abbrev pub mouseCommand : HostToMouseCommand → Exchange (Answer Success)
 mouseCommand c = commandToMouse (Byte.MouseCommand c)
 
 -- ---- reset
@@ -45,17 +45,17 @@ resetMouse = andThen (mouseCommand Command.Reset) (λ _. andThen (selfTestWithin
 -- ---- settings
 
 -- "Did setting the sampling rate (F3, rate) or the resolution (E8, 0 to 3) succeed? 15"
-unfoldable pub setSamplingRate : MouseSampleRate → Exchange (Answer Accepted)
+unfoldable pub setSamplingRate : MouseSampleRate → Exchange (Answer Success)
 setSamplingRate rate = refusingAs 15 (andThen (mouseCommand Command.SampleRate) (λ _. commandToMouse (Byte.SampleRate rate)))
 
-unfoldable pub setResolution : MouseResolution → Exchange (Answer Accepted)
+unfoldable pub setResolution : MouseResolution → Exchange (Answer Success)
 setResolution resolution = refusingAs 15 (andThen (mouseCommand Command.SetResolution) (λ _. commandToMouse (Byte.MouseResolution resolution)))
 
 -- "Stopping packets? 16. Starting them? 17"
-unfoldable pub disablePacketStreaming : Exchange (Answer Accepted)
+unfoldable pub disablePacketStreaming : Exchange (Answer Success)
 disablePacketStreaming = refusingAs 16 (mouseCommand Command.DisableDataReporting)
 
-unfoldable pub enablePacketStreaming : Exchange (Answer Accepted)
+unfoldable pub enablePacketStreaming : Exchange (Answer Success)
 enablePacketStreaming = refusingAs 17 (mouseCommand Command.EnableDataReporting)
 
 -- ---- identity

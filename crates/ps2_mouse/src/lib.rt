@@ -4,14 +4,22 @@ ghost use Rattle.exchange.specs.Exchange.{play, played, yields, Reads};
 ghost use Rattle.exchange.specs.Answer.{refuses, andThen};
 ghost use Rattle.exchange.specs.Repeat.{repeat};
 ghost use Rattle.ps2_bytes.specs.Responses.{mouseIds};
-ghost use Rattle.ps2_ports.specs.Ports.{flushOutputBuffer, saidFull};
-ghost use Rattle.ps2_ports.specs.Refusals.{saidDone};
+ghost use Rattle.ps2_ports.specs.Ports.{flushOutputBuffer};
+ghost use Rattle.ps2_answers.specs.Answers.{saidFull};
+ghost use Rattle.ps2_answers.specs.Refusals.{saidDone};
 ghost use Rattle.ps2_polling.specs.Polling.{pollLimit};
-ghost use Rattle.ps2_command.specs.Command.{saidCommand};
 ghost use Rattle.ps2_command.specs.Search.{pollWhen, listedTurn, selfTestWithin};
 ghost use Rattle.ps2_mouse.specs.Mouse.{commandToMouse, resetReads, resetMouse, setSamplingRate, setResolution, disablePacketStreaming, enablePacketStreaming, mouseByteWaits, mouseId as mouseIdRule, mouseOutputBufferFull};
 ghost use Rattle.ps2_mouse.specs.Answers.{freshMouse, saidId, saidIdPoll};
 ghost use Rattle.ps2_packet_reading.specs.Reading.{readMousePacket, saidPacket};
+use ps2_answers::ByteAnswer;
+use ps2_answers::Completed;
+use ps2_answers::Completion;
+use ps2_answers::Failure;
+use ps2_answers::FullAnswer;
+use ps2_answers::FullRead;
+use ps2_answers::Refusal;
+use ps2_answers::StatusAnswer;
 use ps2_bytes::HostToDevice;
 use ps2_bytes::HostToMouseCommand;
 use ps2_bytes::HostToMouseCommandOrData;
@@ -19,8 +27,6 @@ use ps2_bytes::MouseId;
 use ps2_bytes::MouseIdByte;
 use ps2_bytes::MouseResolution;
 use ps2_bytes::MouseSampleRate;
-use ps2_command::CommandAnswer;
-use ps2_command::Commanded;
 use ps2_command::command_pair;
 use ps2_command::command_to_port2;
 use ps2_command::failing_as;
@@ -28,16 +34,7 @@ use ps2_command::read_self_test_result;
 use ps2_packet_reading::PacketRead;
 use ps2_packet_reading::read_packet;
 use ps2_polling::POLL_LIMIT;
-use ps2_ports::ByteAnswer;
-use ps2_ports::Completed;
-use ps2_ports::CompletedRead;
-use ps2_ports::Completion;
 use ps2_ports::DevicePort;
-use ps2_ports::Failure;
-use ps2_ports::FullAnswer;
-use ps2_ports::FullRead;
-use ps2_ports::Refusal;
-use ps2_ports::StatusAnswer;
 use ps2_ports::flush_output_buffer;
 use ps2_ports::read_data;
 use ps2_ports::status_register;
@@ -56,11 +53,6 @@ pub enum IdAnswer {
     Refused(Refusal),
 }
 
-struct IdRead {
-    pub answer: IdAnswer,
-    pub used: usize,
-}
-
 pub struct Identified {
     pub answer: IdAnswer,
     pub used: usize,
@@ -76,6 +68,7 @@ enum IdPoll {
 struct IdPolled {
     pub poll: IdPoll,
     pub used: usize,
+    pub pairs: usize,
 }
 
 impl PS2Mouse {
@@ -99,7 +92,7 @@ impl PS2Mouse {
         let pairs = c.pairs;
         let accepted = c.answer;
         match accepted {
-            CommandAnswer::Accepted => {
+            Completion::Done => {
                 let t = read_self_test_and_id(&script[used..]);
                 let answer = t.answer;
                 Completed {
@@ -108,7 +101,7 @@ impl PS2Mouse {
                     pairs,
                 }
             }
-            CommandAnswer::Refused(e) => Completed {
+            Completion::Refused(e) => Completed {
                 answer: Completion::Refused(e),
                 used,
                 pairs,
@@ -121,8 +114,8 @@ impl PS2Mouse {
         script: &[u8],
         log: &mut [u8],
         value: HostToMouseCommandOrData,
-    ) -> Commanded
-        ensures { λ r. ⌜ played (saidCommand (r .answer)) (r .used) (r .pairs) (now (log .exit)) ≡ play (commandToMouse value) (now (script .entry)) (now (log .entry)) ⌝ }
+    ) -> Completed
+        ensures { λ r. ⌜ played (saidDone (r .answer)) (r .used) (r .pairs) (now (log .exit)) ≡ play (commandToMouse value) (now (script .entry)) (now (log .entry)) ⌝ }
     {
         command_to_port2(script, log, HostToDevice::Mouse(value))
     }
@@ -132,8 +125,8 @@ impl PS2Mouse {
         script: &[u8],
         log: &mut [u8],
         value: MouseSampleRate,
-    ) -> Commanded
-        ensures { λ r. ⌜ played (saidCommand (r .answer)) (r .used) (r .pairs) (now (log .exit)) ≡ play (setSamplingRate value) (now (script .entry)) (now (log .entry)) ⌝ }
+    ) -> Completed
+        ensures { λ r. ⌜ played (saidDone (r .answer)) (r .used) (r .pairs) (now (log .exit)) ≡ play (setSamplingRate value) (now (script .entry)) (now (log .entry)) ⌝ }
     {
         let c = command_pair(
             script,
@@ -160,7 +153,7 @@ impl PS2Mouse {
         let pairs = c.pairs;
         let accepted = c.answer;
         match accepted {
-            CommandAnswer::Accepted => {
+            Completion::Done => {
                 let t = receive_mouse_id(&script[used..]);
                 let answer = t.answer;
                 Identified {
@@ -169,7 +162,7 @@ impl PS2Mouse {
                     pairs,
                 }
             }
-            CommandAnswer::Refused(e) => Identified {
+            Completion::Refused(e) => Identified {
                 answer: IdAnswer::Refused(e),
                 used,
                 pairs,
@@ -178,8 +171,8 @@ impl PS2Mouse {
     }
 
     // Starts the packets.
-    pub fn enable_mouse_packet_streaming(script: &[u8], log: &mut [u8]) -> Commanded
-        ensures { λ r. ⌜ played (saidCommand (r .answer)) (r .used) (r .pairs) (now (log .exit)) ≡ play enablePacketStreaming (now (script .entry)) (now (log .entry)) ⌝ }
+    pub fn enable_mouse_packet_streaming(script: &[u8], log: &mut [u8]) -> Completed
+        ensures { λ r. ⌜ played (saidDone (r .answer)) (r .used) (r .pairs) (now (log .exit)) ≡ play enablePacketStreaming (now (script .entry)) (now (log .entry)) ⌝ }
     {
         let c = PS2Mouse::command_to_mouse(
             script,
@@ -190,8 +183,8 @@ impl PS2Mouse {
     }
 
     // Stops the packets.
-    pub fn disable_mouse_packet_streaming(script: &[u8], log: &mut [u8]) -> Commanded
-        ensures { λ r. ⌜ played (saidCommand (r .answer)) (r .used) (r .pairs) (now (log .exit)) ≡ play disablePacketStreaming (now (script .entry)) (now (log .entry)) ⌝ }
+    pub fn disable_mouse_packet_streaming(script: &[u8], log: &mut [u8]) -> Completed
+        ensures { λ r. ⌜ played (saidDone (r .answer)) (r .used) (r .pairs) (now (log .exit)) ≡ play disablePacketStreaming (now (script .entry)) (now (log .entry)) ⌝ }
     {
         let c = PS2Mouse::command_to_mouse(
             script,
@@ -202,8 +195,8 @@ impl PS2Mouse {
     }
 
     // Sets the mouse's resolution.
-    pub fn mouse_resolution(script: &[u8], log: &mut [u8], value: MouseResolution) -> Commanded
-        ensures { λ r. ⌜ played (saidCommand (r .answer)) (r .used) (r .pairs) (now (log .exit)) ≡ play (setResolution value) (now (script .entry)) (now (log .entry)) ⌝ }
+    pub fn mouse_resolution(script: &[u8], log: &mut [u8], value: MouseResolution) -> Completed
+        ensures { λ r. ⌜ played (saidDone (r .answer)) (r .used) (r .pairs) (now (log .exit)) ≡ play (setResolution value) (now (script .entry)) (now (log .entry)) ⌝ }
     {
         let c = command_pair(
             script,
@@ -219,7 +212,7 @@ impl PS2Mouse {
 
     // Reads the packet that a mouse of this identity sends, without asking the status.
     pub fn read_mouse_packet(self, script: &[u8]) -> PacketRead
-        ensures { λ r. ⌜ Reads (readMousePacket (self .id)) (now (script .entry)) (saidPacket (r .answer)) (r .used) ⌝ }
+        ensures { λ r. ⌜ Reads (readMousePacket (self .id)) (now (script .entry)) (saidPacket (r .answer)) (r .used) (r .pairs) ⌝ }
     {
         let id = self.id;
         read_packet(id, script)
@@ -227,7 +220,7 @@ impl PS2Mouse {
 
     // Whether there is a byte of the mouse to read. Bit 0 alone would also be set for the FA before an identity.
     pub fn is_output_buffer_full(script: &[u8]) -> FullRead
-        ensures { λ r. ⌜ Reads mouseOutputBufferFull (now (script .entry)) (saidFull (r .answer)) (r .used) ⌝ }
+        ensures { λ r. ⌜ Reads mouseOutputBufferFull (now (script .entry)) (saidFull (r .answer)) (r .used) (r .pairs) ⌝ }
     {
         let s = status_register(script);
         let used = s.used;
@@ -239,19 +232,21 @@ impl PS2Mouse {
                 FullRead {
                     answer: FullAnswer::Full(waits && of_mouse),
                     used,
+                    pairs: 0,
                 }
             }
             StatusAnswer::Refused(e) => FullRead {
                 answer: FullAnswer::Refused(e),
                 used,
+                pairs: 0,
             },
         }
     }
 }
 
 // Reads data, without asking the status, until the mouse says that it passed its self test, and one byte more.
-fn read_self_test_and_id(script: &[u8]) -> CompletedRead
-    ensures { λ r. ⌜ Reads (andThen (selfTestWithin resetReads) (λ _. flushOutputBuffer)) (now (script .entry)) (saidDone (r .answer)) (r .used) ⌝ }
+fn read_self_test_and_id(script: &[u8]) -> Completed
+    ensures { λ r. ⌜ Reads (andThen (selfTestWithin resetReads) (λ _. flushOutputBuffer)) (now (script .entry)) (saidDone (r .answer)) (r .used) (r .pairs) ⌝ }
 {
     let t = read_self_test_result(script, RESET_READS);
     let used = t.used;
@@ -261,18 +256,23 @@ fn read_self_test_and_id(script: &[u8]) -> CompletedRead
             let f = flush_output_buffer(&script[used..]);
             let both = used + f.used;
             let answer = f.answer;
-            CompletedRead { answer, used: both }
+            Completed {
+                answer,
+                used: both,
+                pairs: 0,
+            }
         }
-        Completion::Refused(e) => CompletedRead {
+        Completion::Refused(e) => Completed {
             answer: Completion::Refused(e),
             used,
+            pairs: 0,
         },
     }
 }
 
 // Polls until an identity comes.
-fn receive_mouse_id(script: &[u8]) -> IdRead
-    ensures { λ r. ⌜ Reads (repeat pollLimit (refuses 11) (pollWhen mouseByteWaits (listedTurn mouseIds))) (now (script .entry)) (saidId (r .answer)) (r .used) ⌝ }
+fn receive_mouse_id(script: &[u8]) -> Identified
+    ensures { λ r. ⌜ Reads (repeat pollLimit (refuses 11) (pollWhen mouseByteWaits (listedTurn mouseIds))) (now (script .entry)) (saidId (r .answer)) (r .used) (r .pairs) ⌝ }
 {
     let mut used: usize = 0;
     let mut polls = POLL_LIMIT;
@@ -291,12 +291,16 @@ fn receive_mouse_id(script: &[u8]) -> IdRead
         }
         polls -= 1;
     };
-    IdRead { answer, used }
+    Identified {
+        answer,
+        used,
+        pairs: 0,
+    }
 }
 
 // One poll: reads data where the status says that there is a byte of the mouse.
 fn poll_mouse_id(script: &[u8]) -> IdPolled
-    ensures { λ r. ⌜ Reads (pollWhen mouseByteWaits (listedTurn mouseIds)) (now (script .entry)) (saidIdPoll (r .poll)) (r .used) ⌝ }
+    ensures { λ r. ⌜ Reads (pollWhen mouseByteWaits (listedTurn mouseIds)) (now (script .entry)) (saidIdPoll (r .poll)) (r .used) (r .pairs) ⌝ }
 {
     let s = PS2Mouse::is_output_buffer_full(script);
     let used = s.used;
@@ -311,22 +315,26 @@ fn poll_mouse_id(script: &[u8]) -> IdPolled
                     ByteAnswer::Byte(b) => IdPolled {
                         poll: listed_id(b),
                         used: both,
+                        pairs: 0,
                     },
                     ByteAnswer::Refused(e) => IdPolled {
                         poll: IdPoll::Settled(IdAnswer::Refused(e)),
                         used: both,
+                        pairs: 0,
                     },
                 }
             } else {
                 IdPolled {
                     poll: IdPoll::Again,
                     used,
+                    pairs: 0,
                 }
             }
         }
         FullAnswer::Refused(e) => IdPolled {
             poll: IdPoll::Settled(IdAnswer::Refused(e)),
             used,
+            pairs: 0,
         },
     }
 }

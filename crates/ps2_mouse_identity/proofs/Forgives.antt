@@ -1,18 +1,18 @@
--- What follows an identity that was asked for after some rates: by what it came to, and where it failed, which is forgiven. A used-up script and a full log are not.
+-- What follows an identity that was asked for after some rates: by what it came to, and where it failed, which is forgiven. A lack is not.
 -- Assumes nothing.
 use Prim.Native.Nat.{ℕ}
 use mathlib.Core.List.{List}
 use mathlib.Core.Path.{_≡_, refl, sym, ap, _∙_}
 use Rattle.exchange.specs.Exchange.{Exchange, done, bind, End, toldEnd, Played, played, play}
 use Rattle.exchange.specs.Answer.{Answer, gives, refuses, onGiven, andThen}
-use Rattle.exchange.proofs.Calls.{bind-done, bind-no-script, bind-no-log}
+use Rattle.exchange.proofs.Calls.{bind-done, bind-lacks}
 use Rattle.exchange.proofs.Grouping.{andThen-assoc}
 use Rattle.exchange.proofs.Sequence.{bind-assoc}
 use Rattle.ps2_bytes.specs.declared.data.MouseSampleRate.{MouseSampleRate}
 use Rattle.ps2_bytes.specs.declared.response.MouseId.{MouseId}
-use Rattle.ps2_ports.specs.declared.Refusal.{Refusal}
-use Rattle.ps2_ports.specs.declared.Refusal.the-variants.{ScriptUsedUp, LogFull, Failed}
-use Rattle.ps2_ports.specs.Refusals.{Success, numberOf, refused}
+use Rattle.ps2_answers.specs.declared.Refusal.{Refusal}
+use Rattle.ps2_answers.specs.declared.Refusal.the-variants.{Lacking, Failed}
+use Rattle.ps2_answers.specs.Refusals.{Success, numberOf, refused}
 use Rattle.ps2_mouse.specs.declared.IdAnswer.{IdAnswer}
 use Rattle.ps2_mouse.specs.Mouse.{mouseId}
 use Rattle.ps2_mouse_identity.specs.Identity.{setRates, identityAfter}
@@ -37,8 +37,7 @@ module _ (rates : List MouseSampleRate) (g : Answer MouseId → Exchange (Answer
   module _ (old : MouseId) (leaves : (n : ℕ) → g (refuses n) ≡ done (gives old)) (s l : List ℕ) {e : End (Answer (Answer MouseId))} {u w : ℕ} {l′ : List ℕ}
       (r : played e u w l′ ≡ play (identityAfter rates) s l) where
     forgives : (x : Refusal) → e ≡ toldEnd gives (refused x) → played (saidId (forgivenAs old x)) u w l′ ≡ play (bind (identityAfter rates) (onGiven g)) s l
-    forgives ScriptUsedUp q = bind-no-script (identityAfter rates) (onGiven g) s l r q
-    forgives LogFull q = bind-no-log (identityAfter rates) (onGiven g) s l r q
+    forgives (Lacking x) q = bind-lacks (identityAfter rates) (onGiven g) s l r q
     forgives (Failed f) q = bind-done (identityAfter rates) (onGiven g) s l r q (leaves (numberOf f))
 
     pub bind-forgiven : (x : Refusal) → e ≡ toldEnd gives (refused x) → {y : IdAnswer} → y ≡ forgivenAs old x

@@ -14,11 +14,10 @@ use Rattle.exchange.proofs.Search.{bind-after, after-bind}
 use Rattle.exchange.proofs.Then.{only-any, among-one}
 use Rattle.ps2_bytes.specs.declared.response.MouseId.{MouseId}
 use Rattle.ps2_bytes.specs.declared.response.MouseId.the-variants.{Zero, Four}
-use Rattle.ps2_ports.specs.Refusals.{Success}
-use Rattle.ps2_command.specs.Command.{Accepted}
+use Rattle.ps2_answers.specs.Refusals.{Success, success}
 use Rattle.ps2_mouse.specs.declared.PS2Mouse.{PS2Mouse}
 use Rattle.ps2_mouse.specs.Mouse.{mouseId, enablePacketStreaming}
-use Rattle.ps2_mouse_identity.specs.Identity.{readOr, secondIdentity, afterFirst, newIdentity, succeeded, startPackets, setMouseId}
+use Rattle.ps2_mouse_identity.specs.Identity.{readOr, secondIdentity, afterFirst, newIdentity, startPackets, setMouseId}
 use Rattle.ps2_mouse_identity.specs.Kept.{Kept, started, not-started, not-reached}
 use Rattle.ps2_mouse.proofs.Refuses.{refuses-enablePacketStreaming}
 use Rattle.ps2_mouse_identity.proofs.Refuses.{refuses-newIdentity}
@@ -73,8 +72,8 @@ set-mouse-id-record mouse s l v h =
     let z = bind-after (λ id. startPackets mouse id) t s l v h in
     (z .0, z .1 .before, started-with mouse (z .0) (scriptAfter t s l) (logAfter t s l) v (z .1 .after))
 
-by-enable : (mouse : PS2Mouse) (id : MouseId) (a : Answer Accepted) → RefusesWith (17 ∷ []) a → Kept mouse (left (succeeded a) (record { id = id }))
-by-enable mouse id (gives a) h = started
+by-enable : (mouse : PS2Mouse) (id : MouseId) (a : Answer Success) → RefusesWith (17 ∷ []) a → Kept mouse (left a (record { id = id }))
+by-enable mouse id (gives success) h = started
 by-enable mouse id (refuses n) h = rw (among-one n 17 h) not-started
 
 keeps-start : (mouse : PS2Mouse) (id : Answer MouseId) → RefusesWith (13 ∷ 15 ∷ 16 ∷ []) id → Only (Kept mouse) (startPackets mouse id)

@@ -9,7 +9,7 @@ use lib.Seq.{drop-cons}
 use Rattle.exchange.specs.Exchange.{done, bind}
 use Rattle.exchange.specs.Answer.{gives, andThen, onGiven}
 use Rattle.ps2_bytes.specs.declared.data.MouseSampleRate.{MouseSampleRate}
-use Rattle.ps2_ports.specs.Refusals.{success}
+use Rattle.ps2_answers.specs.Refusals.{success}
 use Rattle.ps2_mouse.specs.Mouse.{setSamplingRate}
 use Rattle.ps2_mouse_identity.specs.Identity.{setRates}
 

@@ -6,13 +6,13 @@ use mathlib.Core.Path.{_≡_, refl}
 use Rattle.exchange.specs.Exchange.{End, played, play}
 use Rattle.exchange.specs.Answer.{Answer}
 use Rattle.exchange.specs.Left.{recordAfter}
-use Rattle.exchange.proofs.Calls.{bind-done, bind-no-script, bind-no-log}
+use Rattle.exchange.proofs.Calls.{bind-done, bind-lacks}
 use Rattle.exchange.proofs.Left.{record-after}
 use Rattle.ps2_bytes.specs.declared.response.MouseId.{MouseId}
-use Rattle.ps2_ports.specs.declared.Completion.{Completion}
-use Rattle.ps2_ports.specs.declared.Refusal.{Refusal}
-use Rattle.ps2_ports.specs.declared.Refusal.the-variants.{ScriptUsedUp, LogFull, Failed}
-use Rattle.ps2_ports.specs.Refusals.{refused}
+use Rattle.ps2_answers.specs.declared.Completion.{Completion}
+use Rattle.ps2_answers.specs.declared.Refusal.{Refusal}
+use Rattle.ps2_answers.specs.declared.Refusal.the-variants.{Lacking, Failed}
+use Rattle.ps2_answers.specs.Refusals.{refused}
 use Rattle.ps2_mouse.specs.declared.PS2Mouse.{PS2Mouse}
 use Rattle.ps2_mouse_identity.specs.Identity.{newIdentity, startPackets, setMouseId}
 use Rattle.ps2_mouse_identity.specs.Answers.{saidMouse}
@@ -21,6 +21,5 @@ module _ (mouse : PS2Mouse) (s l : List ℕ) {e : End (Answer MouseId)} {u w : �
   pub set-refused : (x : Refusal) → e ≡ refused x
       → (played (saidMouse (Completion.Refused x) mouse) u w l′ ≡ play (setMouseId mouse) s l) × (mouse ≡ recordAfter mouse (play (setMouseId mouse) s l .end))
   unfolding setMouseId
-  set-refused ScriptUsedUp q = record-after mouse (bind-no-script (newIdentity (mouse .id)) (λ id. startPackets mouse id) s l r q) refl
-  set-refused LogFull q = record-after mouse (bind-no-log (newIdentity (mouse .id)) (λ id. startPackets mouse id) s l r q) refl
+  set-refused (Lacking x) q = record-after mouse (bind-lacks (newIdentity (mouse .id)) (λ id. startPackets mouse id) s l r q) refl
   set-refused (Failed f) q = record-after mouse (bind-done (newIdentity (mouse .id)) (λ id. startPackets mouse id) s l r q refl) refl

@@ -10,7 +10,7 @@ use Rattle.exchange.specs.Answer.{gives, refuses, andThen, refusingAs}
 use Rattle.exchange.specs.Left.{left, recordAfter}
 use Rattle.exchange.specs.Repeat.{repeat, times}
 use Rattle.ps2_bytes.specs.declared.response.MouseId.the-variants.{Zero, Three, Four}
-use Rattle.ps2_ports.specs.Refusals.{success}
+use Rattle.ps2_answers.specs.Refusals.{success}
 use Rattle.ps2_ports.specs.Ports.{writePort}
 use Rattle.ps2_polling.specs.Polling.{sendTry, pollingSend, poll, pollingReceive, pollingSendReceive}
 use Rattle.ps2_command.specs.Command.{attempt, command, commandToPort2}

@@ -8,8 +8,7 @@ use Rattle.ps2_bytes.specs.declared.data.MouseSampleRate.{MouseSampleRate}
 use Rattle.ps2_bytes.specs.declared.data.MouseSampleRate.the-variants.{_80, _100, _200}
 use Rattle.ps2_bytes.specs.declared.response.MouseId.{MouseId}
 use Rattle.ps2_bytes.specs.declared.response.MouseId.the-variants.{Zero, Three, Four}
-use Rattle.ps2_ports.specs.Refusals.{Success, success}
-use Rattle.ps2_command.specs.Command.{Accepted}
+use Rattle.ps2_answers.specs.Refusals.{Success, success}
 use Rattle.ps2_mouse.specs.declared.PS2Mouse.{PS2Mouse}
 use Rattle.ps2_mouse.specs.Mouse.{setSamplingRate, mouseId, disablePacketStreaming, enablePacketStreaming}
 
@@ -49,12 +48,8 @@ unfoldable pub newIdentity : MouseId → Exchange (Answer MouseId)
 newIdentity old = andThen disablePacketStreaming (λ _. andThen (setRates wheelRates) (λ _. bind mouseId (λ first. afterFirst old first)))
 
 -- "Then F4." "After 17 the mouse has the identity that success would have left; after 13, 15 and 16 the one it had."
-abbrev pub succeeded : Answer Accepted → Answer Success
-succeeded (gives a) = gives success
-succeeded (refuses n) = refuses n
-
 abbrev pub startPackets : PS2Mouse → Answer MouseId → Exchange (Left PS2Mouse Success)
-startPackets mouse (gives id) = bind enablePacketStreaming (λ a. done (left (succeeded a) (record { id = id })))
+startPackets mouse (gives id) = bind enablePacketStreaming (λ a. done (left a (record { id = id })))
 startPackets mouse (refuses n) = done (left (refuses n) mouse)
 
 unfoldable pub setMouseId : PS2Mouse → Exchange (Left PS2Mouse Success)

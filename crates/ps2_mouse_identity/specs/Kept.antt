@@ -7,7 +7,7 @@ use Rattle.exchange.specs.Answer.{gives, refuses}
 use Rattle.exchange.specs.Left.{Left, left}
 use Rattle.exchange.specs.Refuses.{among}
 use Rattle.ps2_bytes.specs.declared.response.MouseId.{MouseId}
-use Rattle.ps2_ports.specs.Refusals.{Success, success}
+use Rattle.ps2_answers.specs.Refusals.{Success, success}
 use Rattle.ps2_mouse.specs.declared.PS2Mouse.{PS2Mouse}
 
 -- What it left of the record that was passed: any identity with success, and with 17; the one it had with 13, 15 and 16. There is no other answer.

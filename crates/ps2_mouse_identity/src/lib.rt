@@ -3,21 +3,20 @@ ghost use mathlib.Core.Path.{_≡_};
 ghost use Rattle.exchange.specs.Exchange.{bind, play, played};
 ghost use Rattle.exchange.specs.Answer.{gives, andThen};
 ghost use Rattle.exchange.specs.Left.{recordAfter};
-ghost use Rattle.ps2_ports.specs.Refusals.{saidDone};
+ghost use Rattle.ps2_answers.specs.Refusals.{saidDone};
 ghost use Rattle.ps2_mouse.specs.Mouse.{mouseId as mouseIdRule};
 ghost use Rattle.ps2_mouse.specs.Answers.{saidId};
 ghost use Rattle.ps2_mouse_identity.specs.Identity.{setRates, identityAfter, wheelRates, buttonRates, secondIdentity, afterFirst, newIdentity, startPackets, setMouseId};
 ghost use Rattle.ps2_mouse_identity.specs.Answers.{forgivenAs, saidAsked, saidMouse};
+use ps2_answers::Completed;
+use ps2_answers::Completion;
+use ps2_answers::Failure;
+use ps2_answers::Refusal;
 use ps2_bytes::MouseId;
 use ps2_bytes::MouseSampleRate;
-use ps2_command::CommandAnswer;
 use ps2_mouse::IdAnswer;
 use ps2_mouse::Identified;
 use ps2_mouse::PS2Mouse;
-use ps2_ports::Completed;
-use ps2_ports::Completion;
-use ps2_ports::Failure;
-use ps2_ports::Refusal;
 
 // What a mouse answered that was asked for its identity after some rates, or why a rate was not set.
 enum AskedAnswer {
@@ -87,8 +86,8 @@ fn set_rates(script: &[u8], log: &mut [u8], rates: [MouseSampleRate; 3]) -> Comp
         pairs += s.pairs;
         let set = s.answer;
         match set {
-            CommandAnswer::Accepted => {}
-            CommandAnswer::Refused(e) => {
+            Completion::Done => {}
+            Completion::Refused(e) => {
                 break Completion::Refused(e);
             }
         }
@@ -110,7 +109,7 @@ fn new_identity(script: &[u8], log: &mut [u8], old: MouseId) -> Identified
     let pairs = c.pairs;
     let stopped = c.answer;
     match stopped {
-        CommandAnswer::Accepted => {
+        Completion::Done => {
             let at = 2 * pairs;
             let w = wheel_identity(&script[used..], &mut log[at..], old);
             let answer = w.answer;
@@ -120,7 +119,7 @@ fn new_identity(script: &[u8], log: &mut [u8], old: MouseId) -> Identified
                 pairs: pairs + w.pairs,
             }
         }
-        CommandAnswer::Refused(e) => Identified {
+        Completion::Refused(e) => Identified {
             answer: IdAnswer::Refused(e),
             used,
             pairs,
@@ -246,13 +245,12 @@ fn identity_after(script: &[u8], log: &mut [u8], rates: [MouseSampleRate; 3]) ->
     }
 }
 
-// A failure leaves the old identity; a used-up script and a full log are not forgiven.
+// A failure leaves the old identity; a lack is not forgiven.
 fn forgiven(e: Refusal, old: MouseId) -> IdAnswer
     ensures { λ r. ⌜ r ≡ forgivenAs old e ⌝ }
 {
     match e {
-        Refusal::ScriptUsedUp => IdAnswer::Refused(Refusal::ScriptUsedUp),
-        Refusal::LogFull => IdAnswer::Refused(Refusal::LogFull),
+        Refusal::Lacking(lack) => IdAnswer::Refused(Refusal::Lacking(lack)),
         Refusal::Failed(_) => IdAnswer::Id(old),
     }
 }
@@ -266,27 +264,21 @@ fn start_packets(script: &[u8], log: &mut [u8], mouse: PS2Mouse, id: MouseId) ->
     let pairs = s.pairs;
     let started = s.answer;
     match started {
-        CommandAnswer::Accepted => MouseLeft {
+        Completion::Done => MouseLeft {
             answer: Completion::Done,
             mouse: PS2Mouse { id },
             used,
             pairs,
         },
-        CommandAnswer::Refused(e) => match e {
-            Refusal::ScriptUsedUp => MouseLeft {
-                answer: Completion::Refused(Refusal::ScriptUsedUp),
+        Completion::Refused(e) => match e {
+            Refusal::Lacking(lack) => MouseLeft {
+                answer: Completion::Refused(Refusal::Lacking(lack)),
                 mouse,
                 used,
                 pairs,
             },
-            Refusal::LogFull => MouseLeft {
-                answer: Completion::Refused(Refusal::LogFull),
-                mouse,
-                used,
-                pairs,
-            },
-            Refusal::Failed(f) => MouseLeft {
-                answer: Completion::Refused(Refusal::Failed(f)),
+            Refusal::Failed(failure) => MouseLeft {
+                answer: Completion::Refused(Refusal::Failed(failure)),
                 mouse: PS2Mouse { id },
                 used,
                 pairs,

@@ -8,7 +8,7 @@ use Rattle.ps2_bytes.specs.declared.response.MouseId.the-variants.{Zero, Three,
 use Rattle.ps2_packet.specs.declared.MousePacket.{MousePacket}
 use Rattle.ps2_packet.specs.declared.MousePacket.the-variants as Packet
 use Rattle.ps2_packet.specs.Packet.{generic, packet3, packet4}
-use Rattle.ps2_ports.specs.Refusals.{refused}
+use Rattle.ps2_answers.specs.Refusals.{refused}
 use Rattle.ps2_packet_reading.specs.declared.FirstBytes.{FirstBytes}
 use Rattle.ps2_packet_reading.specs.declared.FourByteId.{FourByteId}
 use Rattle.ps2_packet_reading.specs.declared.BytesAnswer.{BytesAnswer}

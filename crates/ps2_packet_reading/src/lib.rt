@@ -3,13 +3,13 @@ ghost use mathlib.Core.Path.{_≡_};
 ghost use Rattle.exchange.specs.Exchange.{done, Reads};
 ghost use Rattle.exchange.specs.Answer.{gives};
 ghost use Rattle.ps2_packet_reading.specs.Reading.{threeBytes, readMousePacket, fourBytes, fourthByte, afterThree, firstBytes, saidBytes, saidPacket};
+use ps2_answers::ByteAnswer;
+use ps2_answers::Refusal;
 use ps2_bytes::MouseId;
 use ps2_packet::MousePacket;
 use ps2_packet::MousePacket3;
 use ps2_packet::MousePacket4;
 use ps2_packet::MousePacketGeneric;
-use ps2_ports::ByteAnswer;
-use ps2_ports::Refusal;
 use ps2_ports::read_data;
 
 // The bytes that every packet starts with.
@@ -33,6 +33,7 @@ enum BytesAnswer {
 struct BytesRead {
     pub answer: BytesAnswer,
     pub used: usize,
+    pub pairs: usize,
 }
 
 // A packet of the mouse.
@@ -44,11 +45,12 @@ pub enum PacketAnswer {
 pub struct PacketRead {
     pub answer: PacketAnswer,
     pub used: usize,
+    pub pairs: usize,
 }
 
 // Reads the packet that a mouse of this identity sends, without asking the status.
 pub fn read_packet(id: MouseId, script: &[u8]) -> PacketRead
-    ensures { λ r. ⌜ Reads (readMousePacket id) (now (script .entry)) (saidPacket (r .answer)) (r .used) ⌝ }
+    ensures { λ r. ⌜ Reads (readMousePacket id) (now (script .entry)) (saidPacket (r .answer)) (r .used) (r .pairs) ⌝ }
 {
     let t = read_three(script);
     let used = t.used;
@@ -58,18 +60,23 @@ pub fn read_packet(id: MouseId, script: &[u8]) -> PacketRead
             let a = read_after_three(&script[used..], first, id);
             let all = used + a.used;
             let answer = a.answer;
-            PacketRead { answer, used: all }
+            PacketRead {
+                answer,
+                used: all,
+                pairs: 0,
+            }
         }
         BytesAnswer::Refused(e) => PacketRead {
             answer: PacketAnswer::Refused(e),
             used,
+            pairs: 0,
         },
     }
 }
 
 // Three bytes of data, one after another.
 fn read_three(script: &[u8]) -> BytesRead
-    ensures { λ r. ⌜ Reads (threeBytes (λ b1 b2 b3. done (gives (firstBytes b1 b2 b3)))) (now (script .entry)) (saidBytes (r .answer)) (r .used) ⌝ }
+    ensures { λ r. ⌜ Reads (threeBytes (λ b1 b2 b3. done (gives (firstBytes b1 b2 b3)))) (now (script .entry)) (saidBytes (r .answer)) (r .used) (r .pairs) ⌝ }
 {
     let d1 = read_data(script);
     let one = d1.used;
@@ -92,29 +99,33 @@ fn read_three(script: &[u8]) -> BytesRead
                                 byte3,
                             }),
                             used: three,
+                            pairs: 0,
                         },
                         ByteAnswer::Refused(e) => BytesRead {
                             answer: BytesAnswer::Refused(e),
                             used: three,
+                            pairs: 0,
                         },
                     }
                 }
                 ByteAnswer::Refused(e) => BytesRead {
                     answer: BytesAnswer::Refused(e),
                     used: two,
+                    pairs: 0,
                 },
             }
         }
         ByteAnswer::Refused(e) => BytesRead {
             answer: BytesAnswer::Refused(e),
             used: one,
+            pairs: 0,
         },
     }
 }
 
 // What follows the first three bytes: at identity 0 nothing, at 3 and 4 a fourth.
 fn read_after_three(script: &[u8], first: FirstBytes, id: MouseId) -> PacketRead
-    ensures { λ r. ⌜ Reads (afterThree id first) (now (script .entry)) (saidPacket (r .answer)) (r .used) ⌝ }
+    ensures { λ r. ⌜ Reads (afterThree id first) (now (script .entry)) (saidPacket (r .answer)) (r .used) (r .pairs) ⌝ }
 {
     match id {
         MouseId::Zero => PacketRead {
@@ -124,6 +135,7 @@ fn read_after_three(script: &[u8], first: FirstBytes, id: MouseId) -> PacketRead
                 first.byte3,
             ))),
             used: 0,
+            pairs: 0,
         },
         MouseId::Three => read_fourth(script, first, FourByteId::Three),
         MouseId::Four => read_fourth(script, first, FourByteId::Four),
@@ -132,7 +144,7 @@ fn read_after_three(script: &[u8], first: FirstBytes, id: MouseId) -> PacketRead
 
 // The fourth byte of data, which completes the packet.
 fn read_fourth(script: &[u8], first: FirstBytes, id: FourByteId) -> PacketRead
-    ensures { λ r. ⌜ Reads (fourthByte id first) (now (script .entry)) (saidPacket (r .answer)) (r .used) ⌝ }
+    ensures { λ r. ⌜ Reads (fourthByte id first) (now (script .entry)) (saidPacket (r .answer)) (r .used) (r .pairs) ⌝ }
 {
     let d = read_data(script);
     let used = d.used;
@@ -141,10 +153,12 @@ fn read_fourth(script: &[u8], first: FirstBytes, id: FourByteId) -> PacketRead
         ByteAnswer::Byte(byte4) => PacketRead {
             answer: PacketAnswer::Packet(four_bytes(id, first, byte4)),
             used,
+            pairs: 0,
         },
         ByteAnswer::Refused(e) => PacketRead {
             answer: PacketAnswer::Refused(e),
             used,
+            pairs: 0,
         },
     }
 }

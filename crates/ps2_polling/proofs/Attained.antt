@@ -18,7 +18,7 @@ use Rattle.ps2_bytes.specs.declared.command.HostToControllerCommand.the-variant
 use Rattle.ps2_bytes.specs.declared.response.PortTestResult.the-variants.{Passed}
 use Rattle.ps2_bytes.specs.Responses.{portTestResultByte}
 use Rattle.ps2_bytes.specs.Writable.{toDevice}
-use Rattle.ps2_ports.specs.Refusals.{success}
+use Rattle.ps2_answers.specs.Refusals.{success}
 use Rattle.ps2_ports.specs.Ports.{writePort, writeCommand}
 use Rattle.ps2_polling.specs.Polling.{sendTry, pollingSend, poll, responseTurn, pollingReceive, pollingSendReceive, controllerTestPassed, passedTurn, controllerTestResult, testController, portTestResult, testPort}
 

@@ -21,7 +21,7 @@ use Rattle.ps2_bytes.specs.Writable.{toDevice}
 use Rattle.ps2_bytes.specs.declared.command.HostToControllerCommand.{HostToControllerCommand}
 use Rattle.ps2_bytes.specs.declared.command.HostToControllerCommand.the-variants.{TestController}
 use Rattle.ps2_bytes.specs.declared.writable.HostToDevice.{HostToDevice}
-use Rattle.ps2_ports.specs.Refusals.{Success, success}
+use Rattle.ps2_answers.specs.Refusals.{Success, success}
 use Rattle.ps2_ports.specs.Ports.{writePort, writeCommand}
 use Rattle.ps2_polling.specs.Polling.{sendTries, pollLimit, sendTry, pollingSend, dataTurn, poll, responseTurn, pollingReceive, pollingSendReceive, controllerTestPassed, passedTurn, controllerTestResult, testController, portTestResult, testPort}
 

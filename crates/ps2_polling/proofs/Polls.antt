@@ -16,12 +16,13 @@ use Rattle.ps2_bytes.specs.declared.response.DeviceToHostResponse.{DeviceToHost
 use Rattle.ps2_bytes.specs.declared.response.ResponseByte.{ResponseByte}
 use Rattle.ps2_bytes.specs.Responses.{responses, responseRead}
 use Rattle.ps2_layouts.specs.Status.{outputBufferFull}
-use Rattle.ps2_ports.specs.Refusals.{success, refused}
-use Rattle.ps2_ports.specs.Ports.{readPort, readData, saidByte}
-use Rattle.ps2_ports.specs.declared.ByteAnswer.{ByteAnswer}
-use Rattle.ps2_ports.specs.declared.Refusal.{Refusal}
-use Rattle.ps2_ports.specs.declared.Refusal.the-variants.{ScriptUsedUp, LogFull, Failed}
-use Rattle.ps2_ports.proofs.Refusals.{onAnswer, reads-refused-turn}
+use Rattle.ps2_answers.specs.Refusals.{success, refused}
+use Rattle.ps2_ports.specs.Ports.{readPort, readData}
+use Rattle.ps2_answers.specs.Answers.{saidByte}
+use Rattle.ps2_answers.specs.declared.ByteAnswer.{ByteAnswer}
+use Rattle.ps2_answers.specs.declared.Refusal.{Refusal}
+use Rattle.ps2_answers.specs.declared.Refusal.the-variants.{Lacking, Failed}
+use Rattle.ps2_answers.proofs.Refusals.{onAnswer, reads-refused-turn}
 use Rattle.ps2_polling.specs.Polling.{dataTurn, poll, pollData, turnOf, responseTurn, passedTurn, saidPolled}
 use Rattle.ps2_polling.specs.declared.Polled.{Polled}
 use Rattle.ps2_polling.specs.declared.Waiting.{Waiting}
@@ -56,12 +57,12 @@ module _ {A : Type 0} (worth : ℕ → Turn (Answer A)) where
   byteEnd (ByteAnswer.Byte b) = yields (worth b)
   byteEnd (ByteAnswer.Refused r) = foundEnd (refused r)
 
-  read-ended : (s : List ℕ) (a : ByteAnswer) {u : ℕ} → Reads readData s (saidByte a) u → Reads (dataTurn worth) s (byteEnd a) u
+  read-ended : (s : List ℕ) (a : ByteAnswer) {u w : ℕ} → Reads readData s (saidByte a) u w → Reads (dataTurn worth) s (byteEnd a) u 0
   unfolding readPort bind
   read-ended s (ByteAnswer.Byte b) r = reads-done readData (onAnswer (λ b. done (worth b))) s r refl refl
   read-ended s (ByteAnswer.Refused x) r = reads-refused-turn readData (λ b. done (worth b)) s r x refl
 
-  pub read-turn : {a a₂ : ByteAnswer} → a ≡ a₂ → (s : List ℕ) {u : ℕ} → Reads readData s (saidByte a) u → Reads (dataTurn worth) s (byteEnd a₂) u
+  pub read-turn : {a a₂ : ByteAnswer} → a ≡ a₂ → (s : List ℕ) {u w : ℕ} → Reads readData s (saidByte a) u w → Reads (dataTurn worth) s (byteEnd a₂) u 0
   read-turn {a} q s r = rw q at (read-ended s a r)
 
   -- ---- a turn of a wait
@@ -78,21 +79,21 @@ module _ {A : Type 0} (worth : ℕ → Turn (Answer A)) where
   passed-told : (a : Polled) → toldEnd (λ r. passed r) (saidPolled a) ≡ pollEnd a
   passed-told (Polled.Data b) = refl
   passed-told Polled.Nothing = refl
-  passed-told (Polled.Refused ScriptUsedUp) = refl
-  passed-told (Polled.Refused LogFull) = refl
+  passed-told (Polled.Refused (Lacking l)) = refl
   passed-told (Polled.Refused (Failed f)) = refl
 
-  turn-ended : (w : Waiting) (s : List ℕ) (a : Polled) {u : ℕ} → Reads (turnOf w (λ b. found (gives b))) s (saidPolled a) u → Reads (turnOf w worth) s (pollEnd a) u
+  turn-ended : (w : Waiting) (s : List ℕ) (a : Polled) {u v : ℕ} → Reads (turnOf w (λ b. found (gives b))) s (saidPolled a) u v → Reads (turnOf w worth) s (pollEnd a) u 0
   turn-ended w s a r =
       record {
         with-any =
             λ l. rw (passed-told a, turn-judged worth (λ n. found (refuses n)) w) at (bind-told (turnOf w (λ b. found (gives b))) (λ r. passed r) s l (r .with-any l) refl);
+        no-pairs = refl;
       }
 
-  pub taken-turn : (w : Waiting) {a a₂ : Polled} → a ≡ a₂ → (s : List ℕ) {u : ℕ} → Reads (turnOf w (λ b. found (gives b))) s (saidPolled a) u → Reads (turnOf w worth) s (pollEnd a₂) u
+  pub taken-turn : (w : Waiting) {a a₂ : Polled} → a ≡ a₂ → (s : List ℕ) {u v : ℕ} → Reads (turnOf w (λ b. found (gives b))) s (saidPolled a) u v → Reads (turnOf w worth) s (pollEnd a₂) u 0
   taken-turn w {a} q s r = rw q at (turn-ended w s a r)
 
-  pub poll-turn : {a a₂ : Polled} → a ≡ a₂ → (s : List ℕ) {u : ℕ} → Reads pollData s (saidPolled a) u → Reads (poll worth) s (pollEnd a₂) u
+  pub poll-turn : {a a₂ : Polled} → a ≡ a₂ → (s : List ℕ) {u v : ℕ} → Reads pollData s (saidPolled a) u v → Reads (poll worth) s (pollEnd a₂) u 0
   poll-turn q s r = taken-turn Waiting.Polls q s r
 
 -- ---- a device's response

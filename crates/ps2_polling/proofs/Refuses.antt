@@ -21,7 +21,7 @@ use Rattle.ps2_bytes.specs.declared.writable.HostToDevice.{HostToDevice}
 use Rattle.ps2_bytes.specs.Responses.{responses, portTestResultByte}
 use Rattle.ps2_layouts.specs.Status.{outputBufferFull, inputBufferFull}
 use Rattle.ps2_bytes.specs.Writable.{toDevice}
-use Rattle.ps2_ports.specs.Refusals.{Success}
+use Rattle.ps2_answers.specs.Refusals.{Success}
 use Rattle.ps2_ports.specs.Ports.{writePort, writeCommand}
 use Rattle.ps2_polling.specs.Polling.{sendTries, sendTry, pollingSend, pollLimit, poll, responseTurn, pollingReceive, pollingSendReceive, controllerTestPassed, passedTurn, controllerTestResult, testController, portTestResult, testPort}
 

@@ -18,7 +18,7 @@ use Rattle.exchange.proofs.Bounds.{within-used}
 use Rattle.exchange.proofs.Kept.{used-le}
 use Rattle.exchange.proofs.Only.{only-play}
 use Rattle.exchange.proofs.Silence.{silence, silent-used}
-use Rattle.exchange.proofs.Steps.{no-script-yields, no-log-yields}
+use Rattle.exchange.proofs.Steps.{lacks-yields}
 use Rattle.ps2_bytes.proofs.ReadBack.{response-read-back}
 use Rattle.ps2_bytes.specs.Responses.{responseByte, responseRead, portTestResultByte}
 use Rattle.ps2_layouts.specs.Status.{inputBufferFull, outputBufferFull}
@@ -29,7 +29,7 @@ use Rattle.ps2_bytes.specs.declared.response.DeviceToHostResponse.{DeviceToHost
 use Rattle.ps2_bytes.specs.declared.response.PortTestResult.the-variants.{Passed}
 use Rattle.ps2_bytes.specs.declared.response.ResponseByte.{ResponseByte}
 use Rattle.ps2_bytes.specs.declared.writable.HostToDevice.{HostToDevice}
-use Rattle.ps2_ports.specs.Refusals.{Success, success}
+use Rattle.ps2_answers.specs.Refusals.{Success, success}
 use Rattle.ps2_ports.specs.Ports.{writePort, writeCommand}
 use Rattle.ps2_polling.specs.Polling.{sendTry, pollingSend, dataTurn, poll, responseTurn, pollingReceive, controllerTestPassed, passedTurn, controllerTestResult, testController, portTestResult, testPort}
 use Rattle.ps2_polling.specs.Silence.{FirstBytes, SilentPolls, no-data, thrown-away, NoResponse}
@@ -76,14 +76,14 @@ module _ (byte : ℕ) where
       → (full ≡ true) × (play (cond full (done again) (write p60 byte (done (found (gives success))))) s l .used ≡ 0)
   unfolding play
   full-again true s l q = (refl, refl)
-  full-again false s [] q = absurd (no-log-yields q)
-  full-again false s (x ∷ []) q = absurd (no-log-yields q)
+  full-again false s [] q = absurd (lacks-yields q)
+  full-again false s (x ∷ []) q = absurd (lacks-yields q)
   full-again false s (x ∷ y ∷ l) q = absurd (let z : _≡_ {A = ℕ} 0 1 = cc in omega arith)
 
   try-again : (s l : List ℕ) → play (sendTry byte) s l .end ≡ yields again
       → (play (sendTry byte) s l .used ≡ 1) × FirstBytes (λ status. bit inputBufferFull status ≡ true) 1 s
   unfolding sendTry play
-  try-again [] l q = absurd (no-script-yields q)
+  try-again [] l q = absurd (lacks-yields q)
   try-again (status ∷ s) l q =
       let c = full-again (bit inputBufferFull status) s l q in
       (omega (arith, c .1), one-byte (λ x. bit inputBufferFull x ≡ true) status s (c .0))
@@ -113,14 +113,14 @@ module _ {A : Type 0} (worth : ℕ → Turn A) (P : ℕ → Type 0) (each : (b :
   one-poll : (n status : ℕ) (full : Bool) → bit outputBufferFull status ≡ full → (s l : List ℕ) → play (cond full (dataTurn worth) (done again)) s l .end ≡ yields again
       → SilentPolls P n (drop (play (cond full (dataTurn worth) (done again)) s l .used) s) → SilentPolls P (suc n) (status ∷ s)
   unfolding play
-  one-poll n status true e [] l q k = absurd (no-script-yields q)
+  one-poll n status true e [] l q k = absurd (lacks-yields q)
   one-poll n status true e (b ∷ s) l q k = thrown-away e (each b (cc)) k
   one-poll n status false e s l q k = no-data e k
 
   silent-polls : (n : ℕ) (s l : List ℕ) → Silent (poll worth) n s l → SilentPolls P n s
   unfolding poll play
   silent-polls zero s l over = polls.over
-  silent-polls (suc n) [] l (silent q k) = absurd (no-script-yields q)
+  silent-polls (suc n) [] l (silent q k) = absurd (lacks-yields q)
   silent-polls (suc n) (status ∷ s) l (silent q k) = one-poll n status (bit outputBufferFull status) refl s l q (silent-polls n _ _ k)
 
 module _ {A : Type 0} (worth : ℕ → Turn (Answer A)) (number : ℕ) (never : (b : ℕ) → worth b ≡ found (refuses number) → ⊥) where
@@ -168,14 +168,14 @@ other good b q e = found-again (sym (passed-yes good b (eq-eqb b good e)) ∙ q)
 after-command : {A : Type 0} (c : HostToControllerCommand) (t : Exchange (Answer A)) (s l : List ℕ) {a : Answer A} → play (andThen (writeCommand c) (λ _. t)) s l .end ≡ yields a
     → (m : List ℕ) × (play t s m .end ≡ yields a) × (play (andThen (writeCommand c) (λ _. t)) s l .used ≡ play t s m .used)
 unfolding andThen writePort bind play
-after-command c t s [] q = absurd (no-log-yields q)
-after-command c t s (x ∷ []) q = absurd (no-log-yields q)
+after-command c t s [] q = absurd (lacks-yields q)
+after-command c t s (x ∷ []) q = absurd (lacks-yields q)
 after-command c t s (x ∷ y ∷ l) q = (l, q, refl)
 
 data-again : {A : Type 0} (worth : ℕ → Turn A) (P : ℕ → Type 0) → ((b : ℕ) → worth b ≡ again → P b) → (s l : List ℕ) → play (dataTurn worth) s l .end ≡ yields again
     → (play (dataTurn worth) s l .used ≡ 1) × FirstBytes P 1 s
 unfolding play
-data-again worth P each [] l q = absurd (no-script-yields q)
+data-again worth P each [] l q = absurd (lacks-yields q)
 data-again worth P each (b ∷ s) l q = (refl, one-byte P b s (each b (cc)))
 
 refused-result : (s l : List ℕ) → play controllerTestResult s l .end ≡ yields (refuses 8)

@@ -4,7 +4,7 @@ use mathlib.Core.List.{[], _∷_}
 use mathlib.Core.Path.{_≡_, refl}
 use Rattle.bits.specs.Bits.{bit, odd}
 use Rattle.bits.specs.Table.{decode}
-use Rattle.exchange.specs.Exchange.{bind, yields, noScript, noLog, played, play}
+use Rattle.exchange.specs.Exchange.{p60, bind, noScript, noLog, yields, lacks, played, play}
 use Rattle.exchange.specs.Answer.{gives, andThen}
 use Rattle.exchange.specs.Repeat.{repeat}
 use Rattle.ps2_bytes.specs.declared.command.HostToControllerCommand.the-variants.{TestPort2}
@@ -13,7 +13,7 @@ use Rattle.ps2_bytes.specs.declared.response.DeviceToHostResponse.the-variants.
 use Rattle.ps2_bytes.specs.declared.writable.HostToDevice.{HostToDevice}
 use Rattle.ps2_bytes.specs.declared.writable.HostToDevice.the-variants.{Keyboard}
 use Rattle.ps2_bytes.specs.declared.writable.HostToKeyboardCommandOrData.the-variants.{KeyboardCommand}
-use Rattle.ps2_ports.specs.Refusals.{success}
+use Rattle.ps2_answers.specs.Refusals.{success}
 use Rattle.ps2_ports.specs.Ports.{writePort}
 use Rattle.ps2_polling.specs.Polling.{sendTry, pollingSend, poll, pollingReceive, pollingSendReceive, controllerTestResult, testController, portTestResult, testPort}
 
@@ -30,7 +30,7 @@ pub acknowledged-late : play (pollingSendReceive identify) (0x02 ∷ 0x00 ∷ 0x
 unfolding pollingSendReceive pollingSend pollingReceive sendTry poll andThen repeat bind play decode bit odd
 acknowledged-late = refl
 
-pub no-room : play (pollingSendReceive identify) (0x00 ∷ 0x01 ∷ 0xFA ∷ []) (7 ∷ []) ≡ played noLog 1 0 (7 ∷ [])
+pub no-room : play (pollingSendReceive identify) (0x00 ∷ 0x01 ∷ 0xFA ∷ []) (7 ∷ []) ≡ played (lacks noLog) 1 0 (7 ∷ [])
 unfolding pollingSendReceive pollingSend pollingReceive sendTry poll andThen repeat bind play decode bit odd
 no-room = refl
 
@@ -43,6 +43,6 @@ pub port-tested : play (testPort TestPort2) (0x01 ∷ 0x01 ∷ 0x01 ∷ 0x00 ∷
 unfolding testPort portTestResult poll writePort andThen repeat bind play bit odd
 port-tested = refl
 
-pub cut-short : play (testPort TestPort2) (0x01 ∷ 0x01 ∷ 0x01 ∷ []) (0 ∷ 0 ∷ []) ≡ played noScript 3 1 (0x64 ∷ 0xA9 ∷ [])
+pub cut-short : play (testPort TestPort2) (0x01 ∷ 0x01 ∷ 0x01 ∷ []) (0 ∷ 0 ∷ []) ≡ played (lacks (noScript p60)) 3 1 (0x64 ∷ 0xA9 ∷ [])
 unfolding testPort portTestResult poll writePort andThen repeat bind play bit odd
 cut-short = refl

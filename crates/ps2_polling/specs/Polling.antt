@@ -16,7 +16,7 @@ use Rattle.ps2_bytes.specs.declared.writable.HostToDevice.{HostToDevice}
 use Rattle.ps2_bytes.specs.Responses.{responses, portTestResultByte}
 use Rattle.ps2_layouts.specs.Status.{outputBufferFull, inputBufferFull}
 use Rattle.ps2_bytes.specs.Writable.{toDevice}
-use Rattle.ps2_ports.specs.Refusals.{Success, success, refused}
+use Rattle.ps2_answers.specs.Refusals.{Success, success, refused}
 use Rattle.ps2_ports.specs.Ports.{writeCommand}
 use Rattle.ps2_polling.specs.declared.Polled.{Polled}
 use Rattle.ps2_polling.specs.declared.Waiting.{Waiting}

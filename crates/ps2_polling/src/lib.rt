@@ -4,21 +4,20 @@ ghost use Rattle.exchange.specs.Exchange.{play, played, Reads};
 ghost use Rattle.exchange.specs.Answer.{gives, refuses, andThen};
 ghost use Rattle.exchange.specs.Repeat.{found, repeat};
 ghost use Rattle.ps2_bytes.specs.declared.command.HostToControllerCommand.the-variants.{TestPort1, TestPort2};
-ghost use Rattle.ps2_ports.specs.Refusals.{numberOf, saidDone};
+ghost use Rattle.ps2_answers.specs.Refusals.{numberOf, saidDone};
 ghost use Rattle.ps2_ports.specs.Ports.{writeCommand};
 ghost use Rattle.ps2_polling.specs.Polling.{pollLimit, pollingSend, pollData, turnOf, passedTurn, pollingReceive, pollingSendReceive, controllerTestResult, testController, portTestResult, testPort, saidPolled, saidResponse};
+use ps2_answers::ByteAnswer;
+use ps2_answers::Completed;
+use ps2_answers::Completion;
+use ps2_answers::Failure;
+use ps2_answers::Refusal;
+use ps2_answers::StatusAnswer;
 use ps2_bytes::DeviceToHostResponse;
 use ps2_bytes::HostToControllerCommand;
 use ps2_bytes::HostToDevice;
 use ps2_bytes::ResponseByte;
 use ps2_bytes::WritableData;
-use ps2_ports::ByteAnswer;
-use ps2_ports::Completed;
-use ps2_ports::CompletedRead;
-use ps2_ports::Completion;
-use ps2_ports::Failure;
-use ps2_ports::Refusal;
-use ps2_ports::StatusAnswer;
 use ps2_ports::read_data;
 use ps2_ports::status_register;
 use ps2_ports::write_command;
@@ -46,6 +45,7 @@ pub enum Polled {
 pub struct Poll {
     pub answer: Polled,
     pub used: usize,
+    pub pairs: usize,
 }
 
 // How a byte is waited for: by polls, or by data reads that do not ask the status.
@@ -61,11 +61,6 @@ pub enum ResponseAnswer {
 }
 
 pub struct Received {
-    pub answer: ResponseAnswer,
-    pub used: usize,
-}
-
-pub struct SentReceived {
     pub answer: ResponseAnswer,
     pub used: usize,
     pub pairs: usize,
@@ -146,8 +141,8 @@ fn run_test(
 }
 
 // Polls until a port test's answer says that the port passed.
-pub fn match_port_test_result(script: &[u8]) -> CompletedRead
-    ensures { λ r. ⌜ Reads portTestResult (now (script .entry)) (saidDone (r .answer)) (r .used) ⌝ }
+pub fn match_port_test_result(script: &[u8]) -> Completed
+    ensures { λ r. ⌜ Reads portTestResult (now (script .entry)) (saidDone (r .answer)) (r .used) (r .pairs) ⌝ }
 {
     read_test_result(
         script,
@@ -159,8 +154,8 @@ pub fn match_port_test_result(script: &[u8]) -> CompletedRead
 }
 
 // Reads data, without asking the status, until the controller says that it passed its test.
-pub fn read_controller_test_result(script: &[u8]) -> CompletedRead
-    ensures { λ r. ⌜ Reads controllerTestResult (now (script .entry)) (saidDone (r .answer)) (r .used) ⌝ }
+pub fn read_controller_test_result(script: &[u8]) -> Completed
+    ensures { λ r. ⌜ Reads controllerTestResult (now (script .entry)) (saidDone (r .answer)) (r .used) (r .pairs) ⌝ }
 {
     read_test_result(
         script,
@@ -178,8 +173,8 @@ pub fn read_test_result(
     passed: u8,
     turns: u32,
     failure: Failure,
-) -> CompletedRead
-    ensures { λ r. ⌜ Reads (repeat turns (refuses (numberOf failure)) (turnOf waiting (passedTurn passed))) (now (script .entry)) (saidDone (r .answer)) (r .used) ⌝ }
+) -> Completed
+    ensures { λ r. ⌜ Reads (repeat turns (refuses (numberOf failure)) (turnOf waiting (passedTurn passed))) (now (script .entry)) (saidDone (r .answer)) (r .used) (r .pairs) ⌝ }
 {
     let mut used: usize = 0;
     let mut left = turns;
@@ -203,12 +198,16 @@ pub fn read_test_result(
         }
         left -= 1;
     };
-    CompletedRead { answer, used }
+    Completed {
+        answer,
+        used,
+        pairs: 0,
+    }
 }
 
 // One turn of a wait.
 fn take_turn(script: &[u8], waiting: Waiting) -> Poll
-    ensures { λ r. ⌜ Reads (turnOf waiting (λ b. found (gives b))) (now (script .entry)) (saidPolled (r .answer)) (r .used) ⌝ }
+    ensures { λ r. ⌜ Reads (turnOf waiting (λ b. found (gives b))) (now (script .entry)) (saidPolled (r .answer)) (r .used) (r .pairs) ⌝ }
 {
     match waiting {
         Waiting::Polls => poll_data(script),
@@ -220,10 +219,12 @@ fn take_turn(script: &[u8], waiting: Waiting) -> Poll
                 ByteAnswer::Byte(b) => Poll {
                     answer: Polled::Data(b),
                     used,
+                    pairs: 0,
                 },
                 ByteAnswer::Refused(e) => Poll {
                     answer: Polled::Refused(e),
                     used,
+                    pairs: 0,
                 },
             }
         }
@@ -231,7 +232,7 @@ fn take_turn(script: &[u8], waiting: Waiting) -> Poll
 }
 
 // One attempt: sends a byte, then receives the response.
-pub fn polling_send_receive(script: &[u8], log: &mut [u8], value: HostToDevice) -> SentReceived
+pub fn polling_send_receive(script: &[u8], log: &mut [u8], value: HostToDevice) -> Received
     ensures { λ r. ⌜ played (saidResponse (r .answer)) (r .used) (r .pairs) (now (log .exit)) ≡ play (pollingSendReceive value) (now (script .entry)) (now (log .entry)) ⌝ }
 {
     let s = polling_send(script, log, value);
@@ -242,13 +243,13 @@ pub fn polling_send_receive(script: &[u8], log: &mut [u8], value: HostToDevice) 
         Completion::Done => {
             let r = polling_receive(&script[used..]);
             let answer = r.answer;
-            SentReceived {
+            Received {
                 answer,
                 used: used + r.used,
                 pairs,
             }
         }
-        Completion::Refused(e) => SentReceived {
+        Completion::Refused(e) => Received {
             answer: ResponseAnswer::Refused(e),
             used,
             pairs,
@@ -294,7 +295,7 @@ pub fn polling_send(script: &[u8], log: &mut [u8], value: HostToDevice) -> Compl
 
 // Polls until a device's response comes; an unlisted byte is thrown away and uses up its poll.
 pub fn polling_receive(script: &[u8]) -> Received
-    ensures { λ r. ⌜ Reads pollingReceive (now (script .entry)) (saidResponse (r .answer)) (r .used) ⌝ }
+    ensures { λ r. ⌜ Reads pollingReceive (now (script .entry)) (saidResponse (r .answer)) (r .used) (r .pairs) ⌝ }
 {
     let mut used: usize = 0;
     let mut polls = POLL_LIMIT;
@@ -318,12 +319,16 @@ pub fn polling_receive(script: &[u8]) -> Received
         }
         polls -= 1;
     };
-    Received { answer, used }
+    Received {
+        answer,
+        used,
+        pairs: 0,
+    }
 }
 
 // One poll: reads the status, and data where the status says that there is some.
 pub fn poll_data(script: &[u8]) -> Poll
-    ensures { λ r. ⌜ Reads pollData (now (script .entry)) (saidPolled (r .answer)) (r .used) ⌝ }
+    ensures { λ r. ⌜ Reads pollData (now (script .entry)) (saidPolled (r .answer)) (r .used) (r .pairs) ⌝ }
 {
     let s = status_register(script);
     let used = s.used;
@@ -338,22 +343,26 @@ pub fn poll_data(script: &[u8]) -> Poll
                     ByteAnswer::Byte(b) => Poll {
                         answer: Polled::Data(b),
                         used: both,
+                        pairs: 0,
                     },
                     ByteAnswer::Refused(e) => Poll {
                         answer: Polled::Refused(e),
                         used: both,
+                        pairs: 0,
                     },
                 }
             } else {
                 Poll {
                     answer: Polled::Nothing,
                     used,
+                    pairs: 0,
                 }
             }
         }
         StatusAnswer::Refused(e) => Poll {
             answer: Polled::Refused(e),
             used,
+            pairs: 0,
         },
     }
 }

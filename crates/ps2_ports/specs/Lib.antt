@@ -1,3 +1,2 @@
--- Refusals by number, and the registers as operations on the ports.
-pub mod Refusals
+-- The registers as operations on the ports.
 pub mod Ports

@@ -1,8 +1,7 @@
--- The registers of the controller, as operations on its ports, and what the code's answers say of their ends. Data is port 60; status and commands are port 64.
+-- The registers of the controller, as operations on its ports. Data is port 60; status and commands are port 64.
 -- Assumes nothing.
-use mathlib.Core.Bool.{Bool}
 use Prim.Native.Nat.{ℕ}
-use Rattle.exchange.specs.Exchange.{Port, p60, p64, Exchange, done, read, write, End, yields}
+use Rattle.exchange.specs.Exchange.{Port, p60, p64, Exchange, done, read, write}
 use Rattle.exchange.specs.Answer.{Answer, gives}
 use Rattle.ps2_bytes.specs.declared.command.HostToControllerCommand.{HostToControllerCommand}
 use Rattle.ps2_bytes.specs.declared.command.HostToControllerCommand.the-variants.{ReadFromInternalRAMByte0, WriteToInternalRAMByte0}
@@ -11,11 +10,7 @@ use Rattle.ps2_layouts.specs.declared.status.ControllerToHostStatus.{Controller
 use Rattle.ps2_bytes.specs.declared.writable.WritableData.{WritableData}
 use Rattle.ps2_bytes.specs.Commands.{controllerByte}
 use Rattle.ps2_bytes.specs.Writable.{written}
-use Rattle.ps2_ports.specs.Refusals.{Success, success, refused}
-use Rattle.ps2_ports.specs.declared.ByteAnswer.{ByteAnswer}
-use Rattle.ps2_ports.specs.declared.StatusAnswer.{StatusAnswer}
-use Rattle.ps2_ports.specs.declared.ConfigAnswer.{ConfigAnswer}
-use Rattle.ps2_ports.specs.declared.FullAnswer.{FullAnswer}
+use Rattle.ps2_answers.specs.Refusals.{Success, success}
 
 -- One byte from a port; one byte to a port.
 unfoldable pub readPort : Port → Exchange (Answer ℕ)
@@ -47,20 +42,3 @@ readConfig = write p64 (controllerByte ReadFromInternalRAMByte0) (read p60 (λ b
 
 unfoldable pub writeConfig : ControllerConfigurationByte → Exchange (Answer Success)
 writeConfig c = write p64 (controllerByte WriteToInternalRAMByte0) (write p60 (c .bits) (done (gives success)))
-
--- What the answers of the reads say of the end of a play.
-abbrev pub saidByte : ByteAnswer → End (Answer ℕ)
-saidByte (ByteAnswer.Byte b) = yields (gives b)
-saidByte (ByteAnswer.Refused r) = refused r
-
-abbrev pub saidStatus : StatusAnswer → End (Answer ControllerToHostStatus)
-saidStatus (StatusAnswer.Status s) = yields (gives s)
-saidStatus (StatusAnswer.Refused r) = refused r
-
-abbrev pub saidConfig : ConfigAnswer → End (Answer ControllerConfigurationByte)
-saidConfig (ConfigAnswer.Config c) = yields (gives c)
-saidConfig (ConfigAnswer.Refused r) = refused r
-
-abbrev pub saidFull : FullAnswer → End (Answer Bool)
-saidFull (FullAnswer.Full full) = yields (gives full)
-saidFull (FullAnswer.Refused r) = refused r

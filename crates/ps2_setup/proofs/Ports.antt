@@ -9,19 +9,19 @@ use Rattle.exchange.specs.Answer.{gives, onGiven, andThen}
 use Rattle.exchange.proofs.Calls.{bind-done}
 use Rattle.ps2_bytes.specs.declared.command.HostToControllerCommand.{HostToControllerCommand}
 use Rattle.ps2_layouts.specs.declared.configuration.ControllerConfigurationByte.{ControllerConfigurationByte}
-use Rattle.ps2_ports.specs.declared.Completion.{Completion}
+use Rattle.ps2_answers.specs.declared.Completion.{Completion}
 use Rattle.ps2_ports.specs.declared.DevicePort.{DevicePort}
-use Rattle.ps2_ports.specs.declared.Refusal.{Refusal}
-use Rattle.ps2_ports.specs.Refusals.{refused, saidDone}
+use Rattle.ps2_answers.specs.declared.Refusal.{Refusal}
+use Rattle.ps2_answers.specs.Refusals.{refused, saidDone}
 use Rattle.ps2_ports.specs.Ports.{writeCommand}
-use Rattle.ps2_ports.proofs.Refusals.{writes-refused}
+use Rattle.ps2_answers.proofs.Refusals.{writes-refused}
 use Rattle.ps2_setup.specs.SetUp.{running, enablePort}
 use Rattle.ps2_setup.specs.Answers.{enableOf, clockOf, interruptOf}
 
 module _ (port : DevicePort) (config : ControllerConfigurationByte) (l : List ℕ) {command : HostToControllerCommand} (h : command ≡ enableOf port)
-    {a : Completion} {w : ℕ} {l′ : List ℕ} (r : Writes (writeCommand command) l (saidDone a) w l′) where
+    {a : Completion} {u w : ℕ} {l′ : List ℕ} (r : Writes (writeCommand command) l (saidDone a) u w l′) where
   pub port-enabled : a ≡ Completion.Done → {x : ControllerConfigurationByte} → x ≡ running (clockOf port) (interruptOf port) config
-      → Writes (enablePort (enableOf port) (clockOf port) (interruptOf port) true config) l (yields (gives x)) w l′
+      → Writes (enablePort (enableOf port) (clockOf port) (interruptOf port) true config) l (yields (gives x)) 0 w l′
   unfolding andThen
   port-enabled q k =
       record {
@@ -30,8 +30,9 @@ module _ (port : DevicePort) (config : ControllerConfigurationByte) (l : List �
             rw k
             (bind-done (writeCommand (enableOf port)) (onGiven (λ _. done (gives (running (clockOf port) (interruptOf port) config)))) s l (rw h at (r .with-any s))
             (ap saidDone q) refl);
+        no-bytes = refl;
       }
 
-  pub port-refused : (x : Refusal) → a ≡ Completion.Refused x → Writes (enablePort (enableOf port) (clockOf port) (interruptOf port) true config) l (refused x) w l′
+  pub port-refused : (x : Refusal) → a ≡ Completion.Refused x → Writes (enablePort (enableOf port) (clockOf port) (interruptOf port) true config) l (refused x) 0 w l′
   unfolding andThen
   port-refused x q = writes-refused (writeCommand (enableOf port)) (λ _. done (gives (running (clockOf port) (interruptOf port) config))) l (rw h at r) x (ap saidDone q)

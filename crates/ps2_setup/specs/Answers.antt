@@ -2,18 +2,14 @@
 -- Assumes nothing.
 use mathlib.Core.Bool.{Bool}
 use Prim.Native.Nat.{ℕ}
-use Rattle.exchange.specs.Exchange.{End, yields, noScript, noLog}
+use Rattle.exchange.specs.Exchange.{End, yields, lacks}
 use Rattle.exchange.specs.Answer.{Answer, gives}
 use Rattle.ps2_bytes.specs.declared.command.HostToControllerCommand.{HostToControllerCommand}
 use Rattle.ps2_bytes.specs.declared.command.HostToControllerCommand.the-variants.{EnablePort1, EnablePort2}
 use Rattle.ps2_layouts.specs.Configuration.{port1Interrupt, port2Interrupt, port1ClockDisabled, port2ClockDisabled}
 use Rattle.ps2_ports.specs.declared.DevicePort.{DevicePort}
 use Rattle.ps2_ports.specs.declared.DevicePort.the-variants.{Port1, Port2}
-use Rattle.ps2_ports.specs.declared.Refusal.{Refusal}
-use Rattle.ps2_ports.specs.declared.Refusal.the-variants as Refusal
-use Rattle.ps2_ports.specs.Refusals.{refused}
-use Rattle.ps2_setup.specs.declared.Lack.{Lack}
-use Rattle.ps2_setup.specs.declared.Lack.the-variants.{ScriptUsedUp, LogFull}
+use Rattle.ps2_answers.specs.Refusals.{lackOf, refused}
 use Rattle.ps2_setup.specs.declared.Trial.{Trial}
 use Rattle.ps2_setup.specs.declared.WorkingPorts.{WorkingPorts}
 use Rattle.ps2_setup.specs.declared.PortsAnswer.{PortsAnswer}
@@ -21,18 +17,10 @@ use Rattle.ps2_setup.specs.SetUp.{Ports}
 
 -- ---- steps whose failure is forgiven
 
--- "2 and 3 are replaced by nothing, forgiven by nothing": how they end a play, and as refusals.
-abbrev pub lacked : {A : Type 0} → Lack → End A
-lacked ScriptUsedUp = noScript
-lacked LogFull = noLog
-
-abbrev pub lackRefusal : Lack → Refusal
-lackRefusal ScriptUsedUp = Refusal.ScriptUsedUp
-lackRefusal LogFull = Refusal.LogFull
-
+-- "2 and 3 are replaced by nothing, forgiven by nothing."
 abbrev pub saidTrial : Trial → End Bool
 saidTrial (Trial.Worked b) = yields b
-saidTrial (Trial.Lacked x) = lacked x
+saidTrial (Trial.Lacked l) = lacks (lackOf l)
 
 -- ---- the two ports
 

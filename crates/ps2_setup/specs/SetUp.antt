@@ -10,7 +10,7 @@ use Rattle.ps2_bytes.specs.declared.command.HostToControllerCommand.{HostToCont
 use Rattle.ps2_bytes.specs.declared.command.HostToControllerCommand.the-variants.{DisablePort1, DisablePort2, EnablePort1, EnablePort2, TestPort1, TestPort2}
 use Rattle.ps2_layouts.specs.declared.configuration.ControllerConfigurationByte.{ControllerConfigurationByte}
 use Rattle.ps2_layouts.specs.Configuration.{port1Interrupt, port2Interrupt, port1ClockDisabled, port2ClockDisabled, port1Translation}
-use Rattle.ps2_ports.specs.Refusals.{Success}
+use Rattle.ps2_answers.specs.Refusals.{Success}
 use Rattle.ps2_ports.specs.Ports.{writeCommand, flushOutputBuffer, readConfig, writeConfig}
 use Rattle.ps2_polling.specs.Polling.{testController, testPort}
 

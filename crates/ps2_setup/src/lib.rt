@@ -5,36 +5,31 @@ ghost use Rattle.exchange.specs.Answer.{andThen};
 ghost use Rattle.exchange.specs.Refuses.{given};
 ghost use Rattle.ps2_bytes.specs.declared.command.HostToControllerCommand.the-variants.{EnablePort2};
 ghost use Rattle.ps2_layouts.specs.Configuration.{port2Interrupt, port2ClockDisabled};
-ghost use Rattle.ps2_ports.specs.Ports.{flushOutputBuffer, readConfig, writeConfig, saidConfig};
-ghost use Rattle.ps2_ports.specs.Refusals.{saidDone};
+ghost use Rattle.ps2_ports.specs.Ports.{flushOutputBuffer, readConfig, writeConfig};
+ghost use Rattle.ps2_answers.specs.Answers.{saidConfig};
+ghost use Rattle.ps2_answers.specs.Refusals.{saidDone};
 ghost use Rattle.ps2_polling.specs.Polling.{testController};
 ghost use Rattle.ps2_setup.specs.SetUp.{quieted as quietedRule, running as runningRule, disableDevices, testWith, testSecond, atLeastOne, testPorts, enablePort, enablePorts};
-ghost use Rattle.ps2_setup.specs.Answers.{lackRefusal, saidTrial, enableOf, clockOf, interruptOf, portsOf, saidPorts};
+ghost use Rattle.ps2_setup.specs.Answers.{saidTrial, enableOf, clockOf, interruptOf, portsOf, saidPorts};
+use ps2_answers::Completed;
+use ps2_answers::Completion;
+use ps2_answers::ConfigAnswer;
+use ps2_answers::ConfigRead;
+use ps2_answers::Failure;
+use ps2_answers::Lack;
+use ps2_answers::Refusal;
 use ps2_bytes::HostToControllerCommand;
 use ps2_layouts::ControllerConfigurationByte;
 use ps2_polling::test;
 use ps2_polling::test_port1;
 use ps2_polling::test_port2;
-use ps2_ports::Completed;
-use ps2_ports::Completion;
-use ps2_ports::ConfigAnswer;
-use ps2_ports::ConfigRead;
 use ps2_ports::DevicePort;
-use ps2_ports::Failure;
-use ps2_ports::Refusal;
-use ps2_ports::Written;
 use ps2_ports::flush_output_buffer;
 use ps2_ports::read_config;
 use ps2_ports::write_command;
 use ps2_ports::write_config;
 
-// What no step forgives.
-pub enum Lack {
-    ScriptUsedUp,
-    LogFull,
-}
-
-// The answer of a step whose failure is forgiven: whether it worked.
+// The answer of a step whose failure is forgiven: whether it worked. Nothing forgives a lack.
 pub enum Trial {
     Worked(bool),
     Lacked(Lack),
@@ -55,11 +50,6 @@ pub struct PortsTested {
     pub answer: PortsAnswer,
     pub used: usize,
     pub pairs: usize,
-}
-
-struct ConfigWritten {
-    answer: ConfigAnswer,
-    pairs: usize,
 }
 
 // Disables both ports, and reads the configuration.
@@ -210,8 +200,8 @@ pub fn test_ports(script: &[u8], log: &mut [u8], has_mouse: bool) -> PortsTested
                 pairs: pairs + s.pairs,
             }
         }
-        Trial::Lacked(x) => PortsTested {
-            answer: PortsAnswer::Refused(lack_refusal(x)),
+        Trial::Lacked(lack) => PortsTested {
+            answer: PortsAnswer::Refused(Refusal::Lacking(lack)),
             used,
             pairs,
         },
@@ -233,8 +223,8 @@ fn test_second(script: &[u8], log: &mut [u8], has_mouse: bool, port_1_works: boo
                 used,
                 pairs,
             },
-            Trial::Lacked(x) => PortsTested {
-                answer: PortsAnswer::Refused(lack_refusal(x)),
+            Trial::Lacked(lack) => PortsTested {
+                answer: PortsAnswer::Refused(Refusal::Lacking(lack)),
                 used,
                 pairs,
             },
@@ -272,20 +262,9 @@ pub fn tried(answer: Completion) -> Trial
     match answer {
         Completion::Done => Trial::Worked(true),
         Completion::Refused(e) => match e {
-            Refusal::ScriptUsedUp => Trial::Lacked(Lack::ScriptUsedUp),
-            Refusal::LogFull => Trial::Lacked(Lack::LogFull),
+            Refusal::Lacking(lack) => Trial::Lacked(lack),
             Refusal::Failed(_) => Trial::Worked(false),
         },
-    }
-}
-
-// What no step forgives, as the refusal that it is.
-pub fn lack_refusal(lack: Lack) -> Refusal
-    ensures { λ r. ⌜ r ≡ lackRefusal lack ⌝ }
-{
-    match lack {
-        Lack::ScriptUsedUp => Refusal::ScriptUsedUp,
-        Lack::LogFull => Refusal::LogFull,
     }
 }
 
@@ -294,8 +273,8 @@ pub fn enable_ports(
     log: &mut [u8],
     ports: WorkingPorts,
     config: ControllerConfigurationByte,
-) -> Written
-    ensures { λ r. ⌜ Writes (enablePorts (portsOf ports) config) (now (log .entry)) (saidDone (r .answer)) (r .pairs) (now (log .exit)) ⌝ }
+) -> Completed
+    ensures { λ r. ⌜ Writes (enablePorts (portsOf ports) config) (now (log .entry)) (saidDone (r .answer)) (r .used) (r .pairs) (now (log .exit)) ⌝ }
 {
     let e = enable_port(log, DevicePort::Port1, ports.port_1_works, config);
     let pairs = e.pairs;
@@ -305,21 +284,23 @@ pub fn enable_ports(
             let at = 2 * pairs;
             let w = enable_port2(&mut log[at..], ports.port_2_works, with_port1);
             let answer = w.answer;
-            Written {
+            Completed {
                 answer,
+                used: 0,
                 pairs: pairs + w.pairs,
             }
         }
-        ConfigAnswer::Refused(e) => Written {
+        ConfigAnswer::Refused(e) => Completed {
             answer: Completion::Refused(e),
+            used: 0,
             pairs,
         },
     }
 }
 
 // The second port, and then the configuration.
-fn enable_port2(log: &mut [u8], works: bool, config: ControllerConfigurationByte) -> Written
-    ensures { λ r. ⌜ Writes (andThen (enablePort EnablePort2 port2ClockDisabled port2Interrupt works config) (λ c. writeConfig c)) (now (log .entry)) (saidDone (r .answer)) (r .pairs) (now (log .exit)) ⌝ }
+fn enable_port2(log: &mut [u8], works: bool, config: ControllerConfigurationByte) -> Completed
+    ensures { λ r. ⌜ Writes (andThen (enablePort EnablePort2 port2ClockDisabled port2Interrupt works config) (λ c. writeConfig c)) (now (log .entry)) (saidDone (r .answer)) (r .used) (r .pairs) (now (log .exit)) ⌝ }
 {
     let e = enable_port(log, DevicePort::Port2, works, config);
     let pairs = e.pairs;
@@ -329,13 +310,15 @@ fn enable_port2(log: &mut [u8], works: bool, config: ControllerConfigurationByte
             let at = 2 * pairs;
             let w = write_config(&mut log[at..], with_port2);
             let answer = w.answer;
-            Written {
+            Completed {
                 answer,
+                used: 0,
                 pairs: pairs + w.pairs,
             }
         }
-        ConfigAnswer::Refused(e) => Written {
+        ConfigAnswer::Refused(e) => Completed {
             answer: Completion::Refused(e),
+            used: 0,
             pairs,
         },
     }
@@ -347,26 +330,29 @@ fn enable_port(
     port: DevicePort,
     works: bool,
     config: ControllerConfigurationByte,
-) -> ConfigWritten
-    ensures { λ r. ⌜ Writes (enablePort (enableOf port) (clockOf port) (interruptOf port) works config) (now (log .entry)) (saidConfig (r .answer)) (r .pairs) (now (log .exit)) ⌝ }
+) -> ConfigRead
+    ensures { λ r. ⌜ Writes (enablePort (enableOf port) (clockOf port) (interruptOf port) works config) (now (log .entry)) (saidConfig (r .answer)) (r .used) (r .pairs) (now (log .exit)) ⌝ }
 {
     if works {
         let w = write_command(log, enable_command(port));
         let pairs = w.pairs;
         let written = w.answer;
         match written {
-            Completion::Done => ConfigWritten {
+            Completion::Done => ConfigRead {
                 answer: ConfigAnswer::Config(running(port, config)),
+                used: 0,
                 pairs,
             },
-            Completion::Refused(e) => ConfigWritten {
+            Completion::Refused(e) => ConfigRead {
                 answer: ConfigAnswer::Refused(e),
+                used: 0,
                 pairs,
             },
         }
     } else {
-        ConfigWritten {
+        ConfigRead {
             answer: ConfigAnswer::Config(config),
+            used: 0,
             pairs: 0,
         }
     }

@@ -4,6 +4,11 @@ use packed_calls::NO_CALL;
 use packed_calls::Outcome;
 use packed_calls::bit;
 use packed_calls::ending;
+use ps2_answers::Completed;
+use ps2_answers::Completion;
+use ps2_answers::ConfigAnswer;
+use ps2_answers::ConfigRead;
+use ps2_answers::Refusal;
 use ps2_bytes::DeviceToHostResponse;
 use ps2_bytes::HostToDevice;
 use ps2_bytes::HostToKeyboardCommand;
@@ -19,8 +24,6 @@ use ps2_bytes::ResolutionByte;
 use ps2_bytes::SampleRateByte;
 use ps2_bytes::ScancodeSet;
 use ps2_bytes::ScancodeSetByte;
-use ps2_command::CommandAnswer;
-use ps2_command::Commanded;
 use ps2_detect::Detected;
 use ps2_detect::TypeAnswer;
 use ps2_detect::keyboard_detect;
@@ -28,7 +31,7 @@ use ps2_init::Initialized;
 use ps2_init::PS2Controller;
 use ps2_init::init;
 use ps2_keyboard::SetAnswer;
-use ps2_keyboard::SetAsked;
+use ps2_keyboard::SetRead;
 use ps2_keyboard::command_to_keyboard;
 use ps2_keyboard::get_keyboard_scancode_set;
 use ps2_keyboard::reset_keyboard;
@@ -51,12 +54,6 @@ use ps2_polling::polling_send;
 use ps2_polling::test;
 use ps2_polling::test_port1;
 use ps2_polling::test_port2;
-use ps2_ports::Completed;
-use ps2_ports::Completion;
-use ps2_ports::ConfigAnswer;
-use ps2_ports::ConfigRead;
-use ps2_ports::Refusal;
-use ps2_ports::Written;
 use ps2_ports::read_config;
 use ps2_ports::write_config;
 ghost use Prim.Native.Nat.{_≤_};
@@ -68,21 +65,9 @@ fn completion_number(answer: Completion) -> u8 {
     }
 }
 
-fn command_number(answer: CommandAnswer) -> u8 {
-    match answer {
-        CommandAnswer::Accepted => 0,
-        CommandAnswer::Refused(e) => e.number(),
-    }
-}
-
 fn completed(c: Completed) -> Outcome {
     let answer = c.answer;
     ending(completion_number(answer), c.used, c.pairs, 0)
-}
-
-fn commanded(c: Commanded) -> Outcome {
-    let answer = c.answer;
-    ending(command_number(answer), c.used, c.pairs, 0)
 }
 
 fn refused(refusal: Refusal, used: usize, pairs: usize) -> Outcome {
@@ -117,11 +102,6 @@ fn initialized(c: Initialized) -> Outcome {
     }
 }
 
-fn written(c: Written) -> Outcome {
-    let answer = c.answer;
-    ending(completion_number(answer), 0, c.pairs, 0)
-}
-
 fn config_read(c: ConfigRead) -> Outcome {
     let answer = c.answer;
     match answer {
@@ -146,12 +126,12 @@ fn response_byte(response: DeviceToHostResponse) -> u64 {
 fn received(c: Received) -> Outcome {
     let answer = c.answer;
     match answer {
-        ResponseAnswer::Response(response) => ending(0, c.used, 0, response_byte(response)),
-        ResponseAnswer::Refused(e) => refused(e, c.used, 0),
+        ResponseAnswer::Response(response) => ending(0, c.used, c.pairs, response_byte(response)),
+        ResponseAnswer::Refused(e) => refused(e, c.used, c.pairs),
     }
 }
 
-fn set_asked(c: SetAsked) -> Outcome {
+fn set_read(c: SetRead) -> Outcome {
     let answer = c.answer;
     match answer {
         SetAnswer::Set(set) => ending(0, c.used, c.pairs, set.to_byte() as u64),
@@ -235,8 +215,8 @@ fn packet_number(packet: MousePacket) -> u64 {
 fn packet_read(c: PacketRead) -> Outcome {
     let answer = c.answer;
     match answer {
-        PacketAnswer::Packet(packet) => ending(0, c.used, 0, packet_number(packet)),
-        PacketAnswer::Refused(e) => refused(e, c.used, 0),
+        PacketAnswer::Packet(packet) => ending(0, c.used, c.pairs, packet_number(packet)),
+        PacketAnswer::Refused(e) => refused(e, c.used, c.pairs),
     }
 }
 
@@ -362,7 +342,7 @@ fn complete(op: u8, argument: u8, script: &[u8], log: &mut [u8]) -> Completed {
 }
 
 // A byte to the keyboard, 8 to 10, or to the mouse, 12 to 14.
-fn send(op: u8, argument: u8, script: &[u8], log: &mut [u8]) -> Commanded {
+fn send(op: u8, argument: u8, script: &[u8], log: &mut [u8]) -> Completed {
     if op < 12 {
         return command_to_keyboard(script, log, keyboard_value(op, argument));
     }
@@ -370,7 +350,7 @@ fn send(op: u8, argument: u8, script: &[u8], log: &mut [u8]) -> Commanded {
 }
 
 // The operations that are one command, 8 to 18.
-fn command(op: u8, argument: u8, script: &[u8], log: &mut [u8]) -> Commanded {
+fn command(op: u8, argument: u8, script: &[u8], log: &mut [u8]) -> Completed {
     match op {
         11 => set_keyboard_led(script, log, leds_of(argument)),
         15 => PS2Mouse::set_mouse_sampling_rate(script, log, rate_of(argument)),
@@ -384,13 +364,13 @@ fn command(op: u8, argument: u8, script: &[u8], log: &mut [u8]) -> Commanded {
 // The operations that ask for a value, and those on the controller's configuration and record, which are the state, 19 to 25.
 fn ask(op: u8, state: usize, script: &[u8], log: &mut [u8]) -> Outcome {
     match op {
-        19 => written(write_config(
+        19 => completed(write_config(
             log,
             ControllerConfigurationByte::from_byte((state % 256) as u8),
         )),
         20 => config_read(read_config(script, log)),
         21 => received(polling_receive(script)),
-        22 => set_asked(get_keyboard_scancode_set(script, log)),
+        22 => set_read(get_keyboard_scancode_set(script, log)),
         23 => detected(keyboard_detect(script, log)),
         24 => identified(PS2Mouse::mouse_id(script, log)),
         _ => initialized(init(controller_of(state), script, log)),
@@ -412,7 +392,7 @@ fn call(i: Instruction, script: &[u8], log: &mut [u8]) -> Outcome {
         return completed(complete(i.op, i.argument, script, log));
     }
     if i.op < 19 {
-        return commanded(command(i.op, i.argument, script, log));
+        return completed(command(i.op, i.argument, script, log));
     }
     if i.op < 26 {
         return ask(i.op, i.state, script, log);

@@ -1,15 +1,15 @@
 // A run of handler calls and takings on one record, and what else is on keys.
+use keyboard::Handled;
 use keyboard::handle;
 use keyboard_init::KeyboardInitialized;
 use keyboard_init::keyboard_init;
 use keyboard_modifiers::KeyboardModifiers;
-use keyboard_rule::EventQueue;
-use keyboard_rule::Handled;
-use keyboard_rule::KeyboardHandler;
-use keyboard_rule::KeyboardState;
-use keyboard_rule::Taken;
-use keyboard_rule::TakenEvent;
-use keyboard_taking::take_event;
+use keyboard_record::HandlerState;
+use keyboard_record::KeyboardHandler;
+use keyboard_record::Taken;
+use keyboard_record::TakenEvent;
+use keyboard_record::take_event;
+use keyboard_scancodes::KeyboardState;
 use keycodes_ascii::Character;
 use keycodes_ascii::FoundKeycode;
 use keycodes_ascii::KeyAction;
@@ -24,7 +24,7 @@ use packed_calls::SILENT;
 use packed_calls::bit;
 use packed_calls::ending;
 use packed_calls::plus;
-use ps2_ports::Completion;
+use ps2_answers::Completion;
 ghost use Prim.Native.Nat.{_≤_};
 
 // The bytes used of a run that makes no further call.
@@ -67,13 +67,17 @@ fn flags_of(state: usize) -> KeyboardModifiers {
 // A record with a prefix, flags and an empty queue.
 fn begun(i: Instruction) -> KeyboardHandler {
     let fresh = KeyboardHandler::fresh();
-    let queue = fresh.queue;
+    let places = fresh.places;
     KeyboardHandler {
-        keyboard: KeyboardState {
-            prefix: i.argument == 1,
-            modifiers: flags_of(i.state),
+        state: HandlerState {
+            keyboard: KeyboardState {
+                prefix: i.argument == 1,
+                modifiers: flags_of(i.state),
+            },
+            start: 0,
+            count: 0,
         },
-        queue,
+        places,
     }
 }
 
@@ -87,21 +91,21 @@ fn action_of(number: usize) -> KeyAction {
 
 // The record with an event behind those that wait, where there is room.
 fn with_event(handler: KeyboardHandler, event: KeyEvent) -> KeyboardHandler {
-    let queue = handler.queue;
-    let count = queue.count;
+    let state = handler.state;
+    let count = state.count;
     if 128 <= count {
         return handler;
     }
-    let mut places = queue.places;
+    let mut places = handler.places;
     places[count] = event;
-    let keyboard = handler.keyboard;
+    let keyboard = state.keyboard;
     KeyboardHandler {
-        keyboard,
-        queue: EventQueue {
-            places,
+        state: HandlerState {
+            keyboard,
             start: 0,
             count: count + 1,
         },
+        places,
     }
 }
 
@@ -158,8 +162,9 @@ fn event_number(event: KeyEvent) -> u64 {
 
 // A record's prefix, flags and number of waiting events, as a number.
 fn record_number(handler: KeyboardHandler) -> u64 {
-    let count = (handler.queue.count % 65536) as u64;
-    bit(handler.keyboard.prefix) + 2 * handler.keyboard.modifiers.bits as u64 + 131072 * count
+    let state = handler.state;
+    let count = (state.count % 65536) as u64;
+    bit(state.keyboard.prefix) + 2 * state.keyboard.modifiers.bits as u64 + 131072 * count
 }
 
 // The bytes used after a handler call: a run ends at the first 2, 3 or 21.
@@ -237,6 +242,9 @@ fn taken(t: Taken, used: usize, op: u8) -> Turn {
     let event = t.event;
     let handler = t.handler;
     let outcome = taken_outcome(event);
+    if outcome.number == 21 {
+        return last(handler, ENDED, outcome);
+    }
     Turn {
         handler,
         used,

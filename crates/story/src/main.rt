@@ -1,11 +1,11 @@
 // The story of a full queue: the release of Control finds no room for its event, and T is still no Control-T.
+use keyboard::Handled;
+use keyboard::HandlerAnswer;
 use keyboard::handle;
 use keyboard_modifiers::KeyboardModifiers;
-use keyboard_rule::Handled;
-use keyboard_rule::HandlerAnswer;
-use keyboard_rule::KeyboardHandler;
-use keyboard_rule::TakenEvent;
-use keyboard_taking::take_event;
+use keyboard_record::KeyboardHandler;
+use keyboard_record::TakenEvent;
+use keyboard_record::take_event;
 use libc::STDOUT_FILENO;
 
 const CONTROL_PRESSED: u8 = 0x1D;
@@ -119,7 +119,7 @@ fn tell_t(handler: KeyboardHandler) {
 fn main() {
     let held = after_byte(KeyboardHandler::fresh(), CONTROL_PRESSED);
     let full = fill(held);
-    let waiting = full.queue.count;
+    let waiting = full.state.count;
     tell(
         b"Control is pressed, then A 127 times: ",
         waiting as u64,

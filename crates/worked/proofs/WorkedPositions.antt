@@ -16,13 +16,13 @@ use Rattle.ps2_command.specs.Command.{attempt, command, commandToPort2}
 use Rattle.ps2_keyboard.specs.Keyboard.{commandToKeyboard, setLedBy, setKeyboardLed}
 use Rattle.ps2_mouse.specs.Mouse.{commandToMouse}
 use Rattle.ps2_packet_reading.specs.Reading.{readMousePacket}
-use Rattle.keyboard_rule.specs.Events.{keycodeAt, eventOf}
-use Rattle.keyboard_rule.specs.FlagTable.{flagTable, flagLimit, isOf, pressesLock}
-use Rattle.keyboard_rule.specs.FlagsAfter.{flagsAfter, flagsThen}
-use Rattle.keyboard_rule.specs.Handler.{queued, lampExchange, onByte, handle, handled, logLeft}
-use Rattle.keyboard_rule.specs.Lamps.{lampsLit}
-use Rattle.keyboard_rule.specs.Queue.{round, pushed}
-use Rattle.keyboard_rule.specs.Record.{wellFormed}
+use Rattle.keyboard_scancodes.specs.Events.{keycodeAt, eventOf}
+use Rattle.keyboard_scancodes.specs.FlagTable.{flagTable, flagLimit, isOf, pressesLock}
+use Rattle.keyboard_scancodes.specs.FlagsAfter.{flagsAfter, flagsThen}
+use Rattle.keyboard.specs.Handler.{queued, lampExchange, onByte, handle, effects, handled, logLeft}
+use Rattle.keyboard_scancodes.specs.Lamps.{lampsLit}
+use Rattle.keyboard_record.specs.Queue.{round}
+use Rattle.keyboard_record.specs.Record.{wellFormed}
 use Rattle.worked.specs.Holds.{All, all, _&_, RowHolds}
 use Rattle.worked.specs.Table.{table}
 
@@ -31,7 +31,7 @@ whatever : {A : Type 0} {a : A} (b1 b2 b3 : ℕ) → a ≡ a
 whatever b1 b2 b3 = refl
 
 pub worked-positions : All RowHolds table
-unfolding table handled logLeft handle onByte lampExchange queued pushed round eventOf keycodeAt keycodeOf numbered keycodes flagsThen flagsAfter flagTable flagLimit isOf pressesLock lampsLit wellFormed characterOf setKeyboardLed setLedBy commandToKeyboard commandToMouse commandToPort2 readMousePacket writePort command attempt pollingSendReceive pollingSend sendTry pollingReceive poll play bind andThen refusingAs repeat decode bit odd putBit xor
+unfolding table handled effects logLeft handle onByte lampExchange queued round eventOf keycodeAt keycodeOf numbered keycodes flagsThen flagsAfter flagTable flagLimit isOf pressesLock lampsLit wellFormed characterOf setKeyboardLed setLedBy commandToKeyboard commandToMouse commandToPort2 readMousePacket writePort command attempt pollingSendReceive pollingSend sendTry pollingReceive poll play bind andThen refusingAs repeat decode bit odd putBit xor
 worked-positions =
     ((refl & refl & all) & all)
     & ((refl & refl & all) & all)

@@ -6,8 +6,8 @@ use mathlib.Core.Path.{_≡_}
 use Prim.Native.Char.{code}
 use Prim.Native.Nat.{ℕ, _+_, _*_, _^_}
 use lib.ListN.{take, replicate}
-use Rattle.exchange.specs.Exchange.{End, yields, noScript, noLog, play}
-use Rattle.exchange.specs.Answer.{Answer, gives, refuses}
+use Rattle.exchange.specs.Exchange.{End, yields, lacks, play}
+use Rattle.exchange.specs.Answer.{Answer, gives, refuses, numberEnded}
 use Rattle.keycodes_ascii.specs.declared.Character.{Character}
 use Rattle.keycodes_ascii.specs.declared.KeyEvent.{KeyEvent}
 use Rattle.keycodes_ascii.specs.Characters.{characterOf}
@@ -16,13 +16,11 @@ use Rattle.ps2_bytes.specs.declared.response.MouseId.the-variants.{Zero}
 use Rattle.ps2_packet.specs.Packet.{common, xMovement, wheel}
 use Rattle.ps2_mouse.specs.Mouse.{mouseCommand}
 use Rattle.ps2_packet_reading.specs.Reading.{readMousePacket}
-use Rattle.keyboard_rule.specs.declared.Handled.{Handled}
-use Rattle.keyboard_rule.specs.declared.KeyboardHandler.{KeyboardHandler}
-use Rattle.keyboard_rule.specs.Answers.{answerNumber}
-use Rattle.keyboard_rule.specs.Handler.{handled, logLeft}
-use Rattle.keyboard_rule.specs.KeyboardLamps.{keyboardLamps}
-use Rattle.keyboard_rule.specs.Queue.{waiting}
-use Rattle.keyboard_rule.specs.Record.{fresh}
+use Rattle.keyboard_record.specs.declared.KeyboardHandler.{KeyboardHandler}
+use Rattle.keyboard.specs.Handler.{Called, handled, logLeft}
+use Rattle.keyboard.specs.KeyboardLamps.{keyboardLamps}
+use Rattle.keyboard_record.specs.Queue.{waiting}
+use Rattle.keyboard_record.specs.Record.{fresh}
 use Rattle.worked.specs.Positions.{Seen, event, writes, noEvent, flags, refused, used, log, Position, scripts, xIs, wheelIs, character, mouseSends, Row, row}
 
 -- The word in which these flags are set, and no other.
@@ -41,11 +39,11 @@ written pairs left = take (2 * pairs) left
 
 -- A call, with the keyboard's own lamp exchange: what it gives back, and the log that it leaves.
 pub record Call : Type 0 where
-  pub gives-back : Handled
+  pub gives-back : Called
   pub leaves : List ℕ
 
 abbrev pub callOn : KeyboardHandler → List ℕ → Call
-callOn h script = record { gives-back = handled keyboardLamps h script freeLog; leaves = logLeft keyboardLamps h script freeLog }
+callOn h script = record { gives-back = handled keyboardLamps h script freeLog; leaves = logLeft keyboardLamps (h .state) script freeLog }
 
 -- The last of some calls, each on the record that the one before it gave back.
 abbrev pub lastCall : KeyboardHandler → List ℕ → List (List ℕ) → Call
@@ -59,7 +57,7 @@ newest (e ∷ []) = some e
 newest (e ∷ f ∷ es) = newest (f ∷ es)
 
 abbrev pub newestAfter : Call → Option KeyEvent
-newestAfter c = newest (waiting (c .gives-back .handler .queue))
+newestAfter c = newest (waiting (c .gives-back .handler))
 
 abbrev pub characterOfEvent : Option KeyEvent → Option Character
 characterOfEvent none = none
@@ -69,8 +67,8 @@ abbrev pub Sees : Call → Seen → Type 0
 Sees c (event key action carried) = newestAfter c ≡ some (record { keycode = key; action = action; modifiers = record { bits = word carried } })
 Sees c (writes sign) = characterOfEvent (newestAfter c) ≡ some (Character.Ascii (code sign))
 Sees c noEvent = newestAfter c ≡ none
-Sees c (flags set) = c .gives-back .handler .keyboard .modifiers .bits ≡ word set
-Sees c (refused number) = answerNumber (c .gives-back .answer) ≡ number
+Sees c (flags set) = c .gives-back .handler .state .keyboard .modifiers .bits ≡ word set
+Sees c (refused number) = numberEnded (c .gives-back .end) ≡ number
 Sees c (used bytes) = c .gives-back .used ≡ bytes
 Sees c (log pairs) = written (c .gives-back .pairs) (c .leaves) ≡ pairs
 
@@ -86,8 +84,7 @@ pub data All {A : Type 0} (P : A → Type 0) : List A → Type 0 where
 abbrev pub ReadAs : (MousePacket → Type 0) → End (Answer MousePacket) → Type 0
 ReadAs P (yields (gives packet)) = P packet
 ReadAs P (yields (refuses n)) = ⊥
-ReadAs P noScript = ⊥
-ReadAs P noLog = ⊥
+ReadAs P (lacks x) = ⊥
 
 abbrev pub Holds : Position → Type 0
 Holds (scripts [] seen) = ⊥

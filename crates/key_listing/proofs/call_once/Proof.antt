@@ -2,10 +2,14 @@
 -- Assumes nothing.
 use borrow.Author.Needs.{needs}
 use mathlib.Core.Path.{sym, ap, _∙_}
-use Rattle.keyboard_rule.specs.declared.Handled.{Handled}
-use Rattle.keyboard_rule.specs.declared.Taken.{Taken}
-use Rattle.keyboard_rule.specs.Answers.{ends2-3-21}
-use Rattle.keyboard_rule.specs.Taking.{taken}
+use mathlib.Core.Option.{Option}
+use Rattle.exchange.specs.Answer.{numberEnded}
+use Rattle.exchange.specs.Left.{Left}
+use Rattle.keycodes_ascii.specs.declared.KeyEvent.{KeyEvent}
+use Rattle.keyboard_record.specs.declared.KeyboardHandler.{KeyboardHandler}
+use Rattle.keyboard.specs.Handler.{Called}
+use Rattle.keyboard.specs.Answers.{ends2-3-21}
+use Rattle.keyboard_record.specs.Taking.{taken}
 use Rattle.key_listing.specs.Listing.{recordAfter}
 use Rattle.buffer.proofs.Buffer.{put-then}
 use Rattle.key_listing.proofs.Calls.{call-text}
@@ -19,11 +23,11 @@ returns c =
     let refused = told .before .before .before .before in
     let taking = refused .before .before .before in
     let called = taking .before .before .before .handle .ensures .0 in
-    let took = taking .take-event .ensures ∙ ap (λ (r : Handled). taken (r .handler)) called in (
-      c .is-last .ensures ∙ ap (λ (r : Handled). ends2-3-21 (r .answer)) called,
-      ap (λ (r : Handled). r .used) called,
-      ap (λ (t : Taken). t .handler) took,
-      rw (call-text _ _ (sym (ap (λ (r : Handled). r .answer) called)) (sym (ap (λ (t : Taken). t .event) took)))
+    let took = taking .take-event .ensures ∙ ap (λ (r : Called). taken (r .handler)) called in (
+      c .is-last .ensures ∙ ap (λ (r : Called). ends2-3-21 (r .end)) called,
+      ap (λ (r : Called). r .used) called,
+      ap (λ (t : Left KeyboardHandler (Option KeyEvent)). t .now) took,
+      rw (call-text _ _ (sym (ap (λ (r : Called). numberEnded (r .end)) called)) (sym (ap (λ (t : Left KeyboardHandler (Option KeyEvent)). t .answer) took)))
           (put-then _ _ _ (refused .put-refusal .ensures) (told .put-taken .ensures)),
     )
 

@@ -5,7 +5,7 @@ use native.Mathlib.Omega.{arith}
 use mathlib.Core.Path.{_≡_, refl, sym, _∙_}
 use Prim.Native.Nat.{_+_, _-_, _<_, _≤_}
 use lib.ListN.{length, drop, drop-of-length-le}
-use Rattle.keyboard_rule.specs.Record.{fresh}
+use Rattle.keyboard_record.specs.Record.{fresh}
 use Rattle.buffer.specs.Buffer.{place, put}
 use Rattle.key_listing.specs.Listing.{listingFrom}
 use Rattle.buffer.proofs.Buffer.{put-none}

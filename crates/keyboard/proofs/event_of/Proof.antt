@@ -1,7 +1,7 @@
 -- `keyboard::event_of` meets its contract: bytes from 80 up are releases.
 -- Assumes nothing.
 use borrow.Author.Tests.{lt-ltb, le-ltb}
-use Rattle.keyboard_rule.specs.Events.{eventOf}
+use Rattle.keyboard_scancodes.specs.Events.{eventOf}
 use Rattle.keyboard.proofs.event_of.Statement.{statement}
 use Rattle.keyboard.proofs.event_of.Tie as tie
 

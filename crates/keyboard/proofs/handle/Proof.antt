@@ -1,34 +1,31 @@
--- `keyboard::handle` meets its contract: the queue with the new event, or as it was.
+-- `keyboard::handle` meets its contract: the places with the new event, or as they were.
 -- Assumes nothing.
 use borrow.Author.Needs.{needs}
 use native.Mathlib.Omega.{arith}
-use Rattle.keyboard_rule.specs.KeyboardLamps.{keyboardLamps}
-use Rattle.keyboard_rule.specs.Queue.{pushed}
-use Rattle.keyboard.proofs.Effects.{event-known, queued-well}
-use Rattle.keyboard_rule.proofs.Ways.{WellFormed}
+use Rattle.keyboard_record.proofs.WellFormed.{WellFormed}
+use Rattle.keyboard.specs.KeyboardLamps.{keyboardLamps}
+use Rattle.keyboard.proofs.Effects.{called-with, queued-well}
 use Rattle.keyboard.proofs.handle.Statement.{statement}
 use Rattle.keyboard.proofs.handle.Tie as tie
 
--- where there is a new event, the record is well formed
-well : (c : tie.After-known-told) → WellFormed (c .before .before .before .before .before .before .before .before .before .before .before .before .args .handler)
-well c = queued-well keyboardLamps _ _ _ _ (c .before .new .given .1) (c .before .before .before .before .before .before .effect-of .ensures .0)
+-- where there is a new event, the state is well formed
+well : (c : tie.After-known-told) → WellFormed (c .before .before .before .before .before .before .before .before .before .before .before .before .args .handler .state)
+well c =
+    let x = c .before .before .before .before .before .before .effect-of in
+    queued-well keyboardLamps _ _ _ (x .result) (c .before .new .given .1) (x .ensures .0)
 
 add-place : tie.Need-add-place
 add-place c = omega (arith, well c .start-in, well c .count-in)
 
-add-count : tie.Need-add-count
-add-count c = omega (arith, well c .count-in)
-
 returns : tie.Need-returns
-unfolding pushed
 returns c =
-    let e = c .before .before .before .before .before .before .effect-of .ensures in
-    (event-known _ _ (c .before .new .given .1) (e .0), e .1)
+    let x = c .before .before .before .before .before .before .effect-of in
+    (called-with keyboardLamps _ _ _ (x .result) (c .before .new .given .1) (x .ensures .0), x .ensures .1)
 
 returns-2 : tie.Need-returns-2
 returns-2 c =
-    let e = c .before .before .before .before .before .effect-of .ensures in
-    (event-known _ _ (c .enum-told .given .1) (e .0), e .1)
+    let x = c .before .before .before .before .before .effect-of in
+    (called-with keyboardLamps _ _ _ (x .result) (c .enum-told .given .1) (x .ensures .0), x .ensures .1)
 
 pub handle-spec : {M : Type 1} → statement M
 handle-spec =
@@ -39,7 +36,6 @@ handle-spec =
     add-place
     (λ c. search needs)
     (λ c. search needs)
-    add-count
     (λ c. search needs)
     (λ c. search needs)
     returns

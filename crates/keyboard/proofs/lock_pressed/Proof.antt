@@ -1,11 +1,10 @@
--- `keyboard::lock_pressed` meets its contract: the lamp exchange, then the event; a used-up script or a full log ends both.
+-- `keyboard::lock_pressed` meets its contract: the lamp exchange, then the event; a lack of a byte or room ends both.
 -- Assumes nothing.
 use borrow.Author.Needs.{needs}
 use mathlib.Core.Path.{refl, ap, _∙_}
-use Rattle.ps2_ports.specs.Refusals.{refused}
-use Rattle.ps2_command.specs.Command.{saidCommand}
-use Rattle.keyboard_rule.specs.KeyboardLamps.{keyboardLamps}
-use Rattle.keyboard_rule.proofs.Outcomes.{gives-back, lamps-answer, lamps-no-script, lamps-no-log}
+use Rattle.ps2_answers.specs.Refusals.{refused, saidDone}
+use Rattle.keyboard.specs.KeyboardLamps.{keyboardLamps}
+use Rattle.keyboard.proofs.Outcomes.{gives-back, lamps-answer, lamps-lack}
 use Rattle.keyboard.proofs.lock_pressed.Statement.{statement}
 use Rattle.keyboard.proofs.lock_pressed.Tie as tie
 
@@ -13,45 +12,35 @@ returns : tie.Need-returns
 returns c =
     let m = c .before in
     let w = m .before .before .before .before in
-    let x = w .before .before .before .before .before .before in
+    let x = w .before .before .before .before .before in
     let a = x .args in
-    gives-back (a .handler) _ _ _
-    (lamps-answer keyboardLamps (a .handler) (a .scan-code) (a .modifiers .bits) _ _ (x .pre) (w .before .leds .ensures) (w .set-keyboard-led .ensures)
-    (ap saidCommand (m .enum-told .given .1)))
+    gives-back (a .state) _ _ _
+    (lamps-answer keyboardLamps (a .state) (a .scan-code) (a .modifiers .bits) _ _ (x .pre) (w .before .leds .ensures) (w .set-keyboard-led .ensures)
+    (ap saidDone (m .enum-told .given .1)))
     (c .queue-event .ensures)
 
 returns-2 : tie.Need-returns-2
 returns-2 c =
-    let m = c .before .before .before in
+    let f = c .before in
+    let m = f .before .before .before in
     let w = m .before .before .before .before in
-    let x = w .before .before .before .before .before .before in
+    let x = w .before .before .before .before .before in
     let a = x .args in
-    gives-back (a .handler) _ _ _
-    (lamps-no-script keyboardLamps (a .handler) (a .scan-code) (a .modifiers .bits) _ _ (x .pre) (w .before .leds .ensures) (w .set-keyboard-led .ensures)
-    (ap saidCommand (m .answer .given .1) ∙ ap refused (c .enum-told2 .given .1)))
+    gives-back (a .state) _ _ _
+    (lamps-lack keyboardLamps (a .state) (a .scan-code) (a .modifiers .bits) _ _ (x .pre) (w .before .leds .ensures) (w .set-keyboard-led .ensures)
+    (ap saidDone (m .answer .given .1) ∙ ap refused (f .e .given .1)))
     refl
 
 returns-3 : tie.Need-returns-3
 returns-3 c =
-    let m = c .before .before .before in
-    let w = m .before .before .before .before in
-    let x = w .before .before .before .before .before .before in
-    let a = x .args in
-    gives-back (a .handler) _ _ _
-    (lamps-no-log keyboardLamps (a .handler) (a .scan-code) (a .modifiers .bits) _ _ (x .pre) (w .before .leds .ensures) (w .set-keyboard-led .ensures)
-    (ap saidCommand (m .answer .given .1) ∙ ap refused (c .enum-told3 .given .1)))
-    refl
-
-returns-4 : tie.Need-returns-4
-returns-4 c =
-    let f = c .before .before in
+    let f = c .before in
     let m = f .before .before .before in
     let w = m .before .before .before .before in
-    let x = w .before .before .before .before .before .before in
+    let x = w .before .before .before .before .before in
     let a = x .args in
-    gives-back (a .handler) _ _ _
-    (lamps-answer keyboardLamps (a .handler) (a .scan-code) (a .modifiers .bits) _ _ (x .pre) (w .before .leds .ensures) (w .set-keyboard-led .ensures)
-    (ap saidCommand (m .answer .given .1) ∙ ap refused (f .e .given .1)))
+    gives-back (a .state) _ _ _
+    (lamps-answer keyboardLamps (a .state) (a .scan-code) (a .modifiers .bits) _ _ (x .pre) (w .before .leds .ensures) (w .set-keyboard-led .ensures)
+    (ap saidDone (m .answer .given .1) ∙ ap refused (f .enum-told2 .given .1)))
     (c .queue-event2 .ensures)
 
 pub lock-pressed-spec : {M : Type 1} → statement M
@@ -65,13 +54,10 @@ lock-pressed-spec =
     (λ c. search needs)
     (λ c. search needs)
     (λ c. search needs)
-    (λ c. search needs)
     (λ c κs. search needs)
     (λ c. search needs)
     returns
     (λ c. search needs)
     returns-2
     (λ c. search needs)
-    returns-3
-    (λ c. search needs)
-    returns-4)
+    returns-3)

@@ -2,8 +2,8 @@
 -- Assumes nothing.
 use borrow.Author.Needs.{needs}
 use mathlib.Core.Path.{refl, sym, _∙_}
-use Rattle.keyboard_rule.specs.KeyboardLamps.{keyboardLamps}
-use Rattle.keyboard_rule.proofs.Outcomes.{gives-back, silent-byte, key-byte, no-lamps}
+use Rattle.keyboard.specs.KeyboardLamps.{keyboardLamps}
+use Rattle.keyboard.proofs.Outcomes.{gives-back, silent-byte, key-byte, no-lamps}
 use Rattle.keyboard.proofs.on_byte.Statement.{statement}
 use Rattle.keyboard.proofs.on_byte.Tie as tie
 
@@ -13,7 +13,7 @@ returns c =
     let i = t .before in
     let a = i .before .before .before .before .args in
     rw (c .is-prefix .ensures)
-    (gives-back (a .handler) _ _ _ (silent-byte keyboardLamps (a .handler) (a .scan-code) _ _ (sym (i .is-silent .ensures) ∙ t .if1 .taken)) refl)
+    (gives-back (a .state) _ _ _ (silent-byte keyboardLamps (a .state) (a .scan-code) _ _ (sym (i .is-silent .ensures) ∙ t .if1 .taken)) refl)
 
 lock-pressed-requires : tie.Need-lock-pressed-requires
 lock-pressed-requires c κs =
@@ -28,7 +28,7 @@ returns-2 c =
     let t = n .before in
     let i = t .before in
     let a = i .before .before .before .before .args in
-    rw (← key-byte keyboardLamps (a .handler) (a .scan-code) (n .modifiers-after .ensures) (sym (i .is-silent .ensures) ∙ t .if1 .left))
+    rw (← key-byte keyboardLamps (a .state) (a .scan-code) (n .modifiers-after .ensures) (sym (i .is-silent .ensures) ∙ t .if1 .left))
     (p .lock-pressed .ensures)
 
 returns-3 : tie.Need-returns-3
@@ -39,9 +39,9 @@ returns-3 c =
     let t = n .before in
     let i = t .before in
     let a = i .before .before .before .before .args in
-    rw (← key-byte keyboardLamps (a .handler) (a .scan-code) (n .modifiers-after .ensures) (sym (i .is-silent .ensures) ∙ t .if1 .left))
-    (gives-back (a .handler) _ _ _
-    (no-lamps keyboardLamps (a .handler) (a .scan-code) (n .modifiers-after .result .bits) _ _ (sym (k .is-lock-press .ensures) ∙ f .if2 .left))
+    rw (← key-byte keyboardLamps (a .state) (a .scan-code) (n .modifiers-after .ensures) (sym (i .is-silent .ensures) ∙ t .if1 .left))
+    (gives-back (a .state) _ _ _
+    (no-lamps keyboardLamps (a .state) (a .scan-code) (n .modifiers-after .result .bits) _ _ (sym (k .is-lock-press .ensures) ∙ f .if2 .left))
     (c .queue-event .ensures))
 
 pub on-byte-spec : {M : Type 1} → statement M

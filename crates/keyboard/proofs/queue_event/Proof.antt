@@ -3,27 +3,27 @@
 use borrow.Author.Needs.{needs}
 use mathlib.Core.Path.{_≡_, refl, sym, ap, _∙_}
 use borrow.Author.Tests.{lt-ltb, le-ltb}
-use Rattle.keyboard_rule.specs.Handler.{queued}
-use Rattle.keyboard_rule.proofs.Keycodes.{known-low, known-keycode, unknown-low}
+use Rattle.keyboard.specs.Handler.{queued}
+use Rattle.keyboard_scancodes.proofs.Keycodes.{known-low, known-keycode, unknown-low}
 use Rattle.keyboard.proofs.queue_event.Statement.{statement}
 use Rattle.keyboard.proofs.queue_event.Tie as tie
 
 returns : tie.Need-returns
 unfolding queued
 returns c =
-    let k = c .before .before .before in
+    let k = c .before .before in
     rw (known-low _ (k .before .before .from-byte .ensures) (k .keycode .given .1), le-ltb _ 128 (c .if1 .taken))
 
 event-of-requires : tie.Need-event-of-requires
 event-of-requires c κs =
-    let k = c .before .before .before in
+    let k = c .before .before in
     known-keycode _ (k .before .before .from-byte .ensures) (k .keycode .given .1)
 
 returns-2 : tie.Need-returns-2
 unfolding queued
 returns-2 c =
     let f = c .before in
-    let k = f .before .before .before in
+    let k = f .before .before in
     rw (
       known-low _ (k .before .before .from-byte .ensures) (k .keycode .given .1),
       lt-ltb _ 128 (f .if1 .left),
@@ -42,6 +42,7 @@ queue-event-spec =
     (λ c. search needs)
     returns
     event-of-requires
+    (λ c. search needs)
     (λ c. search needs)
     returns-2
     returns-3)

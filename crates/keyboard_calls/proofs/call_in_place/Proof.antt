@@ -3,7 +3,7 @@
 -- The script is Copy. The log goes to `handle_in_place` at its own lifetime, share and ghost name, and is given up for good.
 -- All that the proof knows of `handle_in_place` is that it meets its contract.
 -- Assumes nothing.
-use mathlib.Core.Path.{_≡_, refl}
+use mathlib.Core.Path.{_≡_, refl, ap}
 use Prim.Native.Nat.{ℕ}
 use mathlib.Core.List.{[], _∷_, List}
 use lib.ListN.{length}
@@ -44,13 +44,13 @@ use denote.Triple.Spec.{Meets, tripleOf}
 use denote.Triple.Table.{entered, cited}
 use denote.Triple.Walked.{says, Stays, stay-none, stay-none-slice, gave-slice, walkOf, AllGo, goes-none, goes-none-slice, goes-gave-slice, Walks, ends-at, walked, walk-meets}
 use denote.Exit.{yes}
-use Rattle.keyboard_rule.specs.declared.KeyboardHandler.{KeyboardHandler}
-use Rattle.keyboard_rule.specs.KeyboardLamps.{keyboardLamps}
-use Rattle.keyboard_rule.specs.Handler.{handled, logLeft}
-use Rattle.keyboard_rule.proofs.KeyboardHandler as T
-use Rattle.keyboard_rule.proofs.KeyboardHandler.Laws as T′
+use Rattle.keyboard_record.specs.declared.KeyboardHandler.{KeyboardHandler}
+use Rattle.keyboard.specs.KeyboardLamps.{keyboardLamps}
+use Rattle.keyboard.specs.Handler.{Called, handled, logLeft}
+use Rattle.keyboard_record.proofs.KeyboardHandler as T
+use Rattle.keyboard_record.proofs.KeyboardHandler.Laws as T′
 use Rattle.keyboard_in_place.specs.declared.HandledInPlace.{HandledInPlace}
-use Rattle.keyboard_in_place.specs.InPlace.{inPlace}
+use Rattle.keyboard_in_place.specs.InPlace.{saidInPlace}
 use Rattle.keyboard_in_place.proofs.FieldOf.{field-of}
 use Rattle.keyboard_in_place.proofs.HandledInPlace as P
 use Rattle.keyboard_in_place.proofs.HandledInPlace.Laws as P′
@@ -153,7 +153,7 @@ module _ {M : Type 1} (𝓤 : URA M) (H : Heap 𝓤) (A : Atoms 𝓤) (W : Given
 
   -- what `handle_in_place` ensures of its result, of the last record and of the last log
   abbrev Said : HandledInPlace → KeyboardHandler → List ℕ → Type 0
-  Said r h′ zs = (r ≡ inPlace (handled keyboardLamps h (s .now) (l .now))) × (h′ ≡ handled keyboardLamps h (s .now) (l .now) .handler) × (zs ≡ logLeft keyboardLamps h (s .now) (l .now))
+  Said r h′ zs = (saidInPlace r h′ ≡ handled keyboardLamps h (s .now) (l .now)) × (zs ≡ logLeft keyboardLamps (h .state) (s .now) (l .now))
 
   -- what is left at the return: the tokens, the script, the last log
   abbrev Left : List ℕ → List (Item 𝓤)
@@ -164,7 +164,7 @@ module _ {M : Type 1} (𝓤 : URA M) (H : Heap 𝓤) (A : Atoms 𝓤) (W : Given
   exits r h′ zs was is e fits =
       qed W (Left zs) ∵
       suffices ! _ (ends-at 𝓤 H A self.ended stayed (self.clauses 𝓤 H A at-mem run) W bound (valT h′) h′ (tt, (tt, (zs, tt))) (tt, (tt, (fits, tt)))) $
-      says ! (e .1, e .2) $ frame ! $
+      says ! (ap (λ (x : Called). x .handler) (e .0), e .1) $ frame ! $
       nothing ! $ move ! (2 ∷ 0 ∷ []) $ fjoin ! $ move ! (1 ∷ 0 ∷ []) $ fjoin ! $
       owned ! T.the-row (Is T.the-row) (LL.makes T.the-type T′.the-plain 𝓤 H A) h _ was $ fjoin ! $ frame ! $
       owned ! T.the-row (Is T.the-row) (LL.makes T.the-type T′.the-plain 𝓤 H A) h′ _ is $ done !

@@ -5,7 +5,7 @@ use native.Mathlib.Omega.{arith}
 use mathlib.Core.Path.{_≡_, refl, _∙_}
 use Prim.Native.Nat.{_-_, _≤_}
 use lib.ListN.{length}
-use Rattle.keyboard_rule.specs.Record.{fresh}
+use Rattle.keyboard_record.specs.Record.{fresh}
 use Rattle.keyboard_calls.specs.Calls.{left, called}
 use Rattle.keyboard_calls.proofs.Calls.{none-called, one-more-called, all-called}
 use Rattle.keyboard_calls.proofs.keyboard_calls_in_place.Statement.{statement}

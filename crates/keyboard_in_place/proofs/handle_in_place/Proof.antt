@@ -42,20 +42,20 @@ use denote.Triple.Spec.{Meets, tripleOf}
 use denote.Triple.Table.{entered, cited}
 use denote.Triple.Walked.{says, Stays, stay-ref, stay-none-slice, gave-slice, walkOf, AllGo, goes-ref, goes-none-slice, goes-gave-slice, Walks, ends-at, walked, walk-meets}
 use denote.Exit.{yes}
-use Rattle.keyboard_rule.specs.declared.KeyboardHandler.{KeyboardHandler}
-use Rattle.keyboard_rule.specs.declared.Handled.{Handled}
-use Rattle.keyboard_rule.specs.KeyboardLamps.{keyboardLamps}
-use Rattle.keyboard_rule.specs.Handler.{handled, logLeft}
-use Rattle.keyboard_rule.proofs.KeyboardHandler as T
-use Rattle.keyboard_rule.proofs.KeyboardHandler.Laws as T′
-use Rattle.keyboard_rule.proofs.Handled as S
-use Rattle.keyboard_rule.proofs.Handled.Laws as S′
+use Rattle.keyboard_record.specs.declared.KeyboardHandler.{KeyboardHandler}
+use Rattle.keyboard.specs.declared.Handled.{Handled}
+use Rattle.keyboard.specs.KeyboardLamps.{keyboardLamps}
+use Rattle.keyboard.specs.Handler.{handled, logLeft}
+use Rattle.keyboard_record.proofs.KeyboardHandler as T
+use Rattle.keyboard_record.proofs.KeyboardHandler.Laws as T′
+use Rattle.keyboard.proofs.Handled as S
+use Rattle.keyboard.proofs.Handled.Laws as S′
 use Rattle.keyboard.proofs.handle as handle
 use Rattle.keyboard.proofs.handle.Symbol as handle-def
 use Rattle.keyboard.proofs.handle.Symbol.{name as #keyboard·handle}
 use Rattle.keyboard.proofs.handle.Met as handle-thm
 use Rattle.keyboard_in_place.specs.declared.HandledInPlace.{HandledInPlace}
-use Rattle.keyboard_in_place.specs.InPlace.{inPlace}
+use Rattle.keyboard.specs.Outcomes.{saidHandled}
 use Rattle.keyboard_in_place.proofs.FieldOf.{field-of}
 use Rattle.keyboard_in_place.proofs.HandledInPlace as P
 use Rattle.keyboard_in_place.proofs.HandledInPlace.Laws as P′
@@ -63,6 +63,10 @@ use Rattle.keyboard_in_place.proofs.handle_in_place.Key.{name as #keybo
 use Rattle.keyboard_in_place.proofs.handle_in_place as self
 use Rattle.keyboard_in_place.proofs.handle_in_place.Statement as stated
 use Rattle.keyboard_in_place.proofs.handle_in_place.Code as code
+
+-- all that the by-value call gives back but the record
+abbrev inPlace : Handled → HandledInPlace
+inPlace r = record { answer = r .answer; «lamps_failed» = r .«lamps_failed»; used = r .used; pairs = r .pairs }
 
 abbrev stayed : Stays (self.ended .signature .params) (self.ended .kept)
 stayed = (stay-ref (0 ∷ []) tt (plain (λ _. T.the-row)), (stay-none-slice (1 ∷ []) tt (plain (λ _. u8)) yes, (gave-slice (2 ∷ []) tt (plain (λ _. u8)), tt)))
@@ -122,7 +126,7 @@ module _ {M : Type 1} (𝓤 : URA M) (H : Heap 𝓤) (A : Atoms 𝓤) (W : Given
 
   -- what `handle` ensures of its result and of the last log
   abbrev Said : Handled → List ℕ → Type 0
-  Said r zs = (r ≡ handled keyboardLamps h (s .now) (l .now)) × (zs ≡ logLeft keyboardLamps h (s .now) (l .now))
+  Said r zs = (saidHandled r ≡ handled keyboardLamps h (s .now) (l .now)) × (zs ≡ logLeft keyboardLamps (h .state) (s .now) (l .now))
 
   -- what `handle`'s triple binds outside: the slices' own lifetimes, shares and values
   abbrev to-handle : Handle 𝓤 H A at-mem run .Ghost
@@ -145,7 +149,7 @@ module _ {M : Type 1} (𝓤 : URA M) (H : Heap 𝓤) (A : Atoms 𝓤) (W : Given
   exits r zs is e fits =
       qed W (Left r zs) ∵
       suffices ! _ (ends-at 𝓤 H A self.ended stayed (self.clauses 𝓤 H A at-mem run) W bound (valP (inPlace r)) (inPlace r) (r .handler, (tt, (zs, tt))) (tt, (tt, (fits, tt)))) $
-      says ! (ap inPlace (e .0), ap (λ (d : Handled). d .handler) (e .0), e .1) $
+      says ! (e .0, e .1) $
       move ! (2 ∷ 3 ∷ []) $ join ! $ frame ! $
       -- [obs; the borrow; what the script owns; the last log]
       nothing ! $ move ! (4 ∷ 0 ∷ []) $ fjoin ! $ move ! (3 ∷ 0 ∷ []) $ fjoin ! $ feqI ! (List Val) (vptr b o ∷ []) (vptr b o ∷ []) refl $ move ! (0 ∷ 2 ∷ 3 ∷ []) $ fjoin3 ! $ fjoin ! $ frame ! $

@@ -2,7 +2,7 @@
 -- Assumes nothing.
 use borrow.Author.Needs.{needs}
 use mathlib.Core.Path.{ap}
-use Rattle.ps2_ports.specs.declared.Failure.the-variants.{KeyboardNotDetected}
+use Rattle.ps2_answers.specs.declared.Failure.the-variants.{KeyboardNotDetected}
 use Rattle.ps2_command.proofs.Replaced.{refusing-gives, refusing-refused}
 use Rattle.ps2_detect.specs.Answers.{saidType}
 use Rattle.keyboard_init.specs.KeyboardInit.{detection}

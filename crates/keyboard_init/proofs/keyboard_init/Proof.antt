@@ -7,7 +7,7 @@ use Rattle.exchange.specs.Answer.{andThen, onGiven}
 use Rattle.exchange.proofs.Position.{call-used-le, call-pairs-le, call-tail-le}
 use Rattle.exchange.proofs.Calls.{bind-yields, two-used-le, two-pairs-le}
 use Rattle.ps2_bytes.specs.declared.data.ScancodeSet.the-variants.{Set1}
-use Rattle.ps2_ports.proofs.Refusals.{bind-refused}
+use Rattle.ps2_answers.proofs.Refusals.{bind-refused}
 use Rattle.ps2_keyboard.specs.Keyboard.{setScancodeSet}
 use Rattle.ps2_detect.specs.Answers.{saidType}
 use Rattle.keyboard_init.specs.KeyboardInit.{detection, keyboardInit}

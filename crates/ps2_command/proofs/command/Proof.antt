@@ -9,7 +9,8 @@ use Rattle.exchange.specs.Repeat.{repeat}
 use Rattle.exchange.proofs.Position.{reached-start}
 use Rattle.exchange.proofs.Calls.{reached-used-le, reached-pairs-le}
 use Rattle.exchange.proofs.Repeat.{reached-again, reached-over, turn-ended}
-use Rattle.ps2_command.specs.Command.{attempt, command, saidCommand, saidAttempt}
+use Rattle.ps2_command.specs.Command.{attempt, command, saidAttempt}
+use Rattle.ps2_answers.specs.Refusals.{saidDone}
 use Rattle.ps2_command.proofs.command.Statement.{statement}
 use Rattle.ps2_command.proofs.command.Tie as tie
 
@@ -49,7 +50,7 @@ returns-2 : tie.Need-returns-2 Inv-loop μ-loop
 returns-2 c =
     let a = c .before .before .before .before .before .before .before in
     let b = a .before .before .before .before in
-    turn-ended _ _ _ (b .loop .inv) refl (a .attempt-once .ensures) (saidCommand (c .before .attempt .given .0 .0)) (omega arith) (ap saidAttempt (c .before .attempt .given .1))
+    turn-ended _ _ _ (b .loop .inv) refl (a .attempt-once .ensures) (saidDone (c .before .attempt .given .0 .0)) (omega arith) (ap saidAttempt (c .before .attempt .given .1))
 
 pub command-spec : {M : Type 1} → statement M
 command-spec =

@@ -5,7 +5,7 @@ use native.Mathlib.Omega.{arith}
 use mathlib.Core.Path.{refl}
 use Rattle.exchange.proofs.Position.{call-used-le, call-pairs-le, call-tail-le}
 use Rattle.exchange.proofs.Calls.{two-used-le, two-pairs-le}
-use Rattle.ps2_command.proofs.Accepted.{accepted-then, refused-then}
+use Rattle.ps2_answers.proofs.Then.{done-then, refused-then}
 use Rattle.ps2_command.proofs.command_pair.Statement.{statement}
 use Rattle.ps2_command.proofs.command_pair.Tie as tie
 
@@ -36,7 +36,7 @@ returns : tie.Need-returns
 returns c =
     let d = c .before .before .before .before in
     let m = d .before .before .before in
-    accepted-then _ _ _ _ _ (m .before .before .before .before .command-by .ensures) (m .enum-told .given .1) refl (d .command-by2 .ensures)
+    done-then _ _ _ _ _ (m .before .before .before .before .command-by .ensures) (m .enum-told .given .1) refl (d .command-by2 .ensures)
 
 returns-2 : tie.Need-returns-2
 returns-2 c =

@@ -7,9 +7,9 @@ use Rattle.exchange.specs.Answer.{andThen, onGiven}
 use Rattle.exchange.proofs.Position.{call-pairs-le, writes-pairs-le, writes-tail-le}
 use Rattle.exchange.proofs.Calls.{writes-then}
 use Rattle.ps2_bytes.specs.declared.command.HostToControllerCommand.the-variants.{WriteByteToPort2InputBuffer}
-use Rattle.ps2_ports.specs.Refusals.{saidDone}
+use Rattle.ps2_answers.specs.Refusals.{saidDone}
 use Rattle.ps2_ports.specs.Ports.{writeCommand}
-use Rattle.ps2_ports.proofs.Refusals.{bind-refused}
+use Rattle.ps2_answers.proofs.Refusals.{bind-refused}
 use Rattle.ps2_command.specs.Command.{command, commandToPort2}
 use Rattle.ps2_command.proofs.command_to_port2.Statement.{statement}
 use Rattle.ps2_command.proofs.command_to_port2.Tie as tie

@@ -6,8 +6,11 @@ use Rattle.ps2_command.specs.Replaced.{replacedBy}
 use Rattle.ps2_command.proofs.refusing_as.Statement.{statement}
 use Rattle.ps2_command.proofs.refusing_as.Tie as tie
 
-returns-3 : tie.Need-returns-3
-returns-3 c = sym (ap (λ e. replacedBy (c .before .before .args .failure) e) (c .enum-told3 .given .1))
+returns : tie.Need-returns
+returns c = sym (ap (λ e. replacedBy (c .before .before .before .args .failure) e) (c .before .e .given .1))
+
+returns-2 : tie.Need-returns-2
+returns-2 c = sym (ap (λ e. replacedBy (c .before .before .args .failure) e) (c .enum-told .given .1))
 
 pub refusing-as-spec : {M : Type 1} → statement M
-refusing-as-spec = tie.close (tie.spec (λ c. search needs) (λ c. search needs) (λ c. search needs) (λ c. search needs) (λ c. search needs) returns-3)
+refusing-as-spec = tie.close (tie.spec (λ c. search needs) (λ c. search needs) returns returns-2)

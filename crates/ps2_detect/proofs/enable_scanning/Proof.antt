@@ -5,8 +5,8 @@ use mathlib.Core.Path.{refl, ap}
 use Rattle.exchange.specs.Answer.{andThen, onGiven}
 use Rattle.exchange.specs.Exchange.{done}
 use Rattle.exchange.proofs.Calls.{bind-done}
-use Rattle.ps2_command.specs.Command.{saidCommand}
-use Rattle.ps2_command.proofs.Accepted.{refused-then}
+use Rattle.ps2_answers.specs.Refusals.{saidDone}
+use Rattle.ps2_answers.proofs.Then.{refused-then}
 use Rattle.ps2_detect.proofs.enable_scanning.Statement.{statement}
 use Rattle.ps2_detect.proofs.enable_scanning.Tie as tie
 
@@ -14,7 +14,7 @@ returns : tie.Need-returns
 unfolding andThen
 returns c type q =
     let w = c .before .before .before .before in
-    rw q (bind-done _ (onGiven (λ _. done type)) _ _ (w .command-to-keyboard .ensures) (ap saidCommand (c .enum-told .given .1)) refl)
+    rw q (bind-done _ (onGiven (λ _. done type)) _ _ (w .command-to-keyboard .ensures) (ap saidDone (c .enum-told .given .1)) refl)
 
 returns-2 : tie.Need-returns-2
 returns-2 c type q =

@@ -9,8 +9,8 @@ use Rattle.exchange.proofs.Grouping.{andThen-assoc}
 use Rattle.exchange.proofs.Position.{call-used-le, call-pairs-le, call-tail-le}
 use Rattle.exchange.proofs.Calls.{two-used-le, two-pairs-le}
 use Rattle.ps2_bytes.specs.declared.command.HostToKeyboardCommand.the-variants.{DisableScanning, IdentifyKeyboard}
-use Rattle.ps2_command.specs.Command.{Accepted}
-use Rattle.ps2_command.proofs.Accepted.{accepted-then, refused-then}
+use Rattle.ps2_answers.specs.Refusals.{Success}
+use Rattle.ps2_answers.proofs.Then.{done-then, refused-then}
 use Rattle.ps2_keyboard.specs.Keyboard.{commandToKeyboard, keyboardCommand}
 use Rattle.ps2_detect.specs.Detection.{keyboardDetect}
 use Rattle.ps2_detect.specs.Parts.{identification}
@@ -18,7 +18,7 @@ use Rattle.ps2_detect.proofs.keyboard_detect.Statement.{statement}
 use Rattle.ps2_detect.proofs.keyboard_detect.Tie as tie
 
 -- the two commands by themselves, and what follows them
-abbrev pair : Exchange (Answer Accepted)
+abbrev pair : Exchange (Answer Success)
 pair = andThen (keyboardCommand DisableScanning) (λ _. keyboardCommand IdentifyKeyboard)
 
 detect-pair : andThen pair (λ _. identification) ≡ keyboardDetect
@@ -57,7 +57,7 @@ returns c =
     let d = c .before .before .before .before in
     let m = d .before .before .before in
     rw detect-pair at
-    (accepted-then pair (λ _. identification) _ _ _ (m .before .before .before .before .command-pair .ensures) (m .enum-told .given .1) refl (d .identify .ensures))
+    (done-then pair (λ _. identification) _ _ _ (m .before .before .before .before .command-pair .ensures) (m .enum-told .given .1) refl (d .identify .ensures))
 
 returns-2 : tie.Need-returns-2
 unfolding commandToKeyboard

@@ -12,7 +12,7 @@ use Rattle.exchange.specs.Repeat.{repeat}
 use Rattle.exchange.proofs.Calls.{part-used-le}
 use Rattle.exchange.proofs.Reading.{read-to-start, read-to-used-le, read-to-done, read-to-over, read-to-again, read-to-found, read-to-end}
 use Rattle.exchange.proofs.ReadingThen.{read-to-then-over, read-to-then-again, read-to-then-found, read-to-then-end}
-use Rattle.ps2_ports.specs.Refusals.{refused}
+use Rattle.ps2_answers.specs.Refusals.{refused}
 use Rattle.ps2_polling.specs.Polling.{poll}
 use Rattle.ps2_polling.proofs.Polls.{poll-turn}
 use Rattle.ps2_polling.proofs.Brought.{poll-brings, poll-brings-nothing, poll-lacks}

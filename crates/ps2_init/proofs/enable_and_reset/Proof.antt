@@ -6,9 +6,9 @@ use mathlib.Core.Path.{refl, ap}
 use Rattle.exchange.specs.Answer.{onGiven, andThen}
 use Rattle.exchange.proofs.Position.{call-pairs-le, writes-pairs-le, writes-tail-le}
 use Rattle.exchange.proofs.Calls.{writes-then}
-use Rattle.ps2_ports.proofs.Refusals.{bind-refused}
+use Rattle.ps2_answers.proofs.Refusals.{bind-refused}
 use Rattle.exchange.specs.Exchange.{bind}
-use Rattle.ps2_ports.specs.Refusals.{saidDone}
+use Rattle.ps2_answers.specs.Refusals.{saidDone}
 use Rattle.ps2_setup.specs.SetUp.{enablePorts}
 use Rattle.ps2_init.specs.Init.{resetDevices, readLast}
 use Rattle.ps2_setup.specs.Answers.{portsOf}

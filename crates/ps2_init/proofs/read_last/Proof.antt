@@ -5,8 +5,9 @@ use mathlib.Core.Path.{refl, ap}
 use Rattle.exchange.specs.Exchange.{done}
 use Rattle.exchange.specs.Answer.{gives, onGiven, andThen}
 use Rattle.exchange.proofs.Calls.{bind-done}
-use Rattle.ps2_ports.specs.Ports.{readConfig, saidConfig}
-use Rattle.ps2_ports.proofs.Refusals.{bind-refused}
+use Rattle.ps2_ports.specs.Ports.{readConfig}
+use Rattle.ps2_answers.specs.Answers.{saidConfig}
+use Rattle.ps2_answers.proofs.Refusals.{bind-refused}
 use Rattle.ps2_init.proofs.read_last.Statement.{statement}
 use Rattle.ps2_init.proofs.read_last.Tie as tie
 

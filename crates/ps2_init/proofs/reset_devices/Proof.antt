@@ -4,10 +4,10 @@ use borrow.Author.Needs.{needs}
 use native.Mathlib.Omega.{arith}
 use mathlib.Core.Path.{refl, ap}
 use Rattle.exchange.proofs.Position.{call-used-le, call-pairs-le, call-tail-le}
-use Rattle.exchange.proofs.Calls.{bind-yields, two-used-le, two-pairs-le}
+use Rattle.exchange.proofs.Calls.{bind-yields, bind-lacks, two-used-le, two-pairs-le}
 use Rattle.exchange.specs.Refuses.{succeeds}
 use Rattle.ps2_setup.specs.Answers.{saidTrial}
-use Rattle.ps2_setup.proofs.Trials.{succeeds-tried, bind-lacked}
+use Rattle.ps2_setup.proofs.Trials.{succeeds-tried}
 use Rattle.exchange.specs.Exchange.{bind}
 use Rattle.ps2_keyboard.specs.Keyboard.{resetKeyboard}
 use Rattle.ps2_mouse.specs.Mouse.{resetMouse}
@@ -41,7 +41,6 @@ add-t21 c =
 
 returns : tie.Need-returns
 returns c =
-    let a = c .before .before .before .before .before .before .before .before .before .before .before .before .before .before .before .before .before .args in
     let d = c .before .before .before .before in
     let m = d .before .before .before .before in
     let t = m .before .before in
@@ -50,16 +49,15 @@ returns c =
 
 returns-2 : tie.Need-returns-2
 returns-2 c =
-    let a = c .before .before .before .before .before .before .before .before .before .before .before .args in
-    let x = c .before .before in
+    let x = c .before in
     let t = x .before .before in
-    rw (resets-then readLast) (bind-lacked (succeeds resetKeyboard) (λ keyboard. bind (succeeds resetMouse) (λ mouse. readLast (withDevices keyboard mouse))) _ _ (succeeds-tried resetKeyboard _ _ (t .before .before .before .reset-keyboard .ensures) (t .tried .ensures))
-    (x .x .given .0 .0) (ap saidTrial (x .x .given .1)) (c .lack-refusal .ensures))
+    rw (resets-then readLast) (bind-lacks (succeeds resetKeyboard) (λ keyboard. bind (succeeds resetMouse) (λ mouse. readLast (withDevices keyboard mouse))) _ _ (succeeds-tried resetKeyboard _ _ (t .before .before .before .reset-keyboard .ensures) (t .tried .ensures))
+    (ap saidTrial (x .lack .given .1)))
 
 pub reset-devices-spec : {M : Type 1} → statement M
 reset-devices-spec =
     tie.close
     (tie.spec
     (λ c κs. search needs) (λ c κs. search needs) (λ c. search needs) mul-at sub-reset-mouse sub-reset-mouse (λ c. search needs) sub-reset-mouse-2
-    sub-reset-mouse-2 (λ c. search needs) (λ c κs. search needs) add-t17 add-t21 (λ c. search needs) (λ c κs. search needs) (λ c. search needs)
+    sub-reset-mouse-2 (λ c. search needs) (λ c κs. search needs) add-t17 add-t21 (λ c. search needs) (λ c. search needs)
     returns (λ c. search needs) returns-2)

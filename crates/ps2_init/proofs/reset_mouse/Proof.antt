@@ -4,10 +4,10 @@ use borrow.Author.Needs.{needs}
 use native.Mathlib.Omega.{arith}
 use mathlib.Core.Path.{refl, ap}
 use Rattle.exchange.proofs.Position.{call-used-le, call-pairs-le, call-tail-le}
-use Rattle.exchange.proofs.Calls.{bind-yields, two-used-le, two-pairs-le}
+use Rattle.exchange.proofs.Calls.{bind-yields, bind-lacks, two-used-le, two-pairs-le}
 use Rattle.exchange.specs.Refuses.{succeeds}
 use Rattle.ps2_setup.specs.Answers.{saidTrial}
-use Rattle.ps2_setup.proofs.Trials.{succeeds-tried, bind-lacked}
+use Rattle.ps2_setup.proofs.Trials.{succeeds-tried}
 use Rattle.ps2_mouse.specs.Mouse.{resetMouse}
 use Rattle.ps2_init.specs.Init.{readLast, withDevices}
 use Rattle.ps2_init.proofs.reset_mouse.Statement.{statement}
@@ -47,16 +47,16 @@ returns c =
 
 returns-2 : tie.Need-returns-2
 returns-2 c =
-    let a = c .before .before .before .before .before .before .before .before .before .before .before .args in
-    let x = c .before .before in
+    let a = c .before .before .before .before .before .before .before .before .before .before .args in
+    let x = c .before in
     let t = x .before .before in
-    bind-lacked (succeeds resetMouse) (λ mouse. readLast (withDevices (a .keyboard-attached) mouse)) _ _ (succeeds-tried resetMouse _ _ (t .before .before .before .reset .ensures) (t .tried .ensures))
-    (x .x .given .0 .0) (ap saidTrial (x .x .given .1)) (c .lack-refusal .ensures)
+    bind-lacks (succeeds resetMouse) (λ mouse. readLast (withDevices (a .keyboard-attached) mouse)) _ _ (succeeds-tried resetMouse _ _ (t .before .before .before .reset .ensures) (t .tried .ensures))
+    (ap saidTrial (x .lack .given .1))
 
 pub reset-mouse-spec : {M : Type 1} → statement M
 reset-mouse-spec =
     tie.close
     (tie.spec
     (λ c κs. search needs) (λ c κs. search needs) (λ c. search needs) mul-at sub-read-last sub-read-last (λ c. search needs) sub-read-last-2
-    sub-read-last-2 (λ c. search needs) (λ c κs. search needs) add-t18 add-t22 (λ c. search needs) (λ c κs. search needs) (λ c. search needs) returns
+    sub-read-last-2 (λ c. search needs) (λ c κs. search needs) add-t18 add-t22 (λ c. search needs) (λ c. search needs) returns
     (λ c. search needs) returns-2)

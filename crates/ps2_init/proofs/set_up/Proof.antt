@@ -6,8 +6,8 @@ use mathlib.Core.Path.{refl, ap}
 use Rattle.exchange.proofs.Position.{call-used-le, call-pairs-le, call-tail-le}
 use Rattle.exchange.proofs.Calls.{bind-yields, two-used-le, two-pairs-le}
 use Rattle.exchange.specs.Answer.{onGiven, andThen}
-use Rattle.ps2_ports.proofs.Refusals.{bind-refused}
-use Rattle.ps2_ports.specs.Ports.{saidConfig}
+use Rattle.ps2_answers.proofs.Refusals.{bind-refused}
+use Rattle.ps2_answers.specs.Answers.{saidConfig}
 use Rattle.ps2_setup.specs.SetUp.{disableDevices, quieted}
 use Rattle.ps2_init.specs.Init.{hasMouse, setUp, tested}
 use Rattle.ps2_init.proofs.set_up.Statement.{statement}
@@ -39,7 +39,6 @@ add-t20 c =
 returns : tie.Need-returns
 unfolding setUp andThen
 returns c =
-    let a = c .before .before .before .before .before .before .before .before .before .before .before .before .before .before .before .before .before .before .args in
     let d = c .before .before .before .before in
     let m = d .before .before .before .before .before .before in
     bind-yields disableDevices (onGiven (λ asRead. tested (quieted asRead) (hasMouse asRead))) _ _ (m .before .before .before .before .disable-devices .ensures) (ap saidConfig (m .disabled .given .1)) refl
@@ -48,7 +47,6 @@ returns c =
 returns-2 : tie.Need-returns-2
 unfolding setUp andThen
 returns-2 c =
-    let a = c .before .before .before .before .before .before .before .before .before .args in
     let x = c .before .disabled2 .given in
     bind-refused disableDevices (λ asRead. tested (quieted asRead) (hasMouse asRead)) _ _ (c .before .before .before .before .before .disable-devices .ensures) (x .0 .0) (ap saidConfig (x .1))
 

@@ -2,14 +2,11 @@
 -- Assumes nothing.
 use borrow.Author.Needs.{needs}
 use native.Mathlib.Omega.{arith}
-use mathlib.Core.Path.{refl, ap}
+use mathlib.Core.Path.{refl}
 use Rattle.exchange.proofs.Position.{call-used-le, call-pairs-le, call-tail-le}
-use Rattle.exchange.proofs.Calls.{bind-yields, two-used-le, two-pairs-le}
-use Rattle.exchange.specs.Answer.{onGiven, andThen}
-use Rattle.ps2_ports.proofs.Refusals.{bind-refused}
-use Rattle.ps2_ports.specs.Refusals.{saidDone}
+use Rattle.exchange.proofs.Calls.{two-used-le, two-pairs-le}
+use Rattle.ps2_answers.proofs.Then.{done-then, refused-then}
 use Rattle.ps2_setup.specs.SetUp.{testWith}
-use Rattle.ps2_init.specs.Init.{portsTested}
 use Rattle.ps2_init.proofs.test_and_set_up.Statement.{statement}
 use Rattle.ps2_init.proofs.test_and_set_up.Tie as tie
 
@@ -37,20 +34,17 @@ add-t21 c =
     omega (arith, two-pairs-le _ _ _ _ (w .test-with .ensures) refl (d .test-ports-and-set-up .ensures), w .before .before .before .before .good)
 
 returns : tie.Need-returns
-unfolding andThen
 returns c =
-    let a = c .before .before .before .before .before .before .before .before .before .before .before .before .before .before .before .args in
     let d = c .before .before .before .before in
     let m = d .before .before .before in
-    bind-yields (testWith (a .config)) (onGiven (λ _. portsTested (a .config) (a .has-mouse))) _ _ (m .before .before .before .before .test-with .ensures) (ap saidDone (m .enum-told .given .1)) refl
-    (d .test-ports-and-set-up .ensures)
+    let w = m .before .before .before .before in
+    done-then (testWith (w .before .before .before .before .args .config)) _ _ _ _ (w .test-with .ensures) (m .enum-told .given .1) refl (d .test-ports-and-set-up .ensures)
 
 returns-2 : tie.Need-returns-2
-unfolding andThen
 returns-2 c =
-    let a = c .before .before .before .before .before .before .before .before .before .args in
     let x = c .before .passed .given in
-    bind-refused (testWith (a .config)) (λ _. portsTested (a .config) (a .has-mouse)) _ _ (c .before .before .before .before .before .test-with .ensures) (x .0 .0) (ap saidDone (x .1))
+    let w = c .before .before .before .before .before in
+    refused-then (testWith (w .before .before .before .before .args .config)) _ _ _ _ (w .test-with .ensures) (x .0 .0) (x .1)
 
 pub test-and-set-up-spec : {M : Type 1} → statement M
 test-and-set-up-spec =

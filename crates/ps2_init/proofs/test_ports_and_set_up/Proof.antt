@@ -6,7 +6,7 @@ use mathlib.Core.Path.{refl, ap}
 use Rattle.exchange.proofs.Position.{call-used-le, call-pairs-le, call-tail-le}
 use Rattle.exchange.proofs.Calls.{bind-yields, two-used-le, two-pairs-le}
 use Rattle.exchange.specs.Answer.{onGiven, andThen}
-use Rattle.ps2_ports.proofs.Refusals.{bind-refused}
+use Rattle.ps2_answers.proofs.Refusals.{bind-refused}
 use Rattle.ps2_setup.specs.SetUp.{testPorts}
 use Rattle.ps2_init.specs.Init.{enabled}
 use Rattle.ps2_setup.specs.Answers.{saidPorts}

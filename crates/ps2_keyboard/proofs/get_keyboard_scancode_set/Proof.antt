@@ -4,7 +4,7 @@ use borrow.Author.Needs.{needs}
 use native.Mathlib.Omega.{arith}
 use Rattle.exchange.proofs.Position.{call-used-le}
 use Rattle.exchange.proofs.Calls.{two-used-le-reads}
-use Rattle.ps2_command.proofs.Accepted.{accepted-then-reads, refused-then}
+use Rattle.ps2_answers.proofs.Then.{done-then-reads, refused-then}
 use Rattle.ps2_keyboard.specs.Keyboard.{getScancodeSet}
 use Rattle.ps2_keyboard.specs.Parts.{setSearch}
 use Rattle.ps2_keyboard.proofs.get_keyboard_scancode_set.Statement.{statement}
@@ -24,7 +24,7 @@ unfolding getScancodeSet
 returns c =
     let d = c .before in
     let m = d .before .before in
-    accepted-then-reads _ (λ _. setSearch) _ _ _ (m .before .before .before .before .command-scancode-set .ensures) (m .enum-told .given .1) (d .poll-scancode-set .ensures)
+    done-then-reads _ (λ _. setSearch) _ _ _ (m .before .before .before .before .command-scancode-set .ensures) (m .enum-told .given .1) (d .poll-scancode-set .ensures)
 
 returns-2 : tie.Need-returns-2
 unfolding getScancodeSet

@@ -8,8 +8,9 @@ use Rattle.exchange.specs.Exchange.{done}
 use Rattle.exchange.proofs.Calls.{reads-done}
 use Rattle.ps2_layouts.specs.Status.{outputBufferFull}
 use Rattle.ps2_layouts.specs.declared.status.ControllerToHostStatus.{ControllerToHostStatus}
-use Rattle.ps2_ports.specs.Ports.{readStatus, saidStatus}
-use Rattle.ps2_ports.proofs.Refusals.{reads-refused}
+use Rattle.ps2_ports.specs.Ports.{readStatus}
+use Rattle.ps2_answers.specs.Answers.{saidStatus}
+use Rattle.ps2_answers.proofs.Refusals.{reads-refused}
 use Rattle.ps2_keyboard.specs.Keyboard.{keyboardOutputBufferFull}
 use Rattle.ps2_keyboard.proofs.is_output_buffer_full.Statement.{statement}
 use Rattle.ps2_keyboard.proofs.is_output_buffer_full.Tie as tie

@@ -11,7 +11,7 @@ use Rattle.exchange.specs.Repeat.{repeat}
 use Rattle.exchange.proofs.Calls.{part-used-le}
 use Rattle.exchange.proofs.Reading.{read-to-start, read-to-used-le, read-to-over, read-to-again, read-to-found, read-to-end}
 use Rattle.ps2_bytes.specs.Data.{scancodeSets}
-use Rattle.ps2_ports.specs.Refusals.{refused}
+use Rattle.ps2_answers.specs.Refusals.{refused}
 use Rattle.ps2_polling.specs.Polling.{poll}
 use Rattle.ps2_polling.proofs.Polls.{poll-turn}
 use Rattle.ps2_command.specs.Search.{listedTurn}

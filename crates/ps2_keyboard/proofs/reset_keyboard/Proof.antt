@@ -5,7 +5,7 @@ use native.Mathlib.Omega.{arith}
 use Rattle.exchange.proofs.Position.{call-used-le}
 use Rattle.exchange.proofs.Calls.{two-used-le-reads}
 use Rattle.ps2_command.specs.Search.{selfTestWithin}
-use Rattle.ps2_command.proofs.Accepted.{accepted-then-reads, refused-then}
+use Rattle.ps2_answers.proofs.Then.{done-then-reads, refused-then}
 use Rattle.ps2_keyboard.specs.Keyboard.{resetReads, resetKeyboard}
 use Rattle.ps2_keyboard.proofs.reset_keyboard.Statement.{statement}
 use Rattle.ps2_keyboard.proofs.reset_keyboard.Tie as tie
@@ -24,7 +24,7 @@ unfolding resetKeyboard
 returns c =
     let d = c .before in
     let m = d .before .before in
-    accepted-then-reads _ (λ _. selfTestWithin resetReads) _ _ _ (m .before .before .before .before .command-to-keyboard .ensures) (m .enum-told .given .1)
+    done-then-reads _ (λ _. selfTestWithin resetReads) _ _ _ (m .before .before .before .before .command-to-keyboard .ensures) (m .enum-told .given .1)
     (d .read-self-test-result .ensures)
 
 returns-2 : tie.Need-returns-2

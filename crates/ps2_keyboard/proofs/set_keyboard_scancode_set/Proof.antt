@@ -7,9 +7,9 @@ use Rattle.exchange.specs.Answer.{gives, andThen, onGiven}
 use Rattle.exchange.specs.Exchange.{done}
 use Rattle.exchange.proofs.Position.{call-used-le, call-pairs-le, call-tail-le}
 use Rattle.exchange.proofs.Calls.{bind-done, two-used-le, two-pairs-le}
-use Rattle.ps2_ports.specs.Refusals.{success}
-use Rattle.ps2_ports.proofs.Refusals.{bind-refused}
-use Rattle.ps2_command.proofs.Accepted.{accepted-then, refused-then}
+use Rattle.ps2_answers.specs.Refusals.{success}
+use Rattle.ps2_answers.proofs.Refusals.{bind-refused}
+use Rattle.ps2_answers.proofs.Then.{done-then, refused-then}
 use Rattle.ps2_keyboard.specs.Keyboard.{getScancodeSet, setScancodeSet}
 use Rattle.ps2_keyboard.specs.Answers.{saidSet}
 use Rattle.ps2_keyboard.proofs.set_keyboard_scancode_set.Statement.{statement}
@@ -43,7 +43,7 @@ unfolding setScancodeSet andThen
 returns c =
     let d = c .before .before .before .before .before .before in
     let m = d .before .before .before in
-    accepted-then _ (λ _. andThen getScancodeSet (λ _. done (gives success))) _ _ _ (m .before .before .before .before .command-scancode-set .ensures) (m .enum-told .given .1) refl
+    done-then _ (λ _. andThen getScancodeSet (λ _. done (gives success))) _ _ _ (m .before .before .before .before .command-scancode-set .ensures) (m .enum-told .given .1) refl
     (bind-done getScancodeSet (onGiven (λ _. done (gives success))) _ _ (d .get-keyboard-scancode-set .ensures) (ap saidSet (c .enum-told2 .given .1)) refl)
 
 returns-2 : tie.Need-returns-2
@@ -52,7 +52,7 @@ returns-2 c =
     let t = c .before in
     let d = t .before .before .before .before .before .before in
     let m = d .before .before .before in
-    accepted-then _ (λ _. andThen getScancodeSet (λ _. done (gives success))) _ _ _ (m .before .before .before .before .command-scancode-set .ensures) (m .enum-told .given .1) refl
+    done-then _ (λ _. andThen getScancodeSet (λ _. done (gives success))) _ _ _ (m .before .before .before .before .command-scancode-set .ensures) (m .enum-told .given .1) refl
     (bind-refused getScancodeSet (λ _. done (gives success)) _ _ (d .get-keyboard-scancode-set .ensures) (t .told .given .0 .0) (ap saidSet (t .told .given .1)))
 
 returns-3 : tie.Need-returns-3

@@ -8,8 +8,9 @@ use Rattle.exchange.specs.Answer.{andThen}
 use Rattle.exchange.proofs.Position.{reads-used-le}
 use Rattle.exchange.proofs.Calls.{part-used-le, reads-done, reads-yields}
 use Rattle.ps2_bytes.specs.Responses.{mouseIds}
-use Rattle.ps2_ports.specs.Ports.{readStatus, saidFull}
-use Rattle.ps2_ports.proofs.Refusals.{onAnswer, reads-refused-turn}
+use Rattle.ps2_ports.specs.Ports.{readStatus}
+use Rattle.ps2_answers.specs.Answers.{saidFull}
+use Rattle.ps2_answers.proofs.Refusals.{onAnswer, reads-refused-turn}
 use Rattle.ps2_polling.proofs.Polls.{read-turn}
 use Rattle.ps2_command.specs.Search.{pollWhen, listedTurn}
 use Rattle.ps2_mouse.specs.Mouse.{mouseOutputBufferFull}
@@ -31,7 +32,7 @@ returns c =
     let d = c .before .before .before .before .before in
     let f = d .before .before in
     let s = f .before .before .before .before in
-    reads-yields mouseOutputBufferFull (onAnswer onFull) _ (s .is-output-buffer-full .ensures) (ap saidFull (f .before .before .asked .given .1))
+    reads-yields mouseOutputBufferFull (onAnswer onFull) _ (s .is-output-buffer-full .ensures) (ap saidFull (f .before .before .asked .given .1)) {w₂ = 0}
     (rw (f .if1 .taken) (rw (c .listed-id .ensures) (read-turn (listedTurn mouseIds) (c .before .before .read .given .1) _ (d .read-data .ensures))))
 
 returns-2 : tie.Need-returns-2
@@ -40,7 +41,7 @@ returns-2 c =
     let d = c .before .before .before .before in
     let f = d .before .before in
     let s = f .before .before .before .before in
-    reads-yields mouseOutputBufferFull (onAnswer onFull) _ (s .is-output-buffer-full .ensures) (ap saidFull (f .before .before .asked .given .1))
+    reads-yields mouseOutputBufferFull (onAnswer onFull) _ (s .is-output-buffer-full .ensures) (ap saidFull (f .before .before .asked .given .1)) {w₂ = 0}
     (rw (f .if1 .taken) (read-turn (listedTurn mouseIds) (c .before .read2 .given .1) _ (d .read-data .ensures)))
 
 returns-3 : tie.Need-returns-3

@@ -7,8 +7,8 @@ use Rattle.exchange.specs.Answer.{andThen, onGiven}
 use Rattle.exchange.proofs.Position.{reads-used-le}
 use Rattle.exchange.proofs.Calls.{part-used-le, reads-yields}
 use Rattle.ps2_ports.specs.Ports.{flushOutputBuffer}
-use Rattle.ps2_ports.specs.Refusals.{saidDone}
-use Rattle.ps2_ports.proofs.Refusals.{reads-refused}
+use Rattle.ps2_answers.specs.Refusals.{saidDone}
+use Rattle.ps2_answers.proofs.Refusals.{reads-refused}
 use Rattle.ps2_command.specs.Search.{selfTestWithin}
 use Rattle.ps2_mouse.specs.Mouse.{resetReads}
 use Rattle.ps2_mouse.proofs.read_self_test_and_id.Statement.{statement}

@@ -5,7 +5,7 @@ use mathlib.Core.Path.{refl, ap, _∙_}
 use Rattle.exchange.specs.Exchange.{done}
 use Rattle.exchange.specs.Answer.{gives, onGiven}
 use Rattle.exchange.proofs.Calls.{bind-done}
-use Rattle.ps2_ports.proofs.Refusals.{bind-refused}
+use Rattle.ps2_answers.proofs.Refusals.{bind-refused}
 use Rattle.ps2_mouse_identity.specs.declared.AskedAnswer.{AskedAnswer}
 use Rattle.ps2_mouse_identity.specs.Identity.{identityAfter, buttonRates, readOr, secondIdentity}
 use Rattle.ps2_mouse_identity.specs.Answers.{saidAsked}

@@ -7,13 +7,10 @@ use Rattle.ps2_mouse_identity.proofs.forgiven.Statement.{statement}
 use Rattle.ps2_mouse_identity.proofs.forgiven.Tie as tie
 
 returns : tie.Need-returns
-returns c = sym (ap (forgivenAs _) (c .enum-told .given .1))
+returns c = sym (ap (forgivenAs _) (c .before .e .given .1))
 
 returns-2 : tie.Need-returns-2
-returns-2 c = sym (ap (forgivenAs _) (c .enum-told2 .given .1))
-
-returns-3 : tie.Need-returns-3
-returns-3 c = sym (ap (forgivenAs _) (c .enum-told3 .given .1))
+returns-2 c = sym (ap (forgivenAs _) (c .enum-told .given .1))
 
 pub forgiven-spec : {M : Type 1} → statement M
-forgiven-spec = tie.close (tie.spec (λ c. search needs) (λ c. search needs) (λ c. search needs) returns returns-2 returns-3)
+forgiven-spec = tie.close (tie.spec (λ c. search needs) (λ c. search needs) returns returns-2)

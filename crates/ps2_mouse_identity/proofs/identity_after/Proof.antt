@@ -2,14 +2,12 @@
 -- Assumes nothing.
 use borrow.Author.Needs.{needs}
 use native.Mathlib.Omega.{arith}
-use mathlib.Core.Path.{refl, ap}
-use Rattle.exchange.specs.Exchange.{done, bind}
-use Rattle.exchange.specs.Answer.{gives, andThen, onGiven}
+use mathlib.Core.Path.{refl}
+use Rattle.exchange.specs.Answer.{gives}
 use Rattle.exchange.proofs.Position.{call-used-le, call-pairs-le, call-tail-le}
-use Rattle.exchange.proofs.Calls.{bind-yields, two-used-le, two-pairs-le}
+use Rattle.exchange.proofs.Calls.{two-used-le, two-pairs-le}
 use Rattle.exchange.proofs.Told.{bind-told}
-use Rattle.ps2_ports.proofs.Refusals.{bind-refused}
-use Rattle.ps2_ports.specs.Refusals.{saidDone}
+use Rattle.ps2_answers.proofs.Then.{done-then, refused-then}
 use Rattle.ps2_mouse.specs.Mouse.{mouseId}
 use Rattle.ps2_mouse_identity.specs.Identity.{setRates, identityAfter}
 use Rattle.ps2_mouse_identity.proofs.identity_after.Statement.{statement}
@@ -39,20 +37,19 @@ add-t20 c =
     omega (arith, two-pairs-le _ _ _ _ (a .set-rates .ensures) refl (m .mouse-id .ensures), a .before .before .before .before .good)
 
 returns : tie.Need-returns
-unfolding identityAfter andThen
+unfolding identityAfter
 returns c =
     let m = c .before .before .before .before in
     let t = m .before .before .before in
     let a = t .before .before .before .before in
-    bind-yields (setRates (a .before .before .before .before .args .rates)) (onGiven (λ _. bind mouseId (λ id. done (gives id)))) _ _ (a .set-rates .ensures)
-    (ap saidDone (t .enum-told .given .1)) refl (bind-told mouseId (λ id. gives id) _ _ (m .mouse-id .ensures) refl)
+    done-then (setRates (a .before .before .before .before .args .rates)) _ _ _ _ (a .set-rates .ensures) (t .enum-told .given .1) refl
+    (bind-told mouseId (λ id. gives id) _ _ (m .mouse-id .ensures) refl)
 
 returns-2 : tie.Need-returns-2
-unfolding identityAfter andThen
+unfolding identityAfter
 returns-2 c =
     let a = c .before .before .before .before .before in
-    bind-refused (setRates (a .before .before .before .before .args .rates)) (λ _. bind mouseId (λ id. done (gives id))) _ _ (a .set-rates .ensures)
-    (c .before .set .given .0 .0) (ap saidDone (c .before .set .given .1))
+    refused-then (setRates (a .before .before .before .before .args .rates)) _ _ _ _ (a .set-rates .ensures) (c .before .set .given .0 .0) (c .before .set .given .1)
 
 pub identity-after-spec : {M : Type 1} → statement M
 identity-after-spec =

@@ -2,15 +2,12 @@
 -- Assumes nothing.
 use borrow.Author.Needs.{needs}
 use native.Mathlib.Omega.{arith}
-use mathlib.Core.Path.{refl, ap}
-use Rattle.exchange.specs.Answer.{andThen, onGiven}
+use mathlib.Core.Path.{refl}
 use Rattle.exchange.proofs.Position.{call-used-le, call-pairs-le, call-tail-le}
-use Rattle.exchange.proofs.Calls.{bind-yields, two-used-le, two-pairs-le}
-use Rattle.ps2_ports.proofs.Refusals.{bind-refused}
-use Rattle.exchange.specs.Exchange.{bind}
-use Rattle.ps2_command.specs.Command.{saidCommand}
-use Rattle.ps2_mouse.specs.Mouse.{disablePacketStreaming, mouseId}
-use Rattle.ps2_mouse_identity.specs.Identity.{setRates, wheelRates, afterFirst, newIdentity}
+use Rattle.exchange.proofs.Calls.{two-used-le, two-pairs-le}
+use Rattle.ps2_answers.proofs.Then.{done-then, refused-then}
+use Rattle.ps2_mouse.specs.Mouse.{disablePacketStreaming}
+use Rattle.ps2_mouse_identity.specs.Identity.{newIdentity}
 use Rattle.ps2_mouse_identity.proofs.new_identity.Statement.{statement}
 use Rattle.ps2_mouse_identity.proofs.new_identity.Tie as tie
 
@@ -38,22 +35,17 @@ add-t20 c =
     omega (arith, two-pairs-le _ _ _ _ (a .disable-mouse-packet-streaming .ensures) refl (m .wheel-identity .ensures), a .before .before .before .before .good)
 
 returns : tie.Need-returns
-unfolding newIdentity andThen
+unfolding newIdentity
 returns c =
     let m = c .before .before .before .before in
     let t = m .before .before .before in
-    let a = t .before .before .before .before in
-    let old = a .before .before .before .before .args .old in
-    bind-yields disablePacketStreaming (onGiven (λ _. andThen (setRates wheelRates) (λ _. bind mouseId (λ first. afterFirst old first)))) _ _ (a .disable-mouse-packet-streaming .ensures)
-    (ap saidCommand (t .enum-told .given .1)) refl (m .wheel-identity .ensures)
+    done-then disablePacketStreaming _ _ _ _ (t .before .before .before .before .disable-mouse-packet-streaming .ensures) (t .enum-told .given .1) refl (m .wheel-identity .ensures)
 
 returns-2 : tie.Need-returns-2
-unfolding newIdentity andThen
+unfolding newIdentity
 returns-2 c =
-    let a = c .before .before .before .before .before in
-    let old = a .before .before .before .before .args .old in
-    bind-refused disablePacketStreaming (λ _. andThen (setRates wheelRates) (λ _. bind mouseId (λ first. afterFirst old first))) _ _ (a .disable-mouse-packet-streaming .ensures)
-    (c .before .stopped .given .0 .0) (ap saidCommand (c .before .stopped .given .1))
+    refused-then disablePacketStreaming _ _ _ _ (c .before .before .before .before .before .disable-mouse-packet-streaming .ensures)
+    (c .before .stopped .given .0 .0) (c .before .stopped .given .1)
 
 pub new-identity-spec : {M : Type 1} → statement M
 new-identity-spec =

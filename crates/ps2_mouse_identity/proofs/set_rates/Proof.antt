@@ -10,8 +10,8 @@ use Rattle.exchange.specs.Answer.{onGiven}
 use Rattle.exchange.specs.Position.{Reached}
 use Rattle.exchange.proofs.Position.{reached-start, reached-same, reached-done}
 use Rattle.exchange.proofs.Calls.{reached-used-le, reached-pairs-le, reached-call, reached-last}
-use Rattle.ps2_ports.proofs.Refusals.{bind-refused}
-use Rattle.ps2_command.specs.Command.{saidCommand}
+use Rattle.ps2_answers.proofs.Refusals.{bind-refused}
+use Rattle.ps2_answers.specs.Refusals.{saidDone}
 use Rattle.ps2_mouse.specs.Mouse.{setSamplingRate}
 use Rattle.ps2_mouse_identity.specs.Identity.{setRates}
 use Rattle.ps2_mouse_identity.proofs.Rates.{rates-next, rates-over}
@@ -61,7 +61,7 @@ loop-again c =
     let long : length rates ≡ 3 = v .good .1 .1 .0 .1 .0 .1 in (
       omega (arith, b .loop .inv .0),
       reached-call (setSamplingRate (getD rates (b .loop .i) _)) (onGiven (λ _. setRates (drop (b .loop .i + 1) rates)))
-          (reached-same (b .loop .inv .1) (rates-next rates (b .loop .i) _ (omega arith))) refl (s .set-mouse-sampling-rate .ensures) (ap saidCommand (c .enum-told .given .1)),
+          (reached-same (b .loop .inv .1) (rates-next rates (b .loop .i) _ (omega arith))) refl (s .set-mouse-sampling-rate .ensures) (ap saidDone (c .enum-told .given .1)),
     )
 
 returns : tie.Need-returns Inv-loop μ-loop
@@ -81,7 +81,7 @@ returns-2 c =
     let rate = setSamplingRate (getD rates (b .loop .i) _) in
     let rest = onGiven (λ _. setRates (drop (b .loop .i + 1) rates)) in
     reached-last (bind rate rest) (reached-same (b .loop .inv .1) (rates-next rates (b .loop .i) _ (omega arith))) refl
-    (bind-refused rate (λ _. setRates (drop (b .loop .i + 1) rates)) _ _ (s .set-mouse-sampling-rate .ensures) (c .before .set .given .0 .0) (ap saidCommand (c .before .set .given .1)))
+    (bind-refused rate (λ _. setRates (drop (b .loop .i + 1) rates)) _ _ (s .set-mouse-sampling-rate .ensures) (c .before .set .given .0 .0) (ap saidDone (c .before .set .given .1)))
 
 pub set-rates-spec : {M : Type 1} → statement M
 set-rates-spec =

@@ -6,7 +6,7 @@ use mathlib.Core.Path.{refl, ap, _∙_}
 use Rattle.exchange.specs.Answer.{onGiven}
 use Rattle.exchange.proofs.Position.{call-used-le, call-pairs-le, call-tail-le}
 use Rattle.exchange.proofs.Calls.{bind-yields, bind-done, two-used-le, two-pairs-le}
-use Rattle.ps2_ports.proofs.Refusals.{bind-refused}
+use Rattle.ps2_answers.proofs.Refusals.{bind-refused}
 use Rattle.ps2_mouse_identity.specs.declared.AskedAnswer.{AskedAnswer}
 use Rattle.ps2_mouse.specs.declared.IdAnswer.{IdAnswer}
 use Rattle.ps2_mouse_identity.specs.Identity.{identityAfter, wheelRates, afterFirst}

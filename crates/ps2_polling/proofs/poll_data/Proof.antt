@@ -12,8 +12,9 @@ use Rattle.exchange.proofs.Position.{reads-used-le}
 use Rattle.exchange.proofs.Calls.{part-used-le, reads-done, reads-yields}
 use Rattle.ps2_layouts.specs.declared.status.ControllerToHostStatus.{ControllerToHostStatus}
 use Rattle.ps2_layouts.specs.Status.{outputBufferFull}
-use Rattle.ps2_ports.specs.Ports.{readStatus, saidStatus}
-use Rattle.ps2_ports.proofs.Refusals.{onAnswer, reads-refused-turn}
+use Rattle.ps2_ports.specs.Ports.{readStatus}
+use Rattle.ps2_answers.specs.Answers.{saidStatus}
+use Rattle.ps2_answers.proofs.Refusals.{onAnswer, reads-refused-turn}
 use Rattle.ps2_polling.specs.Polling.{dataTurn, poll}
 use Rattle.ps2_polling.proofs.Polls.{read-turn}
 use Rattle.ps2_polling.proofs.poll_data.Statement.{statement}
@@ -44,7 +45,7 @@ returns c =
     let output-buffer-full = c .before .before .before .before .before .before .before .output-buffer-full .ensures in
     let if1 = c .before .before .before .before .before .before .if1 .taken in
     let read-data = c .before .before .before .before .read-data .ensures in
-    reads-yields readStatus (onAnswer on-status) _ status-register (ap saidStatus (read-answer .1))
+    reads-yields readStatus (onAnswer on-status) _ status-register (ap saidStatus (read-answer .1)) {w₂ = 0}
     (rw (seen _ _ true output-buffer-full if1) (read-turn (λ b. found (gives b)) (c .before .byte .given .1) _ read-data))
 
 returns-2 : tie.Need-returns-2
@@ -55,7 +56,7 @@ returns-2 c =
     let output-buffer-full = c .before .before .before .before .before .before .before .output-buffer-full .ensures in
     let if1 = c .before .before .before .before .before .before .if1 .taken in
     let read-data = c .before .before .before .before .read-data .ensures in
-    reads-yields readStatus (onAnswer on-status) _ status-register (ap saidStatus (read-answer .1))
+    reads-yields readStatus (onAnswer on-status) _ status-register (ap saidStatus (read-answer .1)) {w₂ = 0}
     (rw (seen _ _ true output-buffer-full if1) (read-turn (λ b. found (gives b)) (c .before .byte2 .given .1) _ read-data))
 
 returns-3 : tie.Need-returns-3

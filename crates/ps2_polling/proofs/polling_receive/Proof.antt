@@ -9,7 +9,7 @@ use Rattle.exchange.proofs.Calls.{part-used-le}
 use Rattle.exchange.proofs.Reading.{read-to-start, read-to-used-le, read-to-over, read-to-again, read-to-found, read-to-end}
 use Rattle.exchange.specs.Answer.{refuses}
 use Rattle.exchange.specs.Repeat.{repeat}
-use Rattle.ps2_ports.specs.Refusals.{refused}
+use Rattle.ps2_answers.specs.Refusals.{refused}
 use Rattle.ps2_polling.specs.Polling.{poll, responseTurn, pollingReceive}
 use Rattle.ps2_polling.proofs.Polls.{poll-turn, response-turn}
 use Rattle.ps2_polling.proofs.polling_receive.Statement.{statement}

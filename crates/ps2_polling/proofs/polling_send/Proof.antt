@@ -19,10 +19,11 @@ use Rattle.ps2_bytes.specs.declared.writable.HostToDevice.{HostToDevice}
 use Rattle.ps2_bytes.specs.declared.writable.WritableData.{WritableData}
 use Rattle.ps2_layouts.specs.Status.{inputBufferFull}
 use Rattle.ps2_bytes.specs.Writable.{toDevice}
-use Rattle.ps2_ports.specs.declared.StatusAnswer.{StatusAnswer}
-use Rattle.ps2_ports.specs.Refusals.{Success, success}
-use Rattle.ps2_ports.specs.Ports.{readStatus, writePort, writeData, saidStatus}
-use Rattle.ps2_ports.proofs.Refusals.{reads-refused}
+use Rattle.ps2_answers.specs.declared.StatusAnswer.{StatusAnswer}
+use Rattle.ps2_answers.specs.Refusals.{Success, success}
+use Rattle.ps2_ports.specs.Ports.{readStatus, writePort, writeData}
+use Rattle.ps2_answers.specs.Answers.{saidStatus}
+use Rattle.ps2_answers.proofs.Refusals.{reads-refused}
 use Rattle.ps2_polling.specs.Polling.{sendTry, pollingSend}
 use Rattle.ps2_polling.proofs.polling_send.Statement.{statement}
 use Rattle.ps2_polling.proofs.polling_send.Tie as tie
@@ -44,7 +45,7 @@ module _ (value : HostToDevice) {s l l′ : List ℕ} {u n : ℕ} (at : Reached 
   asked = reached-turn n (refuses 4) (sendTry (toDevice value)) at (n - 1) (omega arith)
 
   -- it came, and says whether the input buffer is empty
-  answered : {a : StatusAnswer} {status : ControllerToHostStatus} → a ≡ StatusAnswer.Status status → {u₂ : ℕ} → Reads readStatus (part u s) (saidStatus a) u₂
+  answered : {a : StatusAnswer} {status : ControllerToHostStatus} → a ≡ StatusAnswer.Status status → {u₂ w₂ : ℕ} → Reads readStatus (part u s) (saidStatus a) u₂ w₂
       → {x : Bool} → x ≡ bit inputBufferFull (status .bits) → (empty : Bool) → not x ≡ empty → Reached (pollingSend value) s l (after (not empty)) (u + u₂) 0 l′
   answered q r {x} p empty t =
       reached-same (reached-call-reads readStatus (onGiven on-answer) asked r (ap saidStatus q)) (ap after (sym p ∙ sym (Bool·not-not x) ∙ ap not t))

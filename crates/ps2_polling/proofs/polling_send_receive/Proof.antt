@@ -5,8 +5,8 @@ use mathlib.Core.Path.{ap}
 use Rattle.exchange.specs.Answer.{onGiven, andThen}
 use Rattle.exchange.proofs.Position.{call-used-le}
 use Rattle.exchange.proofs.Calls.{part-used-le, bind-yields-reads}
-use Rattle.ps2_ports.specs.Refusals.{Success, saidDone}
-use Rattle.ps2_ports.proofs.Refusals.{bind-refused}
+use Rattle.ps2_answers.specs.Refusals.{Success, saidDone}
+use Rattle.ps2_answers.proofs.Refusals.{bind-refused}
 use Rattle.ps2_polling.specs.Polling.{pollingSend, pollingReceive, pollingSendReceive}
 use Rattle.ps2_polling.proofs.polling_send_receive.Statement.{statement}
 use Rattle.ps2_polling.proofs.polling_send_receive.Tie as tie

@@ -11,8 +11,8 @@ use Rattle.exchange.specs.Position.{ReadTo}
 use Rattle.exchange.specs.Repeat.{repeat}
 use Rattle.exchange.proofs.Calls.{part-used-le}
 use Rattle.exchange.proofs.Reading.{read-to-start, read-to-used-le, read-to-over, read-to-again, read-to-found, read-to-end}
-use Rattle.ps2_ports.specs.declared.Failure.{Failure}
-use Rattle.ps2_ports.specs.Refusals.{Success, numberOf, refused}
+use Rattle.ps2_answers.specs.declared.Failure.{Failure}
+use Rattle.ps2_answers.specs.Refusals.{Success, numberOf, refused}
 use Rattle.ps2_polling.specs.declared.Waiting.{Waiting}
 use Rattle.ps2_polling.specs.Polling.{turnOf, passedTurn}
 use Rattle.ps2_polling.proofs.Polls.{taken-turn, passed-yes, passed-no}

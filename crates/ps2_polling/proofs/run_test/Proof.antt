@@ -3,8 +3,8 @@ use borrow.Author.Needs.{needs}
 use mathlib.Core.Path.{ap}
 use Rattle.exchange.specs.Answer.{onGiven, andThen}
 use Rattle.exchange.proofs.Calls.{writes-then-reads}
-use Rattle.ps2_ports.specs.Refusals.{saidDone}
-use Rattle.ps2_ports.proofs.Refusals.{bind-refused}
+use Rattle.ps2_answers.specs.Refusals.{saidDone}
+use Rattle.ps2_answers.proofs.Refusals.{bind-refused}
 use Rattle.ps2_polling.proofs.run_test.Statement.{statement}
 use Rattle.ps2_polling.proofs.run_test.Tie as tie
 

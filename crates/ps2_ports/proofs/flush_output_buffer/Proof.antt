@@ -5,9 +5,10 @@ use mathlib.Core.Path.{refl, ap}
 use Rattle.exchange.specs.Exchange.{done, bind}
 use Rattle.exchange.specs.Answer.{gives, onGiven}
 use Rattle.exchange.proofs.Calls.{reads-done}
-use Rattle.ps2_ports.specs.Refusals.{success}
-use Rattle.ps2_ports.specs.Ports.{readPort, readData, flushOutputBuffer, saidByte}
-use Rattle.ps2_ports.proofs.Refusals.{reads-refused}
+use Rattle.ps2_answers.specs.Refusals.{success}
+use Rattle.ps2_ports.specs.Ports.{readPort, readData, flushOutputBuffer}
+use Rattle.ps2_answers.specs.Answers.{saidByte}
+use Rattle.ps2_answers.proofs.Refusals.{reads-refused}
 use Rattle.ps2_ports.proofs.flush_output_buffer.Statement.{statement}
 use Rattle.ps2_ports.proofs.flush_output_buffer.Tie as tie
 

@@ -7,9 +7,10 @@ use Rattle.exchange.specs.Answer.{Answer, gives, onGiven, andThen}
 use Rattle.exchange.proofs.Calls.{reads-done, writes-then-reads}
 use Rattle.ps2_bytes.specs.declared.command.HostToControllerCommand.the-variants.{ReadFromInternalRAMByte0}
 use Rattle.ps2_layouts.specs.declared.configuration.ControllerConfigurationByte.{ControllerConfigurationByte}
-use Rattle.ps2_ports.specs.Refusals.{Success, saidDone}
-use Rattle.ps2_ports.specs.Ports.{readPort, writePort, readData, writeCommand, readConfig, saidByte}
-use Rattle.ps2_ports.proofs.Refusals.{bind-refused, reads-refused}
+use Rattle.ps2_answers.specs.Refusals.{Success, saidDone}
+use Rattle.ps2_ports.specs.Ports.{readPort, writePort, readData, writeCommand, readConfig}
+use Rattle.ps2_answers.specs.Answers.{saidByte}
+use Rattle.ps2_answers.proofs.Refusals.{bind-refused, reads-refused}
 use Rattle.ps2_ports.proofs.read_config.Statement.{statement}
 use Rattle.ps2_ports.proofs.read_config.Tie as tie
 

@@ -8,11 +8,11 @@ use Rattle.ps2_ports.proofs.read_port.Tie as tie
 
 returns : tie.Need-returns
 unfolding readPort
-returns c p = read-to-no-byte (read-to-start (readPort p) _) (omega arith)
+returns c = read-to-no-byte (read-to-start _ _) (omega arith)
 
 returns-2 : tie.Need-returns-2
 unfolding readPort
-returns-2 c p = read-to-done (read-to-read (read-to-start (readPort p) _) (omega arith))
+returns-2 c = read-to-done (read-to-read (read-to-start _ _) (omega arith))
 
 pub read-port-spec : {M : Type 1} → statement M
 read-port-spec = tie.close (tie.spec returns (λ c. search needs) returns-2)

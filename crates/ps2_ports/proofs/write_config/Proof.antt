@@ -8,9 +8,9 @@ use Rattle.exchange.proofs.Position.{writes-pairs-le, writes-tail-le}
 use Rattle.exchange.proofs.Calls.{writes-yields}
 use Rattle.ps2_bytes.specs.declared.command.HostToControllerCommand.the-variants.{WriteToInternalRAMByte0}
 use Rattle.ps2_bytes.specs.declared.writable.WritableData.{WritableData}
-use Rattle.ps2_ports.specs.Refusals.{saidDone}
+use Rattle.ps2_answers.specs.Refusals.{saidDone}
 use Rattle.ps2_ports.specs.Ports.{writePort, writeCommand, writeData, writeConfig}
-use Rattle.ps2_ports.proofs.Refusals.{writes-refused}
+use Rattle.ps2_answers.proofs.Refusals.{writes-refused}
 use Rattle.ps2_ports.proofs.write_config.Statement.{statement}
 use Rattle.ps2_ports.proofs.write_config.Tie as tie
 

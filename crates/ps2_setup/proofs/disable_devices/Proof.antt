@@ -14,8 +14,8 @@ use Rattle.exchange.proofs.Grouping.{andThen-assoc}
 use Rattle.ps2_bytes.specs.declared.command.HostToControllerCommand.the-variants.{DisablePort1, DisablePort2}
 use Rattle.ps2_layouts.specs.declared.configuration.ControllerConfigurationByte.{ControllerConfigurationByte}
 use Rattle.ps2_ports.specs.Ports.{writeCommand, flushOutputBuffer, readConfig}
-use Rattle.ps2_ports.specs.Refusals.{Success, success, saidDone}
-use Rattle.ps2_ports.proofs.Refusals.{bind-refused}
+use Rattle.ps2_answers.specs.Refusals.{Success, success, saidDone}
+use Rattle.ps2_answers.proofs.Refusals.{bind-refused}
 use Rattle.ps2_setup.specs.SetUp.{disableDevices}
 use Rattle.ps2_setup.proofs.disable_devices.Statement.{statement}
 use Rattle.ps2_setup.proofs.disable_devices.Tie as tie
@@ -31,8 +31,8 @@ grouped : (s l : List ℕ) {o : Played (Answer ControllerConfigurationByte)} →
 unfolding disableDevices andThen
 grouped s l q = rw (andThen-assoc (writeCommand DisablePort1) (λ _. writeCommand DisablePort2) rest) at q
 
-both : (l : List ℕ) {e e₂ : End (Answer Success)} {w w₂ : ℕ} {l′ m : List ℕ} → Writes (writeCommand DisablePort1) l e w l′ → e ≡ yields (gives success)
-    → Writes (writeCommand DisablePort2) (part (2 * w) l′) e₂ w₂ m → Writes commands l e₂ (w + w₂) (restored (2 * w) l′ m)
+both : (l : List ℕ) {e e₂ : End (Answer Success)} {u u₂ w w₂ : ℕ} {l′ m : List ℕ} → Writes (writeCommand DisablePort1) l e u w l′ → e ≡ yields (gives success)
+    → Writes (writeCommand DisablePort2) (part (2 * w) l′) e₂ u₂ w₂ m → Writes commands l e₂ 0 (w + w₂) (restored (2 * w) l′ m)
 unfolding andThen
 both l r q x = writes-yields (writeCommand DisablePort1) (onGiven (λ _. writeCommand DisablePort2)) l r q refl x
 

@@ -25,7 +25,7 @@ returns-2 c =
 
 returns-3 : tie.Need-returns-3
 unfolding play
-returns-3 c = rw (c .if1 .left) (record { with-any = λ s. refl })
+returns-3 c = rw (c .if1 .left) (record { with-any = λ s. refl; no-bytes = refl })
 
 pub enable-port-spec : {M : Type 1} → statement M
 enable-port-spec =

@@ -6,10 +6,11 @@ use mathlib.Core.Path.{refl, ap}
 use Rattle.exchange.specs.Answer.{onGiven, andThen}
 use Rattle.exchange.proofs.Position.{writes-pairs-le, writes-tail-le}
 use Rattle.exchange.proofs.Calls.{writes-yields}
-use Rattle.ps2_ports.proofs.Refusals.{writes-refused}
+use Rattle.ps2_answers.proofs.Refusals.{writes-refused}
 use Rattle.ps2_bytes.specs.declared.command.HostToControllerCommand.the-variants.{EnablePort2}
 use Rattle.ps2_layouts.specs.Configuration.{port2Interrupt, port2ClockDisabled}
-use Rattle.ps2_ports.specs.Ports.{writeConfig, saidConfig}
+use Rattle.ps2_ports.specs.Ports.{writeConfig}
+use Rattle.ps2_answers.specs.Answers.{saidConfig}
 use Rattle.ps2_setup.specs.SetUp.{enablePort}
 use Rattle.ps2_setup.proofs.enable_port2.Statement.{statement}
 use Rattle.ps2_setup.proofs.enable_port2.Tie as tie

@@ -7,8 +7,8 @@ use Rattle.exchange.specs.Answer.{onGiven, andThen}
 use Rattle.exchange.proofs.Position.{call-used-le, reads-used-le}
 use Rattle.exchange.proofs.Calls.{reads-then}
 use Rattle.ps2_ports.specs.Ports.{flushOutputBuffer, readConfig}
-use Rattle.ps2_ports.specs.Refusals.{saidDone}
-use Rattle.ps2_ports.proofs.Refusals.{bind-refused}
+use Rattle.ps2_answers.specs.Refusals.{saidDone}
+use Rattle.ps2_answers.proofs.Refusals.{bind-refused}
 use Rattle.ps2_setup.proofs.flush_and_read_config.Statement.{statement}
 use Rattle.ps2_setup.proofs.flush_and_read_config.Tie as tie
 

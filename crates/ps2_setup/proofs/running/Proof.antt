@@ -11,12 +11,10 @@ use Rattle.ps2_setup.proofs.running.Tie as tie
 
 returns : tie.Need-returns
 returns c =
-    let a = c .before .before .before .before .args in
     rw (c .before .before .enum-told .given .1) (ap config (c .set-port1-interrupt-enabled .ensures ∙ ap (putBit port1Interrupt true) (c .before .set-port1-clock-disabled .ensures)))
 
 returns-2 : tie.Need-returns-2
 returns-2 c =
-    let a = c .before .before .before .before .args in
     rw (c .before .before .enum-told2 .given .1) (ap config (c .set-port2-interrupt-enabled .ensures ∙ ap (putBit port2Interrupt true) (c .before .set-port2-clock-disabled .ensures)))
 
 pub running-spec : {M : Type 1} → statement M

@@ -7,8 +7,8 @@ use Rattle.exchange.specs.Answer.{onGiven, andThen}
 use Rattle.exchange.proofs.Position.{call-pairs-le, call-tail-le}
 use Rattle.exchange.proofs.Calls.{bind-yields-writes}
 use Rattle.ps2_ports.specs.Ports.{writeConfig}
-use Rattle.ps2_ports.specs.Refusals.{saidDone}
-use Rattle.ps2_ports.proofs.Refusals.{bind-refused}
+use Rattle.ps2_answers.specs.Refusals.{saidDone}
+use Rattle.ps2_answers.proofs.Refusals.{bind-refused}
 use Rattle.ps2_polling.specs.Polling.{testController}
 use Rattle.ps2_setup.proofs.test_and_restore.Statement.{statement}
 use Rattle.ps2_setup.proofs.test_and_restore.Tie as tie

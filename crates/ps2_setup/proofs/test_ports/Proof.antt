@@ -4,10 +4,10 @@ use borrow.Author.Needs.{needs}
 use native.Mathlib.Omega.{arith}
 use mathlib.Core.Path.{refl, ap}
 use Rattle.exchange.proofs.Position.{call-used-le, call-pairs-le, call-tail-le}
-use Rattle.exchange.proofs.Calls.{bind-yields, two-used-le, two-pairs-le}
+use Rattle.exchange.proofs.Calls.{bind-yields, bind-lacks, two-used-le, two-pairs-le}
 use Rattle.exchange.specs.Refuses.{succeeds}
 use Rattle.ps2_setup.specs.Answers.{saidTrial}
-use Rattle.ps2_setup.proofs.Trials.{succeeds-tried, bind-lacked}
+use Rattle.ps2_setup.proofs.Trials.{succeeds-tried}
 use Rattle.exchange.specs.Exchange.{done, bind}
 use Rattle.ps2_bytes.specs.declared.command.HostToControllerCommand.the-variants.{TestPort1}
 use Rattle.ps2_polling.specs.Polling.{testPort}
@@ -51,16 +51,16 @@ returns c =
 returns-2 : tie.Need-returns-2
 unfolding testPorts
 returns-2 c =
-    let a = c .before .before .before .before .before .before .before .before .before .before .before .args in
-    let x = c .before .before in
+    let a = c .before .before .before .before .before .before .before .before .before .before .args in
+    let x = c .before in
     let t = x .before .before in
-    bind-lacked (succeeds (testPort TestPort1)) (λ first. bind (testSecond (a .has-mouse)) (λ second. done (atLeastOne first second))) _ _ (succeeds-tried (testPort TestPort1) _ _ (t .before .before .before .test-port1 .ensures) (t .tried .ensures))
-    (x .x .given .0 .0) (ap saidTrial (x .x .given .1)) (c .lack-refusal .ensures)
+    bind-lacks (succeeds (testPort TestPort1)) (λ first. bind (testSecond (a .has-mouse)) (λ second. done (atLeastOne first second))) _ _ (succeeds-tried (testPort TestPort1) _ _ (t .before .before .before .test-port1 .ensures) (t .tried .ensures))
+    (ap saidTrial (x .lack .given .1))
 
 pub test-ports-spec : {M : Type 1} → statement M
 test-ports-spec =
     tie.close
     (tie.spec
     (λ c κs. search needs) (λ c κs. search needs) (λ c. search needs) mul-at sub-test-second sub-test-second (λ c. search needs) sub-test-second-2
-    sub-test-second-2 (λ c. search needs) (λ c κs. search needs) add-t18 add-t22 (λ c. search needs) (λ c κs. search needs) (λ c. search needs)
+    sub-test-second-2 (λ c. search needs) (λ c κs. search needs) add-t18 add-t22 (λ c. search needs) (λ c. search needs)
     returns (λ c. search needs) returns-2)

@@ -6,9 +6,9 @@ use mathlib.Core.Path.{refl, ap}
 use Rattle.exchange.specs.Answer.{onGiven, andThen}
 use Rattle.exchange.proofs.Position.{call-pairs-le, writes-pairs-le, writes-tail-le}
 use Rattle.exchange.proofs.Calls.{writes-then}
-use Rattle.ps2_ports.proofs.Refusals.{bind-refused}
+use Rattle.ps2_answers.proofs.Refusals.{bind-refused}
 use Rattle.ps2_ports.specs.Ports.{writeConfig}
-use Rattle.ps2_ports.specs.Refusals.{saidDone}
+use Rattle.ps2_answers.specs.Refusals.{saidDone}
 use Rattle.ps2_polling.specs.Polling.{testController}
 use Rattle.ps2_setup.specs.SetUp.{testWith}
 use Rattle.ps2_setup.proofs.test_with.Statement.{statement}

@@ -2,16 +2,11 @@
 -- Assumes nothing.
 use borrow.Author.Needs.{needs}
 use native.Mathlib.Omega.{arith}
-use mathlib.Core.Path.{ap}
-use Rattle.exchange.specs.Answer.{andThen, onGiven}
 use Rattle.exchange.proofs.Position.{call-used-le}
-use Rattle.exchange.proofs.Calls.{part-used-le, bind-yields-reads}
+use Rattle.exchange.proofs.Calls.{part-used-le}
 use Rattle.ps2_bytes.specs.declared.command.HostToMouseCommand.the-variants.{Reset}
-use Rattle.ps2_ports.specs.Ports.{flushOutputBuffer}
-use Rattle.ps2_ports.proofs.Refusals.{bind-refused}
-use Rattle.ps2_command.specs.Command.{saidCommand}
-use Rattle.ps2_command.specs.Search.{selfTestWithin}
-use Rattle.ps2_mouse.specs.Mouse.{mouseCommand, resetReads, resetMouse}
+use Rattle.ps2_answers.proofs.Then.{done-then-reads, refused-then}
+use Rattle.ps2_mouse.specs.Mouse.{mouseCommand, resetMouse}
 use Rattle.ps2_mouse.proofs.PS2Mouse.reset.Statement.{statement}
 use Rattle.ps2_mouse.proofs.PS2Mouse.reset.Tie as tie
 
@@ -24,17 +19,16 @@ add-t16 c =
     omega (arith, part-used-le (a .before .before .before .before .args .script .now) _ (call-used-le _ _ _ (a .command-to-mouse .ensures)) (c .before .read-self-test-and-id .ensures), a .before .before .before .before .good)
 
 returns : tie.Need-returns
-unfolding resetMouse andThen
+unfolding resetMouse
 returns c =
     let t = c .before .before .before in
-    bind-yields-reads (mouseCommand Reset) (onGiven (λ _. andThen (selfTestWithin resetReads) (λ _. flushOutputBuffer))) _ _ (t .before .before .before .before .command-to-mouse .ensures)
-    (ap saidCommand (t .enum-told .given .1)) (c .before .read-self-test-and-id .ensures)
+    done-then-reads (mouseCommand Reset) _ _ _ _ (t .before .before .before .before .command-to-mouse .ensures) (t .enum-told .given .1) (c .before .read-self-test-and-id .ensures)
 
 returns-2 : tie.Need-returns-2
-unfolding resetMouse andThen
+unfolding resetMouse
 returns-2 c =
-    bind-refused (mouseCommand Reset) (λ _. andThen (selfTestWithin resetReads) (λ _. flushOutputBuffer)) _ _ (c .before .before .before .before .before .command-to-mouse .ensures)
-    (c .before .accepted .given .0 .0) (ap saidCommand (c .before .accepted .given .1))
+    refused-then (mouseCommand Reset) _ _ _ _ (c .before .before .before .before .before .command-to-mouse .ensures)
+    (c .before .accepted .given .0 .0) (c .before .accepted .given .1)
 
 pub reset-spec : {M : Type 1} → statement M
 reset-spec =

@@ -1,0 +1,20 @@
+-- Closed examples of the flags that bytes say, by computation.
+-- Assumes nothing.
+use mathlib.Core.Path.{_≡_, refl}
+use Rattle.bits.specs.Bits.{odd, putBit}
+use Rattle.keyboard_history.specs.Past.{nothing, _▸_}
+use Rattle.keyboard_history.specs.Said.{prefixSaid, strokes, times, lastWasPress, saidOf, wordOf, flagsSaid}
+use Rattle.keyboard_scancodes.specs.FlagTable.{flagTable, isOf}
+
+-- Every key but Control has its strokes after a prefix as without one: both Shifts, Alt and both Supers are held, the three locks on.
+pub prefix-or-not :
+    (flagsSaid (nothing ▸ 0x2A ▸ 0x36 ▸ 0x38 ▸ 0x5B ▸ 0x5C ▸ 0x3A ▸ 0x45 ▸ 0x46) ≡ 0x3F3)
+    × (flagsSaid (nothing ▸ 0xE0 ▸ 0x2A ▸ 0xE0 ▸ 0x36 ▸ 0xE0 ▸ 0x38 ▸ 0xE0 ▸ 0x5B ▸ 0xE0 ▸ 0x5C ▸ 0xE0 ▸ 0x3A ▸ 0xE0 ▸ 0x45 ▸ 0xE0 ▸ 0x46) ≡ 0x3F3)
+unfolding flagsSaid wordOf saidOf times lastWasPress strokes prefixSaid flagTable isOf putBit odd
+prefix-or-not = (refl, refl)
+
+-- Released, the held keys are not held, and the locks stay on.
+pub released :
+    flagsSaid (nothing ▸ 0x2A ▸ 0x36 ▸ 0x38 ▸ 0x5B ▸ 0x5C ▸ 0x3A ▸ 0x45 ▸ 0x46 ▸ 0xAA ▸ 0xB6 ▸ 0xB8 ▸ 0xDB ▸ 0xDC ▸ 0xBA ▸ 0xC5 ▸ 0xC6) ≡ 0x380
+unfolding flagsSaid wordOf saidOf times lastWasPress strokes prefixSaid flagTable isOf putBit odd
+released = refl

@@ -1,0 +1,7 @@
+-- Laws of single scancodes.
+pub mod Tests
+pub mod Flags
+pub mod Silent
+pub mod Untouched
+pub mod Keycodes
+pub mod LampBits

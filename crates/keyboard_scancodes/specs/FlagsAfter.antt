@@ -1,0 +1,28 @@
+-- What one stroke does to the flags, by the table.
+-- Assumes nothing.
+use mathlib.Core.Bool.{Bool, not, cond}
+use mathlib.Core.List.{List, [], _∷_}
+use Prim.Native.Nat.{ℕ}
+use Rattle.bits.specs.Bits.{bit, putBit}
+use Rattle.keyboard_scancodes.specs.declared.KeyboardState.{KeyboardState}
+use Rattle.keyboard_scancodes.specs.Strokes.{Stroke, stroke}
+use Rattle.keyboard_scancodes.specs.FlagTable.{Kind, lock, held, left, right, FlagRow, flagTable, isOf}
+
+-- A flag after a stroke of its key: a lock's press turns it over, another key's stroke sets it to "is pressed".
+abbrev pub flagAfter : Kind → Bool → Bool → Bool
+flagAfter lock pressed old = not old
+flagAfter held pressed old = pressed
+flagAfter left pressed old = pressed
+flagAfter right pressed old = pressed
+
+-- A word of flags after a stroke: the flag of each row whose key it is of changes.
+abbrev pub rowAfter : FlagRow → Stroke → ℕ → ℕ
+rowAfter r s flags = cond (isOf r s) (putBit (r .flag) (flagAfter (r .kind) (s .pressed) (bit (r .flag) flags)) flags) flags
+
+unfoldable pub flagsAfter : List FlagRow → Stroke → ℕ → ℕ
+flagsAfter [] s flags = flags
+flagsAfter (r ∷ rows) s flags = rowAfter r s (flagsAfter rows s flags)
+
+-- The flags of a keyboard just after a byte.
+unfoldable pub flagsThen : KeyboardState → ℕ → ℕ
+flagsThen k b = flagsAfter flagTable (stroke b (k .prefix)) (k .modifiers .bits)

@@ -1,0 +1,129 @@
+// What scancodes say by themselves, with what the handler remembers of one keyboard: whether a byte is a prefix, no key's or a lock's press, and the flags just after it; the lamps of the locks that are on.
+ghost use mathlib.Core.Path.{_≡_};
+ghost use Rattle.keyboard_scancodes.specs.Strokes.{stroke, isPrefix, isSilent};
+ghost use Rattle.keyboard_scancodes.specs.FlagTable.{flagTable, isLockPress};
+ghost use Rattle.keyboard_scancodes.specs.FlagsAfter.{flagsAfter};
+ghost use Rattle.keyboard_scancodes.specs.Lamps.{lampsLit};
+use keyboard_modifiers::KeyboardModifiers;
+use ps2_layouts::LEDState;
+
+// The prefixes of extended keys, and the bytes that are no key's: an error of the port, and an acknowledgement.
+const EXTENDED_SCANCODE: u8 = 0xE0;
+
+const EXTENDED_SCANCODE_2: u8 = 0xE1;
+
+const KEY_ERROR: u8 = 0x00;
+
+const ACKNOWLEDGE: u8 = 0xFA;
+
+// The scancodes that change a flag, under the names that the Rust's `Keycode` has for them.
+const CONTROL: u8 = 0x1D;
+
+const ALT: u8 = 0x38;
+
+const LEFT_SHIFT: u8 = 0x2A;
+
+const RIGHT_SHIFT: u8 = 0x36;
+
+const SUPER_KEY_LEFT: u8 = 0x5B;
+
+const SUPER_KEY_RIGHT: u8 = 0x5C;
+
+const CONTROL_RELEASED: u8 = 0x9D;
+
+const ALT_RELEASED: u8 = 0xB8;
+
+const LEFT_SHIFT_RELEASED: u8 = 0xAA;
+
+const RIGHT_SHIFT_RELEASED: u8 = 0xB6;
+
+const SUPER_LEFT_RELEASED: u8 = 0xDB;
+
+const SUPER_RIGHT_RELEASED: u8 = 0xDC;
+
+const CAPS_LOCK: u8 = 0x3A;
+
+const NUM_LOCK: u8 = 0x45;
+
+const SCROLL_LOCK: u8 = 0x46;
+
+// What the handler remembers of one keyboard: whether the last byte was a prefix, the keys that are held and the locks that are on.
+pub struct KeyboardState {
+    pub prefix: bool,
+    pub modifiers: KeyboardModifiers,
+}
+
+// E0 and E1 say that the next byte belongs to an extended key.
+pub fn is_prefix(scan_code: u8) -> bool
+    ensures { λ r. ⌜ r ≡ isPrefix «scan_code» ⌝ }
+{
+    if scan_code == EXTENDED_SCANCODE {
+        return true;
+    }
+    scan_code == EXTENDED_SCANCODE_2
+}
+
+// The prefixes, 00 (an error of the port) and FA (an acknowledgement) are no key's.
+pub fn is_silent(scan_code: u8) -> bool
+    ensures { λ r. ⌜ r ≡ isSilent «scan_code» ⌝ }
+{
+    if is_prefix(scan_code) {
+        return true;
+    }
+    if scan_code == KEY_ERROR {
+        return true;
+    }
+    scan_code == ACKNOWLEDGE
+}
+
+// The press of Caps Lock, Num Lock or Scroll Lock.
+pub fn is_lock_press(scan_code: u8) -> bool
+    ensures { λ r. ⌜ r ≡ isLockPress «scan_code» ⌝ }
+{
+    match scan_code {
+        CAPS_LOCK => true,
+        NUM_LOCK => true,
+        SCROLL_LOCK => true,
+        _ => false,
+    }
+}
+
+// The flags just after a scancode. A lock goes over at its press; a prefix directly before tells right Control from left.
+pub fn modifiers_after(keyboard: KeyboardState, scan_code: u8) -> KeyboardModifiers
+    ensures { λ r. ⌜ r .bits ≡ flagsAfter flagTable (stroke «scan_code» (keyboard .prefix)) (keyboard .modifiers .bits) ⌝ }
+{
+    let modifiers = keyboard.modifiers;
+    let control = if keyboard.prefix {
+        KeyboardModifiers::CONTROL_RIGHT
+    } else {
+        KeyboardModifiers::CONTROL_LEFT
+    };
+    match scan_code {
+        CONTROL => modifiers.insert(control),
+        ALT => modifiers.insert(KeyboardModifiers::ALT),
+        LEFT_SHIFT => modifiers.insert(KeyboardModifiers::SHIFT_LEFT),
+        RIGHT_SHIFT => modifiers.insert(KeyboardModifiers::SHIFT_RIGHT),
+        SUPER_KEY_LEFT => modifiers.insert(KeyboardModifiers::SUPER_KEY_LEFT),
+        SUPER_KEY_RIGHT => modifiers.insert(KeyboardModifiers::SUPER_KEY_RIGHT),
+        CONTROL_RELEASED => modifiers.remove(control),
+        ALT_RELEASED => modifiers.remove(KeyboardModifiers::ALT),
+        LEFT_SHIFT_RELEASED => modifiers.remove(KeyboardModifiers::SHIFT_LEFT),
+        RIGHT_SHIFT_RELEASED => modifiers.remove(KeyboardModifiers::SHIFT_RIGHT),
+        SUPER_LEFT_RELEASED => modifiers.remove(KeyboardModifiers::SUPER_KEY_LEFT),
+        SUPER_RIGHT_RELEASED => modifiers.remove(KeyboardModifiers::SUPER_KEY_RIGHT),
+        CAPS_LOCK => modifiers.toggle(KeyboardModifiers::CAPS_LOCK),
+        SCROLL_LOCK => modifiers.toggle(KeyboardModifiers::SCROLL_LOCK),
+        NUM_LOCK => modifiers.toggle(KeyboardModifiers::NUM_LOCK),
+        _ => modifiers,
+    }
+}
+
+// The lamps of the locks that are on.
+pub fn leds(modifiers: KeyboardModifiers) -> LEDState
+    ensures { λ r. ⌜ r .bits ≡ lampsLit (modifiers .bits) ⌝ }
+{
+    LEDState::new()
+        .with_scroll_lock(modifiers.is_scroll_lock())
+        .with_number_lock(modifiers.is_num_lock())
+        .with_caps_lock(modifiers.is_caps_lock())
+}

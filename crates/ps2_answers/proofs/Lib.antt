@@ -1,0 +1,3 @@
+-- Laws of refusals, and of one operation after another.
+pub mod Refusals
+pub mod Then

@@ -1,2 +1,0 @@
--- Laws of refusals.
-pub mod Refusals
