@@ -18,9 +18,6 @@ use Rattle.ps2_command.proofs.Search.{self-test-gives, self-test-refuse
 pub the-success : (x : Success) → x ≡ success
 the-success success = refl
 
-pub the-accepted : (x : Success) → x ≡ success
-the-accepted success = refl
-
 module _ (ff : Exchange (Answer Success)) (n : ℕ) (then : Exchange (Answer Success)) (s l : List ℕ) where
   pub own-aa : ((s l : List ℕ) → play then s l .end ≡ yields (gives success) → play (selfTestWithin n) s l .end ≡ yields (gives success))
       → play (andThen ff (λ _. then)) s l .end ≡ yields (gives success) → OwnAA ff n s l
@@ -29,7 +26,7 @@ module _ (ff : Exchange (Answer Success)) (n : ℕ) (then : Exchange (Answer Suc
       let s′ = scriptAfter ff s l in
       let l′ = logAfter ff s l in
       record {
-        command = rw (the-accepted (z .0)) at (z .1 .before);
+        command = rw (the-success (z .0)) at (z .1 .before);
         rest = scriptAfter (selfTestWithin n) s′ l′;
         further = self-test-gives n s′ l′ (through s′ l′ (z .1 .after));
       }
@@ -42,7 +39,7 @@ module _ (ff : Exchange (Answer Success)) (n : ℕ) (then : Exchange (Answer Suc
       let s′ = scriptAfter ff s l in
       let l′ = logAfter ff s l in
       record {
-        command = rw (the-accepted (z .0)) at (z .1 .before);
+        command = rw (the-success (z .0)) at (z .1 .before);
         rest = scriptAfter (selfTestWithin n) s′ l′;
         none = self-test-refuses n s′ l′ (through s′ l′ (z .1 .after));
       }

@@ -20,7 +20,7 @@ use Rattle.ps2_layouts.specs.Status.{outputBufferFull}
 use Rattle.ps2_polling.specs.Polling.{pollLimit, poll}
 use Rattle.ps2_command.specs.Search.{PollBrings}
 use Rattle.ps2_command.proofs.Refuses.{commandRefusals}
-use Rattle.ps2_command.proofs.Reset.{the-accepted}
+use Rattle.ps2_command.proofs.Reset.{the-success}
 use Rattle.ps2_command.proofs.Search.{brings-any-poll, polled-finds, listed-refuses-any}
 use Rattle.ps2_keyboard.specs.Keyboard.{keyboardCommand}
 use Rattle.ps2_keyboard.proofs.Refuses.{refuses-commandToKeyboard}
@@ -84,7 +84,7 @@ detect-refuses s l h =
     let c = bind-after (λ type. andThen (keyboardCommand Command.EnableScanning) (λ _. done type)) typeSearch s₂ l₂ (refuses 12) (b .1 .after) in
     let q = enabled (c .0) (scriptAfter typeSearch s₂ l₂) (logAfter typeSearch s₂ l₂) (c .1 .after) in
     record {
-      stopped = rw (the-accepted (a .0)) at (a .1 .before);
-      asked = rw (the-accepted (b .0)) at (b .1 .before);
+      stopped = rw (the-success (a .0)) at (a .1 .before);
+      asked = rw (the-success (b .0)) at (b .1 .before);
       unrecognised = type-search-refuses s₂ l₂ (rw q at (c .1 .before));
     }

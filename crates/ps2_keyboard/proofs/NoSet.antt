@@ -17,7 +17,7 @@ use Rattle.ps2_answers.specs.Refusals.{success}
 use Rattle.ps2_polling.specs.Polling.{pollLimit}
 use Rattle.ps2_command.specs.Search.{listedTurn, PollBrings}
 use Rattle.ps2_command.proofs.Refuses.{commandRefusals}
-use Rattle.ps2_command.proofs.Reset.{the-accepted}
+use Rattle.ps2_command.proofs.Reset.{the-success}
 use Rattle.ps2_command.proofs.Search.{listed-refuses-any}
 use Rattle.ps2_keyboard.specs.Keyboard.{commandScancodeSet, getScancodeSet, setScancodeSet}
 use Rattle.ps2_keyboard.proofs.Refuses.{refuses-commandScancodeSet}
@@ -31,7 +31,7 @@ unfolding getScancodeSet
 get-set-refuses s l h =
     let t = commandScancodeSet Set.Get in
     let z = then-refuses t _ s l commandRefusals (refuses-commandScancodeSet Set.Get) 11 (λ x. x) h in (
-      rw (the-accepted (z .0)) at (z .1 .before),
+      rw (the-success (z .0)) at (z .1 .before),
       _,
       listed-refuses-any scancodeSets 11 pollLimit (scriptAfter t s l) (logAfter t s l) (z .1 .after),
     )

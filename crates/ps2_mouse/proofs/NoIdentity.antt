@@ -15,7 +15,7 @@ use Rattle.ps2_polling.specs.Polling.{pollLimit}
 use Rattle.ps2_answers.specs.Refusals.{success}
 use Rattle.ps2_command.specs.Search.{listedTurn, PollBrings}
 use Rattle.ps2_command.proofs.Refuses.{commandRefusals}
-use Rattle.ps2_command.proofs.Reset.{the-accepted}
+use Rattle.ps2_command.proofs.Reset.{the-success}
 use Rattle.ps2_command.proofs.Search.{listed-refuses}
 use Rattle.ps2_mouse.specs.Mouse.{mouseCommand, mouseByteWaits, mouseId}
 use Rattle.ps2_mouse.proofs.Refuses.{refuses-commandToMouse}
@@ -27,7 +27,7 @@ unfolding mouseId
 mouse-id-refuses s l h =
     let t = mouseCommand GetDeviceID in
     let z = then-refuses t _ s l commandRefusals (refuses-commandToMouse (MouseCommand GetDeviceID)) 11 (λ x. x) h in (
-      rw (the-accepted (z .0)) at (z .1 .before),
+      rw (the-success (z .0)) at (z .1 .before),
       _,
       listed-refuses mouseByteWaits mouseIds 11 pollLimit (scriptAfter t s l) (logAfter t s l) (z .1 .after),
     )
