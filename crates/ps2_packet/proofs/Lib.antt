@@ -2,4 +2,5 @@
 pub mod Signed
 pub mod Movement
 pub mod Wheel
+pub mod SignedWheel
 pub mod Length

@@ -3,8 +3,8 @@
 use mathlib.Core.Path.{_≡_, refl, sym, _∙_}
 use mathlib.Core.Bool.{Bool, true, false, not}
 use Prim.Native.Nat.{ℕ, zero, suc, _+_, _-_, _*_, _/_, _%_, _^_, _<_, _≤_}
-use native.Mathlib.Nat.{not-suc-le-zero, pow-suc, mod-lt, mod-eq-of-lt}
-use native.Mathlib.Numerals.{add-one}
+use native.Mathlib.Nat.{not-suc-le-zero, mul-one, pow-suc, mod-lt, mod-eq-of-lt}
+use native.Mathlib.Numerals.{add-one, unary-clauses}
 use native.Mathlib.Decide.{decLt}
 use native.Mathlib.Omega.{arith}
 use lib.Dec.{ltb, eqb, le→leb}
@@ -17,7 +17,7 @@ use mir.Facts.{toZ-ofZ}
 use borrow.Author.Tests.{lt-ltb, le-ltb, ltb-true, ltb-false, not-true, not-false}
 use Rattle.bits.specs.Bits.{bit, odd, weigh}
 use Rattle.bits.proofs.Bits.{digit}
-use Rattle.ps2_packet.specs.Signed.{lessIf, twosComplement, Between}
+use Rattle.ps2_packet.specs.Signed.{lessIf, twosComplement, Between, AgreeModulo}
 
 -- a difference below zero
 pub pos-less : (m x : ℕ) → x < m → pos x -ℤ pos m ≡ negsuc (m - suc x)
@@ -28,6 +28,11 @@ pos-less (suc m) x h = rw (lt-ltb x (suc m) h)
 pub mag-less : (sign : Bool) (m x : ℕ) → x < m → mag (lessIf sign m x) < m
 mag-less true m x h = rw (pos-less m x h) (omega arith)
 mag-less false m x h = h
+
+-- less m or not, a value is the same modulo m
+pub less-modulo : (sign : Bool) (m x : ℕ) → AgreeModulo m (lessIf sign m x) (pos x)
+less-modulo true m x = (negsuc 0, rw (mul-one m))
+less-modulo false m x = (pos 0, simp unary-clauses)
 
 ltb-double : (v d m p : ℕ) → d < 2 → p ≡ m * 2 → Dec (v < m) → ltb (v * 2 + d) p ≡ ltb v m
 ltb-double v d m p h e (yes l) = lt-ltb (v * 2 + d) p (omega arith) ∙ sym (lt-ltb v m l)

@@ -1,3 +1,4 @@
 -- Mouse packets.
 pub mod Signed
 pub mod Packet
+pub mod SignedWheel

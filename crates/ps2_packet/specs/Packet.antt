@@ -13,6 +13,7 @@ use Rattle.ps2_packet.specs.declared.MousePacket3.{MousePacket3}
 use Rattle.ps2_packet.specs.declared.MousePacket4.{MousePacket4}
 use Rattle.ps2_packet.specs.declared.MousePacket.{MousePacket}
 use Rattle.ps2_packet.specs.declared.MousePacket.the-variants.{Zero, Three, Four}
+use Rattle.ps2_packet.specs.declared.SignedPacket.{SignedPacket}
 
 -- ---- byte 1, from bit 0 (the OSDev wiki's "PS/2 Mouse")
 
@@ -82,6 +83,10 @@ wheel3 p = twosComplement 8 (p .byte4)
 abbrev pub wheel4 : MousePacket4 → ℤ
 wheel4 p = pos (p .byte4 % 16)
 
+-- The same bits as "the OSDev Wiki reads" them (document 02, 2.1): "as signed, -8 to 7".
+abbrev pub signedWheel4 : MousePacket4 → ℤ
+signedWheel4 p = twosComplement 4 (p .byte4)
+
 -- ---- a packet of any kind
 
 -- The three bytes that all kinds share.
@@ -95,6 +100,15 @@ abbrev pub wheel : MousePacket → ℤ
 wheel (Zero p) = pos 0
 wheel (Three p) = wheel3 p
 wheel (Four p) = wheel4 p
+
+-- The wheel of a packet whose four bits are read as signed, which "differs .. in this alone".
+abbrev pub signedWheel : MousePacket → ℤ
+signedWheel (Zero p) = wheel (Zero p)
+signedWheel (Three p) = wheel (Three p)
+signedWheel (Four p) = signedWheel4 p
+
+abbrev pub signedPacket : MousePacket → SignedPacket
+signedPacket p = record { packet = p }
 
 -- Button 4 or 5, which only identity 4 has.
 abbrev pub sideButton : ℕ → MousePacket → Bool

@@ -1,8 +1,9 @@
--- Signed numbers in bits, and ranges of them.
+-- Signed numbers in bits, ranges of them, and their remainders.
 -- Assumes nothing.
+use mathlib.Core.Path.{_≡_}
 use mathlib.Core.Bool.{Bool, cond}
 use Prim.Native.Nat.{ℕ, zero, suc, _%_, _^_}
-use lib.IntN.{ℤ, pos, _-ℤ_}
+use lib.IntN.{ℤ, pos, _+ℤ_, _-ℤ_, _*ℤ_}
 use lib.Signed.{_≤ℤ_}
 use Rattle.bits.specs.Bits.{bit}
 
@@ -18,3 +19,7 @@ twosComplement (suc n) x = lessIf (bit n x) (2 ^ suc n) (x % 2 ^ suc n)
 -- From a to b, both included.
 abbrev pub Between : ℤ → ℤ → ℤ → Type 0
 Between a b z = (a ≤ℤ z) × (z ≤ℤ b)
+
+-- Two numbers that agree modulo m: they differ by a multiple of it.
+abbrev pub AgreeModulo : ℕ → ℤ → ℤ → Type 0
+AgreeModulo m a b = (k : ℤ) × (a ≡ b +ℤ pos m *ℤ k)

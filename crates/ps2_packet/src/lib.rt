@@ -18,6 +18,8 @@ ghost use Rattle.ps2_packet.specs.Packet.{
   wheel3,
   wheel4,
   wheel,
+  signedWheel4,
+  signedWheel,
   common,
   sideButton,
 };
@@ -41,7 +43,9 @@ const X_OVERFLOW: u8 = 6;
 
 const Y_OVERFLOW: u8 = 7;
 
-// The bits of byte 4 at identity 4; the four below are the wheel.
+// The bits of byte 4 at identity 4; the four below button 4 are the wheel, and the topmost of them is its sign where it is signed.
+const WHEEL_SIGN: u8 = 3;
+
 const BUTTON_4: u8 = 4;
 
 const BUTTON_5: u8 = 5;
@@ -182,6 +186,18 @@ impl MousePacket4 {
         (self.byte4 & 0x0F) as i8
     }
 
+    // The wheel with its four bits signed, as the OSDev wiki has them.
+    pub fn signed_scroll_movement(self) -> i8
+        ensures { λ r. ⌜ r ≡ signedWheel4 self ⌝ }
+    {
+        let unsigned = self.scroll_movement();
+        if has(self.byte4, WHEEL_SIGN) {
+            unsigned - 16
+        } else {
+            unsigned
+        }
+    }
+
     pub fn button_4(self) -> bool
         ensures { λ r. ⌜ r ≡ bit button4 (self .byte4) ⌝ }
     {
@@ -288,5 +304,22 @@ impl MousePacket {
         ensures { λ r. ⌜ r ≡ sideButton button5 self ⌝ }
     {
         self.side_flag(BUTTON_5)
+    }
+}
+
+// A packet whose wheel is signed at identity 4 too, as the OSDev wiki has it. All else is the packet's own; `packet.scroll_movement()` is the Rust's wheel.
+pub struct SignedPacket {
+    pub packet: MousePacket,
+}
+
+impl SignedPacket {
+    pub fn scroll_movement(self) -> i8
+        ensures { λ r. ⌜ r ≡ signedWheel (self .packet) ⌝ }
+    {
+        let packet = self.packet;
+        match packet {
+            MousePacket::Four(m) => m.signed_scroll_movement(),
+            _ => packet.scroll_movement(),
+        }
     }
 }
