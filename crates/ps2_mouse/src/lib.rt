@@ -11,7 +11,7 @@ ghost use Rattle.ps2_polling.specs.Polling.{pollLimit};
 ghost use Rattle.ps2_command.specs.Search.{pollWhen, listedTurn, selfTestWithin};
 ghost use Rattle.ps2_mouse.specs.Mouse.{commandToMouse, resetReads, resetMouse, setSamplingRate, setResolution, disablePacketStreaming, enablePacketStreaming, mouseByteWaits, mouseId as mouseIdRule, mouseOutputBufferFull};
 ghost use Rattle.ps2_mouse.specs.Answers.{freshMouse, saidId, saidIdPoll};
-ghost use Rattle.ps2_packet_reading.specs.Reading.{readMousePacket, saidPacket};
+ghost use Rattle.ps2_packet_reading.specs.Reading.{readMousePacket, readSignedPacket, saidPacket, saidSigned};
 use ps2_answers::ByteAnswer;
 use ps2_answers::Completed;
 use ps2_answers::Completion;
@@ -32,7 +32,9 @@ use ps2_command::command_to_port2;
 use ps2_command::failing_as;
 use ps2_command::read_self_test_result;
 use ps2_packet_reading::PacketRead;
+use ps2_packet_reading::SignedRead;
 use ps2_packet_reading::read_packet;
+use ps2_packet_reading::read_signed_packet;
 use ps2_polling::POLL_LIMIT;
 use ps2_ports::DevicePort;
 use ps2_ports::flush_output_buffer;
@@ -210,12 +212,20 @@ impl PS2Mouse {
         failing_as(c, Failure::RateOrResolutionNotSet)
     }
 
-    // Reads the packet that a mouse of this identity sends, without asking the status.
+    // Reads the packet that a mouse of this identity sends, without asking the status. Its wheel at identity 4 is the Rust's, 0 to 15.
     pub fn read_mouse_packet(self, script: &[u8]) -> PacketRead
         ensures { λ r. ⌜ Reads (readMousePacket (self .id)) (now (script .entry)) (saidPacket (r .answer)) (r .used) (r .pairs) ⌝ }
     {
         let id = self.id;
         read_packet(id, script)
+    }
+
+    // Reads the same packet with the wheel at identity 4 signed, -8 to 7. A new program should read packets by this one.
+    pub fn read_signed_packet(self, script: &[u8]) -> SignedRead
+        ensures { λ r. ⌜ Reads (readSignedPacket (self .id)) (now (script .entry)) (saidSigned (r .answer)) (r .used) (r .pairs) ⌝ }
+    {
+        let id = self.id;
+        read_signed_packet(id, script)
     }
 
     // Whether there is a byte of the mouse to read. Bit 0 alone would also be set for the FA before an identity.

@@ -2,3 +2,6 @@
 pub mod Bounds
 pub mod Packet
 pub mod PacketReads
+pub mod Alike
+pub mod SignedWheelAlone
+pub mod Worked

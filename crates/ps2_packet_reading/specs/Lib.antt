@@ -1,2 +1,3 @@
 -- The reading of a mouse's packets.
 pub mod Reading
+pub mod Alike

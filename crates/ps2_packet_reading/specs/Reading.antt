@@ -2,17 +2,19 @@
 -- Assumes nothing.
 use Prim.Native.Nat.{ℕ}
 use Rattle.exchange.specs.Exchange.{p60, Exchange, done, read, End, yields}
-use Rattle.exchange.specs.Answer.{Answer, gives}
+use Rattle.exchange.specs.Answer.{Answer, gives, andThen}
 use Rattle.ps2_bytes.specs.declared.response.MouseId.{MouseId}
 use Rattle.ps2_bytes.specs.declared.response.MouseId.the-variants.{Zero, Three, Four}
 use Rattle.ps2_packet.specs.declared.MousePacket.{MousePacket}
 use Rattle.ps2_packet.specs.declared.MousePacket.the-variants as Packet
-use Rattle.ps2_packet.specs.Packet.{generic, packet3, packet4}
+use Rattle.ps2_packet.specs.declared.SignedPacket.{SignedPacket}
+use Rattle.ps2_packet.specs.Packet.{generic, packet3, packet4, signedPacket}
 use Rattle.ps2_answers.specs.Refusals.{refused}
 use Rattle.ps2_packet_reading.specs.declared.FirstBytes.{FirstBytes}
 use Rattle.ps2_packet_reading.specs.declared.FourByteId.{FourByteId}
 use Rattle.ps2_packet_reading.specs.declared.BytesAnswer.{BytesAnswer}
 use Rattle.ps2_packet_reading.specs.declared.PacketAnswer.{PacketAnswer}
+use Rattle.ps2_packet_reading.specs.declared.SignedAnswer.{SignedAnswer}
 
 -- Three bytes of data, in the order in which they come.
 abbrev pub threeBytes : {A : Type 0} → (ℕ → ℕ → ℕ → Exchange A) → Exchange A
@@ -23,6 +25,10 @@ unfoldable pub readMousePacket : MouseId → Exchange (Answer MousePacket)
 readMousePacket Zero = threeBytes (λ b1 b2 b3. done (gives (Packet.Zero (generic b1 b2 b3))))
 readMousePacket Three = threeBytes (λ b1 b2 b3. read p60 (λ b4. done (gives (Packet.Three (packet3 b1 b2 b3 b4)))))
 readMousePacket Four = threeBytes (λ b1 b2 b3. read p60 (λ b4. done (gives (Packet.Four (packet4 b1 b2 b3 b4)))))
+
+-- "Add a packet read that differs from the Rust's in this alone" (document 02, 2.1): the same packet is read, and its wheel is signed.
+unfoldable pub readSignedPacket : MouseId → Exchange (Answer SignedPacket)
+readSignedPacket id = andThen (readMousePacket id) (λ packet. done (gives (signedPacket packet)))
 
 -- ---- parts of it that are functions of their own in the code
 
@@ -53,3 +59,7 @@ saidBytes (BytesAnswer.Refused r) = refused r
 abbrev pub saidPacket : PacketAnswer → End (Answer MousePacket)
 saidPacket (PacketAnswer.Packet p) = yields (gives p)
 saidPacket (PacketAnswer.Refused r) = refused r
+
+abbrev pub saidSigned : SignedAnswer → End (Answer SignedPacket)
+saidSigned (SignedAnswer.Packet p) = yields (gives p)
+saidSigned (SignedAnswer.Refused r) = refused r

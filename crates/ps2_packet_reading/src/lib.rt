@@ -2,7 +2,7 @@
 ghost use mathlib.Core.Path.{_≡_};
 ghost use Rattle.exchange.specs.Exchange.{done, Reads};
 ghost use Rattle.exchange.specs.Answer.{gives};
-ghost use Rattle.ps2_packet_reading.specs.Reading.{threeBytes, readMousePacket, fourBytes, fourthByte, afterThree, firstBytes, saidBytes, saidPacket};
+ghost use Rattle.ps2_packet_reading.specs.Reading.{threeBytes, readMousePacket, readSignedPacket, fourBytes, fourthByte, afterThree, firstBytes, saidBytes, saidPacket, saidSigned};
 use ps2_answers::ByteAnswer;
 use ps2_answers::Refusal;
 use ps2_bytes::MouseId;
@@ -10,6 +10,7 @@ use ps2_packet::MousePacket;
 use ps2_packet::MousePacket3;
 use ps2_packet::MousePacket4;
 use ps2_packet::MousePacketGeneric;
+use ps2_packet::SignedPacket;
 use ps2_ports::read_data;
 
 // The bytes that every packet starts with.
@@ -48,7 +49,19 @@ pub struct PacketRead {
     pub pairs: usize,
 }
 
-// Reads the packet that a mouse of this identity sends, without asking the status.
+// A packet of the mouse whose wheel is signed.
+pub enum SignedAnswer {
+    Packet(SignedPacket),
+    Refused(Refusal),
+}
+
+pub struct SignedRead {
+    pub answer: SignedAnswer,
+    pub used: usize,
+    pub pairs: usize,
+}
+
+// Reads the packet that a mouse of this identity sends, without asking the status. Its wheel at identity 4 is the Rust's, 0 to 15.
 pub fn read_packet(id: MouseId, script: &[u8]) -> PacketRead
     ensures { λ r. ⌜ Reads (readMousePacket id) (now (script .entry)) (saidPacket (r .answer)) (r .used) (r .pairs) ⌝ }
 {
@@ -68,6 +81,27 @@ pub fn read_packet(id: MouseId, script: &[u8]) -> PacketRead
         }
         BytesAnswer::Refused(e) => PacketRead {
             answer: PacketAnswer::Refused(e),
+            used,
+            pairs: 0,
+        },
+    }
+}
+
+// Reads the same packet with the wheel at identity 4 signed, -8 to 7, as the OSDev wiki has it. A new program should read packets by this one.
+pub fn read_signed_packet(id: MouseId, script: &[u8]) -> SignedRead
+    ensures { λ r. ⌜ Reads (readSignedPacket id) (now (script .entry)) (saidSigned (r .answer)) (r .used) (r .pairs) ⌝ }
+{
+    let p = read_packet(id, script);
+    let used = p.used;
+    let read = p.answer;
+    match read {
+        PacketAnswer::Packet(packet) => SignedRead {
+            answer: SignedAnswer::Packet(SignedPacket { packet }),
+            used,
+            pairs: 0,
+        },
+        PacketAnswer::Refused(e) => SignedRead {
+            answer: SignedAnswer::Refused(e),
             used,
             pairs: 0,
         },
