@@ -47,6 +47,8 @@ use ps2_mouse_identity::set_mouse_id;
 use ps2_packet::MousePacket;
 use ps2_packet_reading::PacketAnswer;
 use ps2_packet_reading::PacketRead;
+use ps2_packet_reading::SignedAnswer;
+use ps2_packet_reading::SignedRead;
 use ps2_polling::Received;
 use ps2_polling::ResponseAnswer;
 use ps2_polling::polling_receive;
@@ -203,20 +205,41 @@ fn buttons(packet: MousePacket) -> u64
         + 8 * bit(packet.always_one() == 1)
 }
 
-// The fields of a packet, from the lowest bits up: left, right, middle, always one, buttons 4 and 5, and 17 bits each of x, y and the wheel.
-fn packet_number(packet: MousePacket) -> u64 {
+// The fields of a packet, from the lowest bits up: left, right, middle, always one, buttons 4 and 5, and 17 bits each of x, y and the wheel, which is told beside the packet.
+fn packet_number(packet: MousePacket, wheel: i8) -> u64 {
     let above = 16 * bit(packet.button_4()) + 32 * bit(packet.button_5());
     let x = movement(packet.x_movement());
     let y = movement(packet.y_movement());
-    let wheel = movement(widened(packet.scroll_movement()));
-    buttons(packet) + above + 64 * (x + 131072 * (y + 131072 * wheel))
+    let z = movement(widened(wheel));
+    buttons(packet) + above + 64 * (x + 131072 * (y + 131072 * z))
 }
 
 fn packet_read(c: PacketRead) -> Outcome {
     let answer = c.answer;
     match answer {
-        PacketAnswer::Packet(packet) => ending(0, c.used, c.pairs, packet_number(packet)),
+        PacketAnswer::Packet(packet) => ending(
+            0,
+            c.used,
+            c.pairs,
+            packet_number(packet, packet.scroll_movement()),
+        ),
         PacketAnswer::Refused(e) => refused(e, c.used, c.pairs),
+    }
+}
+
+fn signed_read(c: SignedRead) -> Outcome {
+    let answer = c.answer;
+    match answer {
+        SignedAnswer::Packet(signed) => {
+            let packet = signed.packet;
+            ending(
+                0,
+                c.used,
+                c.pairs,
+                packet_number(packet, signed.scroll_movement()),
+            )
+        }
+        SignedAnswer::Refused(e) => refused(e, c.used, c.pairs),
     }
 }
 
@@ -312,7 +335,7 @@ fn id_of(byte: u8) -> MouseId {
 
 // Whether there is such an operation and it takes such an argument. Those that take none have 0.
 fn is_known(op: u8, argument: u8) -> bool {
-    if 27 < op {
+    if 27 < op && op != 38 {
         return false;
     }
     if op < 12 {
@@ -377,12 +400,13 @@ fn ask(op: u8, state: usize, script: &[u8], log: &mut [u8]) -> Outcome {
     }
 }
 
-// The mouse's operations that need its identity, 26 and 27.
+// The mouse's operations that need its identity, 26, 27 and 38.
 fn on_mouse(op: u8, id: MouseId, script: &[u8], log: &mut [u8]) -> Outcome {
     let mouse = PS2Mouse { id };
     match op {
         26 => mouse_left(set_mouse_id(mouse, script, log)),
-        _ => packet_read(mouse.read_mouse_packet(script)),
+        27 => packet_read(mouse.read_mouse_packet(script)),
+        _ => signed_read(mouse.read_signed_packet(script)),
     }
 }
 

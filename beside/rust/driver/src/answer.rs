@@ -214,7 +214,7 @@ fn parse_value(op: &Op, text: &str) -> Result<Value, String> {
             let found = Keyboard::ALL.into_iter().find(|keyboard| keyboard.name() == text);
             found.map(Value::Keyboard).ok_or_else(|| format!("there is no keyboard '{text}'"))
         }
-        Op::Mouse(MouseOp::ReadPacket, _) => parse_packet(text).map(Value::Packet),
+        Op::Mouse(MouseOp::ReadPacket | MouseOp::ReadSignedPacket, _) => parse_packet(text).map(Value::Packet),
         Op::ToAscii(..) if text == "-" => Ok(Value::Character(None)),
         Op::ToAscii(..) => Ok(Value::Character(Some(decimal(text)? as u8))),
         _ => Ok(Value::Byte(hex(text, 2)? as u8)),

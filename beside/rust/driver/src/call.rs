@@ -56,6 +56,7 @@ pub enum MouseOp {
     Id,
     SetId,
     ReadPacket,
+    ReadSignedPacket,
 }
 
 #[derive(Clone, Copy, Debug, Default, PartialEq)]
@@ -130,9 +131,12 @@ pub fn parse(line: &str) -> Result<Call, String> {
         }
     }
     let op = parse_op(name, &args, state, plan)?;
-    if !matches!(op, Op::ToAscii(..)) {
-        script.ok_or("the field 'script=' is missing")?;
-        room.ok_or("the field 'log=' is missing")?;
+    for (key, value, takes) in [("script", script, op.takes_script()), ("log", room, op.takes_log())] {
+        match (value, takes) {
+            (None, true) => return Err(format!("the field '{key}=' is missing")),
+            (Some(_), false) => return Err(format!("{name} takes no {key}")),
+            _ => {}
+        }
     }
     Ok(Call {
         op,
@@ -198,6 +202,7 @@ fn parse_op(name: &str, args: &[&str], state: Option<&str>, plan: Option<&str>) 
         "mouse_id" => count(0).and_then(|()| mouse(M::Id)),
         "set_mouse_id" => count(0).and_then(|()| mouse(M::SetId)),
         "read_mouse_packet" => count(0).and_then(|()| mouse(M::ReadPacket)),
+        "read_signed_packet" => count(0).and_then(|()| mouse(M::ReadSignedPacket)),
         "keyboard_init" => none(Op::KeyboardInit),
         // The Rust has one handler; the port has also an entry that changes the record in place.
         "handle" => none(Op::Handle(parse_handler(state)?, parse_plan(plan.unwrap_or("auto"))?)),
@@ -447,14 +452,24 @@ impl Handler {
 impl Op {
     /// Why the port alone can answer a call of this operation; nothing where the Rust can too.
     pub fn beyond_rust(&self) -> Option<&'static str> {
-        let is_beyond = match self {
+        let has_other_flags = match self {
+            Op::Mouse(MouseOp::ReadSignedPacket, _) => return Some("the Rust reads no packet with a signed wheel"),
             Op::Handle(handler, _) => {
                 handler.is_malformed() || handler.queue.iter().any(|event| event.flags > ALL_FLAGS)
             }
             Op::ToAscii(_, flags) => *flags > ALL_FLAGS,
             _ => false,
         };
-        is_beyond.then_some("the Rust has no flag above bit 9")
+        has_other_flags.then_some("the Rust has no flag above bit 9")
+    }
+
+    /// Whether a call's line has a script, and whether it has a log's room.
+    pub fn takes_script(&self) -> bool {
+        !matches!(self, Op::ToAscii(..))
+    }
+
+    pub fn takes_log(&self) -> bool {
+        self.takes_script() && !matches!(self, Op::Mouse(MouseOp::ReadSignedPacket, _))
     }
 
     pub fn name(&self) -> &'static str {
@@ -489,6 +504,7 @@ impl Op {
                 MouseOp::Id => "mouse_id",
                 MouseOp::SetId => "set_mouse_id",
                 MouseOp::ReadPacket => "read_mouse_packet",
+                MouseOp::ReadSignedPacket => "read_signed_packet",
             },
             Op::KeyboardInit => "keyboard_init",
             Op::Handle(..) => "handle",
@@ -527,9 +543,11 @@ impl Call {
             Op::Handle(handler, _) if *handler != Handler::default() => push_handler(&mut out, handler),
             _ => {}
         }
-        if !matches!(self.op, Op::ToAscii(..)) {
+        if self.op.takes_script() {
             out += " script=";
             push_script(&mut out, &self.script);
+        }
+        if self.op.takes_log() {
             write!(out, " log={}", self.room).unwrap();
         }
         if let Op::Handle(_, plan) = &self.op {

@@ -460,6 +460,7 @@ fn mouse_operation(mouse: &mut PS2Mouse, op: MouseOp, room: usize) -> (End, Valu
         MouseOp::SetSamplingRate(number) => run(room, || reach::set_mouse_sampling_rate(mouse, rate(number))),
         MouseOp::Resolution(number) => run(room, || reach::mouse_resolution(mouse, resolution(number))),
         MouseOp::SetId => run(room, || mouse.set_mouse_id()),
+        MouseOp::ReadSignedPacket => unreachable!("the Rust has no such read"),
     };
     (end, Value::Nothing)
 }

@@ -95,6 +95,7 @@ fn operation(op: &Op) -> (u8, u8, u16) {
         Op::Init(c) => (25, 0, c.init as u16 | (c.kbd as u16) << 1 | (c.mouse as u16) << 2),
         Op::Mouse(M::SetId, id) => (26, id.unwrap_or(0), 0),
         Op::Mouse(M::ReadPacket, id) => (27, id.unwrap_or(0), 0),
+        Op::Mouse(M::ReadSignedPacket, id) => (38, id.unwrap_or(0), 0),
         Op::KeyboardInit => (28, 0, 0),
         Op::ToAscii(keycode, flags) => (TO_ASCII, keycode, flags),
         Op::Handle(..) => unreachable!("a run has no number of its own"),
@@ -112,7 +113,7 @@ pub fn put_call(call: &Call, out: &mut Vec<u8>) -> Result<(), String> {
     if call.repeat > u32::MAX as u64 {
         return Err(format!("the port's program repeats no call {} times", call.repeat));
     }
-    if !matches!(call.op, Op::ToAscii(..)) {
+    if call.op.takes_script() {
         put_script(&call.script, out);
     }
     if call.repeat > 1 && matches!(call.op, Op::Handle(..) | Op::KeyboardInit) {
@@ -353,7 +354,7 @@ fn answer_of(op: &Op, packed: Packed) -> Result<Answer, String> {
             Some(keyboard) => Value::Keyboard(*keyboard),
             None => return bad(packed),
         },
-        Op::Mouse(MouseOp::ReadPacket, _) => Value::Packet(packet_of(value)),
+        Op::Mouse(MouseOp::ReadPacket | MouseOp::ReadSignedPacket, _) => Value::Packet(packet_of(value)),
         Op::ToAscii(..) => Value::Character(u8::try_from(value).ok()),
         _ => Value::Nothing,
     };
@@ -365,7 +366,7 @@ fn answer_of(op: &Op, packed: Packed) -> Result<Answer, String> {
         Op::KeyboardInit => record = Record::NoHandler,
         Op::Mouse(MouseOp::SetId, _) => record = Record::Mouse(left),
         // The others can't change the mouse's record: they are not given it, or don't give it back.
-        Op::Mouse(MouseOp::ReadPacket, id) => record = Record::Mouse(id.unwrap_or(0)),
+        Op::Mouse(MouseOp::ReadPacket | MouseOp::ReadSignedPacket, id) => record = Record::Mouse(id.unwrap_or(0)),
         Op::Mouse(_, Some(id)) => record = Record::Mouse(*id),
         _ => {}
     }
