@@ -65,7 +65,7 @@ row-lt : (n : ℕ) (r : FlagRow) (s : Stroke) (w : ℕ) → r .flag < n → w < 
 row-lt n r s w h l true = put-lt n (r .flag) (flagAfter (r .kind) (s .pressed) (bit (r .flag) w)) w h l
 row-lt n r s w h l false = l
 
-after-lt : (n : ℕ) (s : Stroke) (w : ℕ) → w < 2 ^ n → (rows : List FlagRow) → below n rows ≡ true → flagsAfter rows s w < 2 ^ n
+pub after-lt : (n : ℕ) (s : Stroke) (w : ℕ) → w < 2 ^ n → (rows : List FlagRow) → below n rows ≡ true → flagsAfter rows s w < 2 ^ n
 unfolding flagsAfter
 after-lt n s w l [] t = l
 after-lt n s w l (r ∷ rows) t =
@@ -93,6 +93,11 @@ table-distinct = refl
 pub table-below : below (length flagTable) flagTable ≡ true
 unfolding flagTable
 table-below = refl
+
+-- a word of flags has 16 bits
+pub table-below-16 : below 16 flagTable ≡ true
+unfolding flagTable
+table-below-16 = refl
 
 pub flags-stay : (s : Stroke) (w : ℕ) → w < flagLimit → flagsAfter flagTable s w < flagLimit
 unfolding flagLimit

@@ -1,6 +1,7 @@
 -- Laws of single scancodes.
 pub mod Tests
 pub mod Flags
+pub mod Masks
 pub mod Silent
 pub mod Untouched
 pub mod Keycodes

@@ -2,9 +2,10 @@
 ghost use mathlib.Core.Path.{_≡_};
 ghost use Rattle.keyboard_scancodes.specs.Strokes.{stroke, isPrefix, isSilent};
 ghost use Rattle.keyboard_scancodes.specs.FlagTable.{flagTable, isLockPress};
-ghost use Rattle.keyboard_scancodes.specs.FlagsAfter.{flagsAfter};
+ghost use Rattle.keyboard_scancodes.specs.FlagsAfter.{flagsAfter, heldFlags, lockFlags};
 ghost use Rattle.keyboard_scancodes.specs.Lamps.{lampsLit};
 use keyboard_modifiers::KeyboardModifiers;
+use keycodes_ascii::KEY_RELEASED_OFFSET;
 use ps2_layouts::LEDState;
 
 // The prefixes of extended keys, and the bytes that are no key's: an error of the port, and an acknowledgement.
@@ -16,7 +17,10 @@ const KEY_ERROR: u8 = 0x00;
 
 const ACKNOWLEDGE: u8 = 0xFA;
 
-// The scancodes that change a flag, under the names that the Rust's `Keycode` has for them.
+// The low seven bits of a scancode are its key's press code.
+const LOW_PART: u8 = 0x7F;
+
+// The press codes of the keys that have a flag, under the names that the Rust's `Keycode` has for them.
 const CONTROL: u8 = 0x1D;
 
 const ALT: u8 = 0x38;
@@ -28,18 +32,6 @@ const RIGHT_SHIFT: u8 = 0x36;
 const SUPER_KEY_LEFT: u8 = 0x5B;
 
 const SUPER_KEY_RIGHT: u8 = 0x5C;
-
-const CONTROL_RELEASED: u8 = 0x9D;
-
-const ALT_RELEASED: u8 = 0xB8;
-
-const LEFT_SHIFT_RELEASED: u8 = 0xAA;
-
-const RIGHT_SHIFT_RELEASED: u8 = 0xB6;
-
-const SUPER_LEFT_RELEASED: u8 = 0xDB;
-
-const SUPER_RIGHT_RELEASED: u8 = 0xDC;
 
 const CAPS_LOCK: u8 = 0x3A;
 
@@ -76,6 +68,39 @@ pub fn is_silent(scan_code: u8) -> bool
     scan_code == ACKNOWLEDGE
 }
 
+// The flags that a key holds down, by its press code: none where it is no such key's. A prefix directly before tells right Control from left.
+fn held_flags(code: u8, prefix: bool) -> KeyboardModifiers
+    ensures { λ r. ⌜ r .bits ≡ heldFlags flagTable code prefix ⌝ }
+{
+    match code {
+        CONTROL => {
+            if prefix {
+                KeyboardModifiers::CONTROL_RIGHT
+            } else {
+                KeyboardModifiers::CONTROL_LEFT
+            }
+        }
+        ALT => KeyboardModifiers::ALT,
+        LEFT_SHIFT => KeyboardModifiers::SHIFT_LEFT,
+        RIGHT_SHIFT => KeyboardModifiers::SHIFT_RIGHT,
+        SUPER_KEY_LEFT => KeyboardModifiers::SUPER_KEY_LEFT,
+        SUPER_KEY_RIGHT => KeyboardModifiers::SUPER_KEY_RIGHT,
+        _ => KeyboardModifiers { bits: 0 },
+    }
+}
+
+// The flag of a lock, by its press code: none where it is no lock's.
+fn lock_flag(code: u8) -> KeyboardModifiers
+    ensures { λ r. ⌜ r .bits ≡ lockFlags flagTable code ⌝ }
+{
+    match code {
+        CAPS_LOCK => KeyboardModifiers::CAPS_LOCK,
+        SCROLL_LOCK => KeyboardModifiers::SCROLL_LOCK,
+        NUM_LOCK => KeyboardModifiers::NUM_LOCK,
+        _ => KeyboardModifiers { bits: 0 },
+    }
+}
+
 // The press of Caps Lock, Num Lock or Scroll Lock.
 pub fn is_lock_press(scan_code: u8) -> bool
     ensures { λ r. ⌜ r ≡ isLockPress «scan_code» ⌝ }
@@ -88,34 +113,18 @@ pub fn is_lock_press(scan_code: u8) -> bool
     }
 }
 
-// The flags just after a scancode. A lock goes over at its press; a prefix directly before tells right Control from left.
+// The flags just after a scancode: a key's press holds its flags down and its release lets them go; a lock goes over at its press.
 pub fn modifiers_after(keyboard: KeyboardState, scan_code: u8) -> KeyboardModifiers
     ensures { λ r. ⌜ r .bits ≡ flagsAfter flagTable (stroke «scan_code» (keyboard .prefix)) (keyboard .modifiers .bits) ⌝ }
 {
     let modifiers = keyboard.modifiers;
-    let control = if keyboard.prefix {
-        KeyboardModifiers::CONTROL_RIGHT
-    } else {
-        KeyboardModifiers::CONTROL_LEFT
-    };
-    match scan_code {
-        CONTROL => modifiers.insert(control),
-        ALT => modifiers.insert(KeyboardModifiers::ALT),
-        LEFT_SHIFT => modifiers.insert(KeyboardModifiers::SHIFT_LEFT),
-        RIGHT_SHIFT => modifiers.insert(KeyboardModifiers::SHIFT_RIGHT),
-        SUPER_KEY_LEFT => modifiers.insert(KeyboardModifiers::SUPER_KEY_LEFT),
-        SUPER_KEY_RIGHT => modifiers.insert(KeyboardModifiers::SUPER_KEY_RIGHT),
-        CONTROL_RELEASED => modifiers.remove(control),
-        ALT_RELEASED => modifiers.remove(KeyboardModifiers::ALT),
-        LEFT_SHIFT_RELEASED => modifiers.remove(KeyboardModifiers::SHIFT_LEFT),
-        RIGHT_SHIFT_RELEASED => modifiers.remove(KeyboardModifiers::SHIFT_RIGHT),
-        SUPER_LEFT_RELEASED => modifiers.remove(KeyboardModifiers::SUPER_KEY_LEFT),
-        SUPER_RIGHT_RELEASED => modifiers.remove(KeyboardModifiers::SUPER_KEY_RIGHT),
-        CAPS_LOCK => modifiers.toggle(KeyboardModifiers::CAPS_LOCK),
-        SCROLL_LOCK => modifiers.toggle(KeyboardModifiers::SCROLL_LOCK),
-        NUM_LOCK => modifiers.toggle(KeyboardModifiers::NUM_LOCK),
-        _ => modifiers,
+    let code = scan_code & LOW_PART;
+    let held = held_flags(code, keyboard.prefix);
+    if scan_code < KEY_RELEASED_OFFSET {
+        let lock = lock_flag(code);
+        return modifiers.insert(held).toggle(lock);
     }
+    modifiers.remove(held)
 }
 
 // The lamps of the locks that are on.
