@@ -260,7 +260,7 @@ module _ {A : Type 0} (lamps : ℕ → Exchange (Answer A)) where
 -- the table's codes are those of the keys that its flags are named after
 pub table-keys : map (λ (r : FlagRow). r .code) flagTable
     ≡ map numberOf (Keycode.LeftShift ∷ Keycode.RightShift ∷ Keycode.Control ∷ Keycode.Control ∷ Keycode.Alt ∷ Keycode.SuperKeyLeft ∷ Keycode.SuperKeyRight
-    ∷ Keycode.CapsLock ∷ Keycode.NumLock ∷ Keycode.ScrollLock ∷ [])
+    ∷ Keycode.CapsLock ∷ Keycode.NumLock ∷ Keycode.ScrollLock ∷ Keycode.Alt ∷ [])
 unfolding flagTable
 table-keys = refl
 

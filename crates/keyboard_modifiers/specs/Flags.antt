@@ -31,3 +31,7 @@ numLock = 8
 
 abbrev pub scrollLock : ℕ
 scrollLock = 9
+
+-- Document 02, 2.4: "Add flag 10, ALT_RIGHT".
+abbrev pub altRight : ℕ
+altRight = 10

@@ -2,7 +2,7 @@
 ghost use mathlib.Core.Path.{_≡_};
 ghost use mathlib.Core.Bool.{_||_, xor};
 ghost use Rattle.bits.specs.Bits.{bit, bitwise, meet, without};
-ghost use Rattle.keyboard_modifiers.specs.Flags.{shiftLeft, shiftRight, controlLeft, controlRight, alt, superKeyLeft, superKeyRight, capsLock, numLock, scrollLock};
+ghost use Rattle.keyboard_modifiers.specs.Flags.{shiftLeft, shiftRight, controlLeft, controlRight, alt, superKeyLeft, superKeyRight, capsLock, numLock, scrollLock, altRight};
 
 // The modifier keys that are held down, and the locks that are on: a bit for each, as document 01 numbers them.
 pub struct KeyboardModifiers {
@@ -29,6 +29,8 @@ impl KeyboardModifiers {
     pub const NUM_LOCK: KeyboardModifiers = KeyboardModifiers { bits: 1 << 8 };
 
     pub const SCROLL_LOCK: KeyboardModifiers = KeyboardModifiers { bits: 1 << 9 };
+
+    pub const ALT_RIGHT: KeyboardModifiers = KeyboardModifiers { bits: 1 << 10 };
 
     // No key held and no lock on.
     pub fn new() -> KeyboardModifiers
@@ -90,6 +92,13 @@ impl KeyboardModifiers {
         ensures { λ r. ⌜ r ≡ bit alt (self .bits) ⌝ }
     {
         self.intersects(KeyboardModifiers::ALT)
+    }
+
+    // Whether the right Alt key, AltGr, is held down.
+    pub fn is_alt_gr(self) -> bool
+        ensures { λ r. ⌜ r ≡ bit altRight (self .bits) ⌝ }
+    {
+        self.intersects(KeyboardModifiers::ALT_RIGHT)
     }
 
     // Whether a Super key is held down, left or right.

@@ -23,6 +23,6 @@ withKeys prefix flags s = record { keyboard = keyboardOf prefix flags; start = s
 abbrev pub fresh : KeyboardHandler
 fresh = record { state = record { keyboard = keyboardOf false 0; start = 0; count = 0 }; places = replicate queueLength emptyEvent }
 
--- Question 21: "has it no flag above bit 9, and its queue a start below 128 and a count of at most 128?"
+-- Question 21: "has it no flag above bit 9", since document 02's 2.4 "above bit 10", "and its queue a start below 128 and a count of at most 128?"
 unfoldable pub wellFormed : HandlerState → Bool
 wellFormed s = ltb (s .keyboard .modifiers .bits) flagLimit && (ltb (s .start) queueLength && leb (s .count) queueLength)

@@ -14,7 +14,7 @@ use keycodes_ascii::Keycode;
 pub const QUEUE_LENGTH: usize = 128;
 
 // The flags are the bits below this one.
-const FLAG_LIMIT: u16 = 1 << 10;
+const FLAG_LIMIT: u16 = 1 << 11;
 
 // All of the record but the places: what the handler remembers of the keyboard, and where in the places the events wait.
 // They stand in a ring: the oldest is at `start`, and `count` of them follow each other round the end.
@@ -58,7 +58,7 @@ impl TakenEvent {
 }
 
 impl HandlerState {
-    // Whether there is no flag above bit 9, and a start and a count that the queue's places allow.
+    // Whether there is no flag above bit 10, and a start and a count that the queue's places allow.
     pub fn well_formed(self) -> bool
         ensures { λ r. ⌜ r ≡ wellFormed self ⌝ }
     {

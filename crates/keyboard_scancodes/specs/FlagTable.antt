@@ -5,7 +5,7 @@ use mathlib.Core.List.{List, [], _∷_}
 use Prim.Native.Nat.{ℕ, _^_}
 use lib.Dec.{eqb}
 use lib.ListN.{length}
-use Rattle.keyboard_modifiers.specs.Flags.{shiftLeft, shiftRight, controlLeft, controlRight, alt, superKeyLeft, superKeyRight, capsLock, numLock, scrollLock}
+use Rattle.keyboard_modifiers.specs.Flags.{shiftLeft, shiftRight, controlLeft, controlRight, alt, superKeyLeft, superKeyRight, capsLock, numLock, scrollLock, altRight}
 use Rattle.keyboard_scancodes.specs.Strokes.{Stroke, stroke}
 
 -- A lock goes on and off with its presses. A held key is on from its press to its release, after a prefix or not. Of two keys with one code, the right one has the strokes directly after a prefix, the left one the rest.
@@ -22,7 +22,7 @@ pub record FlagRow : Type 0 where
 abbrev pub flagRow : ℕ → Kind → ℕ → FlagRow
 flagRow flag kind code = record { flag = flag; kind = kind; code = code }
 
--- Document 01's list of flags, in order.
+-- Document 01's list of flags, in order, and document 02's flag 10: "on when the last of 38 and B8 directly after E0 or E1 was 38".
 unfoldable pub flagTable : List FlagRow
 flagTable =
     flagRow shiftLeft held 0x2A ∷
@@ -34,7 +34,8 @@ flagTable =
     flagRow superKeyRight held 0x5C ∷
     flagRow capsLock lock 0x3A ∷
     flagRow numLock lock 0x45 ∷
-    flagRow scrollLock lock 0x46 ∷ []
+    flagRow scrollLock lock 0x46 ∷
+    flagRow altRight right 0x38 ∷ []
 
 -- The words that have no flag above the table's last are those below this: one bit for each row.
 unfoldable pub flagLimit : ℕ

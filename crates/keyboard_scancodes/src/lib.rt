@@ -39,6 +39,11 @@ const NUM_LOCK: u8 = 0x45;
 
 const SCROLL_LOCK: u8 = 0x46;
 
+// The flags of the right Alt key.
+const ALT_AND_ALT_RIGHT: KeyboardModifiers = KeyboardModifiers {
+    bits: 1 << 4 | 1 << 10,
+};
+
 // What the handler remembers of one keyboard: whether the last byte was a prefix, the keys that are held and the locks that are on.
 pub struct KeyboardState {
     pub prefix: bool,
@@ -68,7 +73,7 @@ pub fn is_silent(scan_code: u8) -> bool
     scan_code == ACKNOWLEDGE
 }
 
-// The flags that a key holds down, by its press code: none where it is no such key's. A prefix directly before tells right Control from left.
+// The flags that a key holds down, by its press code: none where it is no such key's. A prefix directly before tells right Control from left, and right Alt, which is an Alt too.
 fn held_flags(code: u8, prefix: bool) -> KeyboardModifiers
     ensures { λ r. ⌜ r .bits ≡ heldFlags flagTable code prefix ⌝ }
 {
@@ -80,7 +85,13 @@ fn held_flags(code: u8, prefix: bool) -> KeyboardModifiers
                 KeyboardModifiers::CONTROL_LEFT
             }
         }
-        ALT => KeyboardModifiers::ALT,
+        ALT => {
+            if prefix {
+                ALT_AND_ALT_RIGHT
+            } else {
+                KeyboardModifiers::ALT
+            }
+        }
         LEFT_SHIFT => KeyboardModifiers::SHIFT_LEFT,
         RIGHT_SHIFT => KeyboardModifiers::SHIFT_RIGHT,
         SUPER_KEY_LEFT => KeyboardModifiers::SUPER_KEY_LEFT,
