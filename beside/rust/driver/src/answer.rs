@@ -70,6 +70,26 @@ pub enum Done {
     NotTaken(u8),
 }
 
+impl Answer {
+    /// The answer on the ten flags that the Rust has: ALT_RIGHT, the port's eleventh, is taken off here, and nowhere else.
+    pub fn on_ten_flags(self) -> Answer {
+        let event = |event: KeyEvent| KeyEvent { flags: event.flags & ALL_FLAGS, ..event };
+        match self {
+            Answer::Run { done, left } => Answer::Run {
+                done: done
+                    .into_iter()
+                    .map(|one| match one {
+                        Done::Taken(taken) => Done::Taken(taken.map(event)),
+                        other => other,
+                    })
+                    .collect(),
+                left: left.on_ten_flags(),
+            },
+            other => other,
+        }
+    }
+}
+
 impl Keyboard {
     pub const ALL: [Keyboard; 3] = [Keyboard::Plain, Keyboard::Translated, Keyboard::Ancient];
 

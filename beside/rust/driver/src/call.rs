@@ -99,8 +99,10 @@ pub const RATES: [u8; 7] = [10, 20, 40, 60, 80, 100, 200];
 pub const LAST_KEYCODE: u8 = 0x5D;
 /// The keycodes above the last: `ControlReleased` and its like. No event has one.
 pub const RELEASE_KEYCODES: [u8; 6] = [0x9D, 0xB8, 0xAA, 0xB6, 0xDB, 0xDC];
-/// The flags of a well-formed record, and those that the Rust has.
+/// The flags that the Rust moves: document 01's ten.
 pub const ALL_FLAGS: u16 = 0x3FF;
+/// The flags of a well-formed record: with ALT_RIGHT, the eleventh.
+pub const PORT_FLAGS: u16 = 0x7FF;
 pub const QUEUE_PLACES: usize = 128;
 
 /// A line that asks for no answer: empty, a comment, or an answer.
@@ -445,7 +447,16 @@ impl fmt::Display for Handler {
 impl Handler {
     /// Whether a handler call or a taking is refused 21.
     pub fn is_malformed(&self) -> bool {
-        self.flags > ALL_FLAGS
+        self.flags > PORT_FLAGS
+    }
+
+    /// The record on the ten flags that the Rust has.
+    pub fn on_ten_flags(mut self) -> Handler {
+        self.flags &= ALL_FLAGS;
+        for event in &mut self.queue {
+            event.flags &= ALL_FLAGS;
+        }
+        self
     }
 }
 
@@ -455,7 +466,7 @@ impl Op {
         let has_other_flags = match self {
             Op::Mouse(MouseOp::ReadSignedPacket, _) => return Some("the Rust reads no packet with a signed wheel"),
             Op::Handle(handler, _) => {
-                handler.is_malformed() || handler.queue.iter().any(|event| event.flags > ALL_FLAGS)
+                handler.flags > ALL_FLAGS || handler.queue.iter().any(|event| event.flags > ALL_FLAGS)
             }
             Op::ToAscii(_, flags) => *flags > ALL_FLAGS,
             _ => false,

@@ -163,8 +163,12 @@ pub fn compare(port: port::Paths, calls: u64, seed: u64, damaged: Option<u64>) -
             let output = &mut outputs[Program::of(&one.1) as usize];
             output.now = damaged == Some(call);
             match read_answer(&one.1, output) {
-                Ok(Ok(answer)) if answer == one.2 => {}
-                Ok(Ok(answer)) => differ(call, &one, &answer.to_string()),
+                Ok(Ok(answer)) => {
+                    let answer = answer.on_ten_flags();
+                    if answer != one.2 {
+                        differ(call, &one, &answer.to_string())
+                    }
+                }
                 Ok(Err(why)) => differ(call, &one, &format!("({why})")),
                 Err(_) => differ(call, &one, "(no answer)"),
             }
