@@ -329,7 +329,7 @@ fn not_taken(op: u8, number: u8) -> Packed {
 /// Reads the port's answer to a call of an operation. What is no answer to it is told as an error.
 pub fn read_answer(op: &Op, from: &mut impl Read) -> io::Result<Result<Answer, String>> {
     match op {
-        Op::Handle(_, plan) => read_run(plan, from),
+        Op::Handle(passed, plan) => read_run(passed, plan, from),
         _ => Ok(answer_of(op, Packed::read(from)?)),
     }
 }
@@ -381,7 +381,7 @@ fn answer_of(op: &Op, packed: Packed) -> Result<Answer, String> {
     }
 }
 
-fn read_run(plan: &[Step], from: &mut impl Read) -> io::Result<Result<Answer, String>> {
+fn read_run(passed: &Handler, plan: &[Step], from: &mut impl Read) -> io::Result<Result<Answer, String>> {
     let handle = handle_of(plan);
     let (mut done, mut queue, mut record) = (Vec::new(), Vec::new(), None);
     loop {
@@ -401,8 +401,12 @@ fn read_run(plan: &[Step], from: &mut impl Read) -> io::Result<Result<Answer, St
             (TAKE, TAKEN, event) if plain => done.push(Done::Taken(Some(event_of(event)))),
             (LEFT, 0, left) if plain => record = Some(left),
             (WAITING, TAKEN, event) if plain => queue.push(event_of(event)),
-            // Of a malformed record the events that wait are not told.
-            (WAITING, NONE_TAKEN, 0) if plain || malformed => break,
+            (WAITING, NONE_TAKEN, 0) if plain => break,
+            // Nothing can be taken from a malformed record: of its events only the number is told, and they are shown as passed in.
+            (WAITING, NONE_TAKEN, 0) if malformed => {
+                queue.clone_from(&passed.queue);
+                break;
+            }
             _ => return Ok(Err(format!("no answer to a call of a run: {packed:?}"))),
         }
     }
