@@ -1,0 +1,12 @@
+-- Laws of salvaging.
+pub mod Copy
+pub mod Pieces
+pub mod Output
+pub mod Written
+pub mod Going
+pub mod Split
+pub mod Fitting
+pub mod Rules
+pub mod Together
+pub mod Joining
+pub mod Limits
