@@ -2,6 +2,7 @@
 //! and read from one.
 
 use crate::call::*;
+use crate::salvage::Salvaged;
 use std::fmt;
 
 /// The answer to a call, or to a run of handler calls.
@@ -19,6 +20,7 @@ pub enum Answer {
         done: Vec<Done>,
         left: Handler,
     },
+    Salvaged(Salvaged),
 }
 
 /// What a call answers beside its end.
@@ -174,6 +176,7 @@ impl fmt::Display for Answer {
                 }
                 write!(f, "{} rec={left}", if done.is_empty() { "-" } else { "" })
             }
+            Answer::Salvaged(salvaged) => write!(f, "{salvaged}"),
         }
     }
 }

@@ -1,5 +1,6 @@
 //! A call line of the trace format (tests/traces/README.md), read and written.
 
+use crate::salvage::{self, Salvage};
 use std::fmt::{self, Write};
 
 /// What stands in a call line.
@@ -29,6 +30,7 @@ pub enum Op {
     KeyboardInit,
     Handle(Handler, Vec<Step>),
     ToAscii(u8, u16),
+    Salvage(Salvage),
 }
 
 #[derive(Clone, Copy, Debug, PartialEq)]
@@ -113,6 +115,9 @@ pub fn is_skipped(line: &str) -> bool {
 pub fn parse(line: &str) -> Result<Call, String> {
     let mut words = line.split_ascii_whitespace().peekable();
     let name = words.next().ok_or("an empty line")?;
+    if name == salvage::NAME {
+        return salvage::parse(words);
+    }
     let mut args = Vec::new();
     while let Some(word) = words.next_if(|word| !word.contains('=')) {
         args.push(word);
@@ -406,7 +411,7 @@ pub fn parts(script: &[u8]) -> Vec<(&[u8], usize)> {
 }
 
 /// A script with its long runs as `XX*N` and `XXYY*N`.
-fn push_script(out: &mut String, script: &[u8]) {
+pub fn push_script(out: &mut String, script: &[u8]) {
     for (i, (bytes, times)) in parts(script).into_iter().enumerate() {
         write!(out, "{}{}", if i == 0 { "" } else { "," }, Hex(bytes)).unwrap();
         if times > 1 {
@@ -469,6 +474,7 @@ impl Op {
                 handler.flags > ALL_FLAGS || handler.queue.iter().any(|event| event.flags > ALL_FLAGS)
             }
             Op::ToAscii(_, flags) => *flags > ALL_FLAGS,
+            Op::Salvage(_) => return Some("the Rust salvages no recording"),
             _ => false,
         };
         has_other_flags.then_some("the Rust has no flag above bit 9")
@@ -520,6 +526,7 @@ impl Op {
             Op::KeyboardInit => "keyboard_init",
             Op::Handle(..) => "handle",
             Op::ToAscii(..) => "to_ascii",
+            Op::Salvage(_) => salvage::NAME,
         }
     }
 
@@ -547,6 +554,10 @@ impl Call {
     pub fn line(&self) -> String {
         let mut out = String::with_capacity(64 + 2 * self.script.len().min(1000));
         out += self.op.name();
+        if let Op::Salvage(salvage) = &self.op {
+            salvage.push_fields(self, &mut out);
+            return out;
+        }
         self.op.push_args(&mut out);
         match &self.op {
             Op::Init(controller) if *controller != Controller::default() => write!(out, " state={controller}").unwrap(),

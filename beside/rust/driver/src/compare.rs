@@ -80,6 +80,7 @@ fn count_answers(answers: &mut BTreeMap<String, u64>, answer: &Answer) {
     };
     match answer {
         Answer::Call { end, .. } => count(*end),
+        Answer::Salvaged(salvaged) => count(salvaged.end),
         Answer::Run { done, .. } => {
             for d in done {
                 if let Done::Handled { end, lamps_failed, .. } = d {

@@ -9,6 +9,7 @@ mod generate;
 mod oracle;
 mod packed;
 mod port;
+mod salvage;
 
 use packed::Program;
 use std::io::{self, BufWriter, Read, Write};
@@ -81,12 +82,14 @@ fn main() -> io::Result<ExitCode> {
     let args: Vec<String> = std::env::args().skip(1).collect();
     let (calls, seed) = (number(&args, "--calls"), number(&args, "--seed"));
     let port = option(&args, "--port").and_then(|ports| Some([ports, option(&args, "--keys")?]));
+    // Calls on lent bytes have a program of their own, which a comparison with the Rust does without.
+    let bytes = option(&args, "--bytes").unwrap_or("replay_bytes");
     let but = option(&args, "--but").map_or(Ok(Default::default()), port::calls_of);
     match (args.first().map(String::as_str), calls, seed, port) {
         (Some("replay"), None, None, None) => port::answer_lines(by_rust()),
-        (Some("replay"), None, None, Some(port)) => port::replay(port),
+        (Some("replay"), None, None, Some(port)) => port::replay([port[0], port[1], bytes]),
         (Some("held"), None, None, None) => port::held(&but?, by_rust()),
-        (Some("held"), None, None, Some(port)) => port::held_port(port, &but?),
+        (Some("held"), None, None, Some(port)) => port::held_port([port[0], port[1], bytes], &but?),
         (Some("pack"), ..) => {
             let named = |name: &str| args.iter().any(|arg| arg == name);
             port::pack(if named("--keys") { Program::Keys } else { Program::Ports }, named("--answers"), &but?)
@@ -107,7 +110,7 @@ fn main() -> io::Result<ExitCode> {
             eprintln!("       beside pack [--keys] [--answers] [--but TRACE]");
             eprintln!("       beside compare --calls N --seed S PORT [--damage CALL]");
             eprintln!("       beside bench [--rounds N] PORT --tablekeys PROGRAM");
-            eprintln!("where PORT is --port PROGRAM --keys PROGRAM");
+            eprintln!("where PORT is --port PROGRAM --keys PROGRAM, and for replay and held --bytes PROGRAM");
             Ok(ExitCode::from(2))
         }
     }

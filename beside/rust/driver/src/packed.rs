@@ -5,11 +5,13 @@ use crate::answer::*;
 use crate::call::*;
 use std::io::{self, Read};
 
-/// The port's programs: crates/replay makes the calls on the ports, crates/replay_keys those on keys.
+/// The port's programs: crates/replay makes the calls on the ports, crates/replay_keys those on keys, crates/replay_bytes those on lent
+/// bytes.
 #[derive(Clone, Copy)]
 pub enum Program {
     Ports,
     Keys,
+    Bytes,
 }
 
 impl Program {
@@ -17,6 +19,7 @@ impl Program {
     pub fn of(op: &Op) -> Program {
         match op {
             Op::Handle(..) | Op::KeyboardInit | Op::ToAscii(..) => Program::Keys,
+            Op::Salvage(_) => Program::Bytes,
             _ => Program::Ports,
         }
     }
@@ -46,16 +49,16 @@ const NO_CALL: u8 = 255;
 const MALFORMED: u8 = 21;
 
 /// An instruction of 10 bytes, numbers with their low byte first.
-struct Instruction {
-    op: u8,
-    argument: u8,
-    state: u16,
-    room: usize,
-    times: usize,
+pub struct Instruction {
+    pub op: u8,
+    pub argument: u8,
+    pub state: u16,
+    pub room: usize,
+    pub times: usize,
 }
 
 impl Instruction {
-    fn put(&self, out: &mut Vec<u8>) {
+    pub fn put(&self, out: &mut Vec<u8>) {
         out.extend([self.op, self.argument]);
         out.extend(self.state.to_le_bytes());
         out.extend((self.room as u16).to_le_bytes());
@@ -98,7 +101,7 @@ fn operation(op: &Op) -> (u8, u8, u16) {
         Op::Mouse(M::ReadSignedPacket, id) => (38, id.unwrap_or(0), 0),
         Op::KeyboardInit => (28, 0, 0),
         Op::ToAscii(keycode, flags) => (TO_ASCII, keycode, flags),
-        Op::Handle(..) => unreachable!("a run has no number of its own"),
+        Op::Handle(..) | Op::Salvage(_) => unreachable!("it is packed by itself"),
     }
 }
 
@@ -121,6 +124,8 @@ pub fn put_call(call: &Call, out: &mut Vec<u8>) -> Result<(), String> {
     }
     if let Op::Handle(handler, plan) = &call.op {
         put_run(call, handler, plan, out);
+    } else if let Op::Salvage(salvage) = &call.op {
+        return salvage.put_call(call, out);
     } else {
         let (op, argument, state) = operation(&call.op);
         Instruction { op, argument, state, room: call.room, times: call.repeat as usize }.put(out);
@@ -175,15 +180,15 @@ fn put_run(call: &Call, handler: &Handler, plan: &[Step], out: &mut Vec<u8>) {
 }
 
 /// An answer: four numbers of 8 bytes, and what was logged.
-#[derive(Debug, Default)]
-struct Packed {
-    op: u8,
-    number: u8,
+#[derive(Debug, Default, PartialEq)]
+pub struct Packed {
+    pub op: u8,
+    pub number: u8,
     /// A byte of the record that is left.
-    left: u8,
-    used: usize,
-    value: u64,
-    log: Vec<u8>,
+    pub left: u8,
+    pub used: usize,
+    pub value: u64,
+    pub log: Vec<u8>,
 }
 
 impl Packed {
@@ -195,7 +200,7 @@ impl Packed {
         out.extend(&self.log);
     }
 
-    fn read(from: &mut impl Read) -> io::Result<Packed> {
+    pub fn read(from: &mut impl Read) -> io::Result<Packed> {
         let mut head = [0; 32];
         from.read_exact(&mut head)?;
         let number = |i: usize| u64::from_le_bytes(head[8 * i..8 * i + 8].try_into().unwrap());
@@ -282,6 +287,7 @@ pub fn put_answer(op: &Op, answer: &Answer, out: &mut Vec<u8>) -> Result<(), Str
             }
             taken(WAITING, None).put(out);
         }
+        Answer::Salvaged(_) => return Err("no recorded call is a pass over a recording".to_string()),
     }
     Ok(())
 }
@@ -330,6 +336,7 @@ fn not_taken(op: u8, number: u8) -> Packed {
 pub fn read_answer(op: &Op, from: &mut impl Read) -> io::Result<Result<Answer, String>> {
     match op {
         Op::Handle(passed, plan) => read_run(passed, plan, from),
+        Op::Salvage(salvage) => salvage.read_answer(from),
         _ => Ok(answer_of(op, Packed::read(from)?)),
     }
 }

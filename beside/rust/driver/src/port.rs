@@ -7,8 +7,9 @@ use std::collections::BTreeSet;
 use std::io::{self, BufRead, BufReader, BufWriter, Write};
 use std::process::{Child, ChildStdin, ChildStdout, Command, ExitCode, Stdio};
 
-/// The paths of the port's programs, each at its `Program`'s number.
+/// The paths of the programs that are compared with the Rust, and of all the port's programs, each at its `Program`'s number.
 pub type Paths<'a> = [&'a str; 2];
+pub type AllPaths<'a> = [&'a str; 3];
 
 /// One of the port's programs, running.
 pub struct Running {
@@ -62,16 +63,37 @@ pub fn answer_lines(mut answer: impl FnMut(&Call) -> Result<Answer, String>) -> 
     Ok(ExitCode::from(bad as u8))
 }
 
+/// The port's programs, each started by the first call that it makes.
+struct Programs<'a> {
+    paths: AllPaths<'a>,
+    running: [Option<Running>; 3],
+}
+
+impl<'a> Programs<'a> {
+    fn new(paths: AllPaths<'a>) -> Programs<'a> {
+        Programs { paths, running: [None, None, None] }
+    }
+
+    fn answer(&mut self, call: &Call) -> Result<Answer, String> {
+        let at = Program::of(&call.op) as usize;
+        if self.running[at].is_none() {
+            let path = self.paths[at];
+            self.running[at] = Some(Running::start(path).map_err(|why| format!("the program '{path}': {why}"))?);
+        }
+        self.running[at].as_mut().unwrap().answer(call)
+    }
+}
+
 /// Answers the call lines of standard input by the port's programs.
-pub fn replay(paths: Paths) -> io::Result<ExitCode> {
-    let mut programs = start(paths)?;
-    answer_lines(|call| programs[Program::of(&call.op) as usize].answer(call))
+pub fn replay(paths: AllPaths) -> io::Result<ExitCode> {
+    let mut programs = Programs::new(paths);
+    answer_lines(|call| programs.answer(call))
 }
 
 /// Holds the port's programs to the trace of standard input.
-pub fn held_port(paths: Paths, but: &BTreeSet<String>) -> io::Result<ExitCode> {
-    let mut programs = start(paths)?;
-    held(but, |call| programs[Program::of(&call.op) as usize].answer(call))
+pub fn held_port(paths: AllPaths, but: &BTreeSet<String>) -> io::Result<ExitCode> {
+    let mut programs = Programs::new(paths);
+    held(but, |call| programs.answer(call))
 }
 
 /// The call lines of a trace.
