@@ -1,4 +1,6 @@
-// Salvaging by plain numbers, for a program in Rust to link: `beside/bench` measures it.
+// A pass over a recording by plain numbers, for a program in Rust to link: `beside/bench` measures it.
+ghost use Rattle.ps2_bytes.specs.Responses.{mouseIdRead};
+ghost use Rattle.salvage_calls.specs.Numbers.{Called};
 use ps2_bytes::MouseId;
 use ps2_bytes::MouseIdByte;
 use ps2_salvage::SalvageAnswer;
@@ -14,16 +16,19 @@ pub struct SalvagedNumbers {
     pub dropped: usize,
 }
 
-// The number of an answer to an identity that there is not.
+// The number of the answer to a byte that is no identity.
 const NO_IDENTITY: u64 = 255;
 
+// The identity is its byte.
 #[no_mangle]
 pub extern "C" fn salvage_recording(
     id: u8,
     bytes: &[u8],
     packets: &mut [u8],
     positions: &mut [u64],
-) -> SalvagedNumbers {
+) -> SalvagedNumbers
+    ensures { λ r. ⌜ Called (mouseIdRead id) (now (bytes .entry)) (now (packets .entry)) (now (positions .entry)) r (now (packets .exit)) (now (positions .exit)) ⌝ }
+{
     match MouseId::from_byte(id) {
         MouseIdByte::Listed(identity) => {
             let s = salvage(identity, bytes, packets, positions);

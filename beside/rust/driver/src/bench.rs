@@ -1,5 +1,5 @@
 //! How long the port takes for a call, and the Rust, as a table. Each side makes the same calls in a loop of its own. Handler
-//! calls are measured by the program `calls`, which links the port's.
+//! calls and passes over a recording are measured by the programs `calls` and `recording`, which link the port's.
 
 use crate::answer::Answer;
 use crate::call::{self, Call, ALL_FLAGS, LAST_KEYCODE};
@@ -211,11 +211,11 @@ fn packed_error(calls: &[Call], answers: &[Answer], mut output: &[u8]) -> Option
     })
 }
 
-/// What the program `calls` measured: a line is a name, the least and the median.
-fn handler_measures(program: &Path, rounds: usize) -> io::Result<BTreeMap<String, Spread>> {
+/// What the programs `calls` and `recording` measured: a line is a name, the least and the median.
+fn linked_measures(program: &Path, rounds: usize) -> io::Result<BTreeMap<String, Spread>> {
     let output = Command::new(program).arg(rounds.to_string()).stderr(Stdio::inherit()).output()?;
     if !output.status.success() {
-        return Err(io::Error::other("the program 'calls' failed"));
+        return Err(io::Error::other(format!("the program '{}' failed", program.display())));
     }
     let line = |line: &str| {
         let mut words = line.split(' ');
@@ -260,7 +260,8 @@ pub fn bench(port: Paths, tablekeys: &str, rounds: usize) -> io::Result<ExitCode
     let mut table = Table::begin();
 
     // Handler calls are measured by a program of their own, both sides in turn, in many short rounds.
-    let measures = handler_measures(&Path::new(own).with_file_name("calls"), 100 * rounds)?;
+    let mut measures = linked_measures(&Path::new(own).with_file_name("calls"), 100 * rounds)?;
+    measures.extend(linked_measures(&Path::new(own).with_file_name("recording"), 10 * rounds)?);
     let measured = |name: &str| measures.get(name).copied().ok_or_else(|| io::Error::other(format!("no {name}")));
     let handler_calls =
         [("key", "plain key", ""), ("lock", "lock", ", each with its lamp exchange of 6 reads and 2 writes")];
@@ -324,6 +325,19 @@ pub fn bench(port: Paths, tablekeys: &str, rounds: usize) -> io::Result<ExitCode
     let both = both.map(|(rust, port)| (rust.without(keys.len() as f64, frame), port));
     table.row("`tablekeys` on 65,536 bytes of keys, none a lock", both, &contents);
 
+    // Passes over a recording, beside plain Rust: the Rust of docs/src has none.
+    let passes = [
+        ("loose-0", "at identity 0", "packets of 3 bytes, of whose bytes one in a thousand was lost"),
+        ("loose-4", "at identity 4", "packets of 4 bytes, of whose bytes one in a thousand was lost"),
+        ("any-0", "at identity 0, any bytes", "bytes by chance: every second one at a packet's start is dropped"),
+    ];
+    for (name, recording, contents) in passes {
+        let both = (measured(&format!("{name}-rust"))?, measured(&format!("{name}-port"))?);
+        let contents =
+            format!("one pass over 10,000,000 bytes; {contents}. The Rust is beside/rust/recording/src/plain.rs");
+        table.row(&format!("`salvage` {recording}"), Ok(both), &contents);
+    }
+
     let direct = |name: &str| {
         let of = |what: &str| measured(&format!("{name}-{what}"));
         Ok::<_, io::Error>(of("direct")?.without(1.0, of("ready")?))
@@ -334,6 +348,10 @@ pub fn bench(port: Paths, tablekeys: &str, rounds: usize) -> io::Result<ExitCode
          {} ns on a plain key and {} ns on a lock.",
         direct("key")?,
         direct("lock")?
+    );
+    println!(
+        "The port salvaged 1,000,000 bytes at identity 0 in {} ns, a tenth of the recording of 10,000,000.",
+        measured("tenth-0-port")?
     );
     println!(
         "A read of the Rust's stand-in for a port took {} ns by itself; the port reads a slice.",

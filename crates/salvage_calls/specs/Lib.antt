@@ -1,0 +1,2 @@
+-- A pass over a recording by plain numbers.
+pub mod Numbers
