@@ -49,107 +49,109 @@ going-begins id bytes packets positions =
       whole = rw (sub-zero (length packets), sub-zero (length positions));
     }
 
-module _ (id : MouseId) (bytes packets₀ positions₀ packets positions : List ℕ) (used packet-bytes dropped-bytes : ℕ)
-    (g : Going id bytes packets₀ positions₀ packets positions used packet-bytes dropped-bytes)
-  where
-    pub packets-length : length packets ≡ length packets₀
-    packets-length = ap length (g .packets-now) ∙ over-length (g .wrote) packets₀ (g .wrote-within)
+module _ {id : MouseId} {bytes packets₀ positions₀ packets positions : List ℕ} {used packet-bytes dropped-bytes : ℕ} (g : Going id bytes packets₀ positions₀ packets positions used packet-bytes dropped-bytes) where
+  pub packets-length : length packets ≡ length packets₀
+  packets-length = ap length (g .packets-now) ∙ over-length (g .wrote) packets₀ (g .wrote-within)
 
-    pub positions-length : length positions ≡ length positions₀
-    positions-length = ap length (g .positions-now) ∙ over-length (g .listed) positions₀ (g .listed-within)
+  pub positions-length : length positions ≡ length positions₀
+  positions-length = ap length (g .positions-now) ∙ over-length (g .listed) positions₀ (g .listed-within)
 
-    abbrev room : ℕ
-    room = length packets₀ - packet-bytes
+  abbrev room : ℕ
+  room = length packets₀ - packet-bytes
 
-    abbrev places : ℕ
-    places = length positions₀ - dropped-bytes
+  abbrev places : ℕ
+  places = length positions₀ - dropped-bytes
 
-    -- a byte is dropped
-    pub going-drops : used < length bytes → starts (getD bytes used 0) ≡ false → dropped-bytes < length positions
-        → Going id bytes packets₀ positions₀ packets (set positions dropped-bytes used) (used + 1) packet-bytes (dropped-bytes + 1)
-    going-drops h e s =
-        let n = g .listed-counted in
-        let l = positions-length in
-        let more = length-append (g .listed) (used ∷ []) in
-        record {
-          wrote = g .wrote;
-          listed = g .listed ++ (used ∷ []);
-          used-within = omega arith;
-          wrote-within = g .wrote-within;
-          listed-within = omega arith;
-          wrote-counted = g .wrote-counted;
-          listed-counted = omega arith;
-          packets-now = g .packets-now;
-          positions-now = rw (g .positions-now, ← n) (over-set (g .listed) positions₀ used (omega arith));
-          whole =
-              g .whole
-              ∙ ap (after (g .wrote) (g .listed)) (ap (written used room places) (at-dropped id bytes used h e) ∙ written-position used room places _ _ (omega arith))
-              ∙ after-position (g .wrote) (g .listed) (used ∷ []) _
-              ∙ ap (λ (k : ℕ). after (g .wrote) (g .listed ++ (used ∷ [])) (written (used + 1) room k (pieces id (drop (used + 1) bytes)))) (omega arith);
-        }
+  -- a byte is dropped
+  pub going-drops : used < length bytes → starts (getD bytes used 0) ≡ false → dropped-bytes < length positions
+      → Going id bytes packets₀ positions₀ packets (set positions dropped-bytes used) (used + 1) packet-bytes (dropped-bytes + 1)
+  going-drops h e s =
+      let n = g .listed-counted in
+      let l = positions-length in
+      let more = length-append (g .listed) (used ∷ []) in
+      record {
+        wrote = g .wrote;
+        listed = g .listed ++ (used ∷ []);
+        used-within = omega arith;
+        wrote-within = g .wrote-within;
+        listed-within = omega arith;
+        wrote-counted = g .wrote-counted;
+        listed-counted = omega arith;
+        packets-now = g .packets-now;
+        positions-now = rw (g .positions-now, ← n) (over-set (g .listed) positions₀ used (omega arith));
+        whole =
+            g .whole
+            ∙ ap (after (g .wrote) (g .listed)) (ap (written used room places) (at-dropped id bytes used h e) ∙ written-position used room places _ _ (omega arith))
+            ∙ after-position (g .wrote) (g .listed) (used ∷ []) _
+            ∙ ap (λ (k : ℕ). after (g .wrote) (g .listed ++ (used ∷ [])) (written (used + 1) room k (pieces id (drop (used + 1) bytes)))) (omega arith);
+      }
 
-    -- a packet is taken
-    pub going-takes : used + packetLength id ≤ length bytes → used < length bytes → starts (getD bytes used 0) ≡ true → packet-bytes + packetLength id ≤ length packets
-        → Going id bytes packets₀ positions₀ (paste packets packet-bytes (drop used bytes) (packetLength id)) positions (used + packetLength id) (packet-bytes + packetLength id) dropped-bytes
-    going-takes t h e s =
-        let n = g .wrote-counted in
-        let l = packets-length in
-        let taken = take (packetLength id) (drop used bytes) in
-        let long : length taken ≡ packetLength id = length-take-le (packetLength id) (drop used bytes) (rw length-drop (omega arith)) in
-        let more = length-append (g .wrote) taken in
-        record {
-          wrote = g .wrote ++ taken;
-          listed = g .listed;
-          used-within = t;
-          wrote-within = omega arith;
-          listed-within = g .listed-within;
-          wrote-counted = omega arith;
-          listed-counted = g .listed-counted;
-          packets-now = rw (g .packets-now, ← n) (over-paste (g .wrote) packets₀ (drop used bytes) (packetLength id) (rw length-drop (omega arith)));
-          positions-now = g .positions-now;
-          whole =
-              g .whole
-              ∙ ap (after (g .wrote) (g .listed))
-              (ap (written used room places) (at-packet id bytes used h e t) ∙ written-packet used room places taken _ (omega arith))
-              ∙ after-packet (g .wrote) (g .listed) taken _
-              ∙ ap₂ (λ (k m : ℕ). after (g .wrote ++ taken) (g .listed) (written k m places (pieces id (drop (used + packetLength id) bytes)))) (omega arith) (omega arith);
-        }
+  -- a packet is taken
+  pub going-takes : used + packetLength id ≤ length bytes → used < length bytes → starts (getD bytes used 0) ≡ true → packet-bytes + packetLength id ≤ length packets
+      → Going id bytes packets₀ positions₀ (paste packets packet-bytes (drop used bytes) (packetLength id)) positions (used + packetLength id) (packet-bytes + packetLength id) dropped-bytes
+  going-takes t h e s =
+      let n = g .wrote-counted in
+      let l = packets-length in
+      let taken = take (packetLength id) (drop used bytes) in
+      let long : length taken ≡ packetLength id = length-take-le (packetLength id) (drop used bytes) (rw length-drop (omega arith)) in
+      let more = length-append (g .wrote) taken in
+      record {
+        wrote = g .wrote ++ taken;
+        listed = g .listed;
+        used-within = t;
+        wrote-within = omega arith;
+        listed-within = g .listed-within;
+        wrote-counted = omega arith;
+        listed-counted = g .listed-counted;
+        packets-now = rw (g .packets-now, ← n) (over-paste (g .wrote) packets₀ (drop used bytes) (packetLength id) (rw length-drop (omega arith)));
+        positions-now = g .positions-now;
+        whole =
+            g .whole
+            ∙ ap (after (g .wrote) (g .listed))
+            (ap (written used room places) (at-packet id bytes used h e t) ∙ written-packet used room places taken _ (omega arith))
+            ∙ after-packet (g .wrote) (g .listed) taken _
+            ∙ ap₂ (λ (k m : ℕ). after (g .wrote ++ taken) (g .listed) (written k m places (pieces id (drop (used + packetLength id) bytes)))) (omega arith) (omega arith);
+      }
 
-    -- the end, where nothing more is written
-    pub going-ends : (a : SalvageAnswer) → written used room places (pieces id (drop used bytes)) ≡ ends a used
-        → Leaves (salvaged id (length packets₀) (length positions₀) bytes) packets₀ positions₀ (record { answer = a; used = used; «packet_bytes» = packet-bytes; dropped = dropped-bytes }) packets positions
-    going-ends a e =
-        let all : salvaged id (length packets₀) (length positions₀) bytes ≡ record { answer = a; used = used; packets = g .wrote; positions = g .listed } =
-        g .whole ∙ ap (after (g .wrote) (g .listed)) e ∙ rw (append-nil (g .wrote), append-nil (g .listed))
-        in
-        record {
-          answer = sym (ap (λ (o : Outcome). o .answer) all);
-          used = sym (ap (λ (o : Outcome). o .used) all);
-          «packet_bytes» = rw all (sym (g .wrote-counted));
-          dropped = rw all (sym (g .listed-counted));
-          packets-left = rw all (g .packets-now);
-          positions-left = rw all (g .positions-now);
-        }
+  -- the code's answer here, and its outputs, are what the whole pass leaves
+  abbrev pub Ends : SalvageAnswer → Type 0
+  Ends a = Leaves (salvaged id (length packets₀) (length positions₀) bytes) packets₀ positions₀ (record { answer = a; used = used; «packet_bytes» = packet-bytes; dropped = dropped-bytes }) packets positions
 
-    pub ends-at-end : length bytes ≤ used
-        → Leaves (salvaged id (length packets₀) (length positions₀) bytes) packets₀ positions₀ (record { answer = Done; used = used; «packet_bytes» = packet-bytes; dropped = dropped-bytes }) packets positions
-    ends-at-end h = going-ends Done (ap (written used room places) (at-end id bytes used h) ∙ written-nothing used room places)
+  -- the end, where nothing more is written
+  pub going-ends : (a : SalvageAnswer) → written used room places (pieces id (drop used bytes)) ≡ ends a used
+      → Ends a
+  going-ends a e =
+      let all : salvaged id (length packets₀) (length positions₀) bytes ≡ record { answer = a; used = used; packets = g .wrote; positions = g .listed } =
+      g .whole ∙ ap (after (g .wrote) (g .listed)) e ∙ rw (append-nil (g .wrote), append-nil (g .listed))
+      in
+      record {
+        answer = sym (ap (λ (o : Outcome). o .answer) all);
+        used = sym (ap (λ (o : Outcome). o .used) all);
+        «packet_bytes» = rw all (sym (g .wrote-counted));
+        dropped = rw all (sym (g .listed-counted));
+        packets-left = rw all (g .packets-now);
+        positions-left = rw all (g .positions-now);
+      }
 
-    pub ends-before-tail : used < length bytes → starts (getD bytes used 0) ≡ true → length bytes < used + packetLength id
-        → Leaves (salvaged id (length packets₀) (length positions₀) bytes) packets₀ positions₀ (record { answer = Done; used = used; «packet_bytes» = packet-bytes; dropped = dropped-bytes }) packets positions
-    ends-before-tail h e s = going-ends Done (ap (written used room places) (at-short id bytes used h e s) ∙ written-nothing used room places)
+  pub ends-at-end : length bytes ≤ used
+      → Ends Done
+  ends-at-end h = going-ends Done (ap (written used room places) (at-end id bytes used h) ∙ written-nothing used room places)
 
-    pub ends-for-room : used < length bytes → starts (getD bytes used 0) ≡ true → used + packetLength id ≤ length bytes → length packets < packet-bytes + packetLength id
-        → Leaves (salvaged id (length packets₀) (length positions₀) bytes) packets₀ positions₀ (record { answer = NoRoom; used = used; «packet_bytes» = packet-bytes; dropped = dropped-bytes }) packets positions
-    ends-for-room h e t s =
-        let l = packets-length in
-        let long : length (take (packetLength id) (drop used bytes)) ≡ packetLength id =
-        length-take-le (packetLength id) (drop used bytes) (rw length-drop (omega arith))
-        in
-        going-ends NoRoom (ap (written used room places) (at-packet id bytes used h e t) ∙ no-room-for-packet used room places _ _ (omega (arith, g .wrote-within, g .wrote-counted)))
+  pub ends-before-tail : used < length bytes → starts (getD bytes used 0) ≡ true → length bytes < used + packetLength id
+      → Ends Done
+  ends-before-tail h e s = going-ends Done (ap (written used room places) (at-short id bytes used h e s) ∙ written-nothing used room places)
 
-    pub ends-for-place : used < length bytes → starts (getD bytes used 0) ≡ false → length positions ≤ dropped-bytes
-        → Leaves (salvaged id (length packets₀) (length positions₀) bytes) packets₀ positions₀ (record { answer = NoRoom; used = used; «packet_bytes» = packet-bytes; dropped = dropped-bytes }) packets positions
-    ends-for-place h e s =
-        let l = positions-length in
-        going-ends NoRoom (ap (written used room places) (at-dropped id bytes used h e) ∙ no-place-for-position used room places _ _ (omega arith))
+  pub ends-for-room : used < length bytes → starts (getD bytes used 0) ≡ true → used + packetLength id ≤ length bytes → length packets < packet-bytes + packetLength id
+      → Ends NoRoom
+  ends-for-room h e t s =
+      let l = packets-length in
+      let long : length (take (packetLength id) (drop used bytes)) ≡ packetLength id =
+      length-take-le (packetLength id) (drop used bytes) (rw length-drop (omega arith))
+      in
+      going-ends NoRoom (ap (written used room places) (at-packet id bytes used h e t) ∙ no-room-for-packet used room places _ _ (omega (arith, g .wrote-within, g .wrote-counted)))
+
+  pub ends-for-place : used < length bytes → starts (getD bytes used 0) ≡ false → length positions ≤ dropped-bytes
+      → Ends NoRoom
+  ends-for-place h e s =
+      let l = positions-length in
+      going-ends NoRoom (ap (written used room places) (at-dropped id bytes used h e) ∙ no-place-for-position used room places _ _ (omega arith))

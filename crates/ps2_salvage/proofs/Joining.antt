@@ -14,7 +14,7 @@ use Rattle.ps2_salvage.specs.Rules.{Rules}
 use Rattle.ps2_salvage.specs.Joined.{goneOn, joined}
 use Rattle.ps2_salvage.proofs.Split.{pieces-laid}
 use Rattle.ps2_salvage.proofs.Fitting.{droppedBytes, positions-length, written-fits, fitting, fitting-written, stopAnswer}
-use Rattle.ps2_salvage.proofs.Rules.{salvaged-rules}
+use Rattle.ps2_salvage.proofs.Rules.{rules}
 
 -- positions are counted from where the first piece stands
 positions-moved : (by at : ℕ) (parts : List Piece) → positionsFrom (by + at) parts ≡ map (λ p. by + p) (positionsFrom at parts)
@@ -61,12 +61,12 @@ module _ (id : MouseId) (room places : ℕ) (bytes : List ℕ) where
   -- a second pass with more bytes and with more room
   pub salvaged-joined : (more-room more-places : ℕ) (more : List ℕ) → room ≤ more-room → places ≤ more-places
       → salvaged id more-room more-places (bytes ++ more) ≡ joined first (goneOn id first more-room more-places bytes more)
-  salvaged-joined more-room more-places more h g = rules-joined more-room more-places more h g (salvaged-rules id room places bytes)
+  salvaged-joined more-room more-places more h g = rules-joined more-room more-places more h g (rules id room places bytes)
 
   -- after 30 a caller goes on where the pass stopped, with more room
   pub resumed : (more-room more-places : ℕ) → room ≤ more-room → places ≤ more-places → salvaged id more-room more-places bytes ≡ joined first (goneOn id first more-room more-places bytes [])
   resumed more-room more-places h g = ap (salvaged id more-room more-places) (sym (append-nil bytes)) ∙ salvaged-joined more-room more-places [] h g
 
   -- a recording in two parts, the second from where the first stopped for lack of a whole packet
-  pub in-two-parts : (more : List ℕ) → salvaged id room places (bytes ++ more) ≡ joined first (goneOn id first room places bytes more)
-  in-two-parts more = salvaged-joined room places more (omega arith) (omega arith)
+  pub joining : (more : List ℕ) → salvaged id room places (bytes ++ more) ≡ joined first (goneOn id first room places bytes more)
+  joining more = salvaged-joined room places more (omega arith) (omega arith)

@@ -7,6 +7,8 @@ pub mod Going
 pub mod Split
 pub mod Fitting
 pub mod Rules
+pub mod Unique
 pub mod Together
 pub mod Joining
 pub mod Limits
+pub mod Worked

@@ -15,7 +15,7 @@ use Rattle.ps2_salvage.specs.Salvage.{Outcome, salvaged}
 use Rattle.ps2_salvage.specs.Rules.{InStep, Rules}
 use Rattle.ps2_salvage.specs.Together.{Dropped, droppedFrom, laidOut, Together}
 use Rattle.ps2_salvage.proofs.Fitting.{droppedBytes, positions-length}
-use Rattle.ps2_salvage.proofs.Rules.{salvaged-rules}
+use Rattle.ps2_salvage.proofs.Rules.{rules}
 
 -- ---- laid out again
 
@@ -162,4 +162,4 @@ rules-together {id} {room} {places} {bytes} {o} r =
 
 -- the request's promise, of every pass
 pub together : (id : MouseId) (room places : ℕ) (bytes : List ℕ) → Together id bytes (salvaged id room places bytes)
-together id room places bytes = rules-together (salvaged-rules id room places bytes)
+together id room places bytes = rules-together (rules id room places bytes)

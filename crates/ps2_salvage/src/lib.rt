@@ -1,9 +1,10 @@
 // Recorded mouse bytes, brought back into step: packets are written as bytes, and the positions of the bytes between them are listed.
 ghost use mathlib.Core.Path.{_≡_};
-ghost use Prim.Native.Nat.{_+_, _≤_};
-ghost use lib.ListN.{length, drop};
+ghost use Prim.Native.Nat.{_+_, _≤_, _<_};
+ghost use lib.ListN.{length, drop, getD};
 ghost use lib.Seq.{paste};
 ghost use Rattle.ps2_packet.specs.Packet.{packetLength};
+ghost use Rattle.ps2_salvage.specs.Pieces.{starts};
 ghost use Rattle.ps2_salvage.specs.Salvage.{answerNumber, salvaged, Leaves};
 use bits::has;
 use ps2_bytes::MouseId;
@@ -46,6 +47,14 @@ fn packet_length(id: MouseId) -> usize
         MouseId::Three => 4,
         MouseId::Four => 4,
     }
+}
+
+// Whether a packet can start with the byte at a place.
+fn starts_packet(bytes: &[u8], at: usize) -> bool
+    requires { ⌜ at < length (now bytes) ⌝ }
+    ensures { λ r. ⌜ r ≡ starts (getD (now (bytes .entry)) at 0) ⌝ }
+{
+    has(bytes[at], ALWAYS_ONE)
 }
 
 // Copies three bytes. All are read before one is written, so that they are moved together.
@@ -97,7 +106,7 @@ fn pass(id: MouseId, bytes: &[u8], packets: &mut [u8], positions: &mut [u64]) ->
     let mut packet_bytes: usize = 0;
     let mut dropped: usize = 0;
     while used < bytes.len() {
-        if has(bytes[used], ALWAYS_ONE) {
+        if starts_packet(bytes, used) {
             let end = used + packet;
             if bytes.len() < end {
                 return Salvaged {
@@ -120,6 +129,7 @@ fn pass(id: MouseId, bytes: &[u8], packets: &mut [u8], positions: &mut [u64]) ->
             used = end;
             packet_bytes = full;
         } else {
+            let next = used + 1;
             if positions.len() <= dropped {
                 return Salvaged {
                     answer: SalvageAnswer::NoRoom,
@@ -130,7 +140,7 @@ fn pass(id: MouseId, bytes: &[u8], packets: &mut [u8], positions: &mut [u64]) ->
             }
             positions[dropped] = used as u64;
             dropped += 1;
-            used += 1;
+            used = next;
         }
     }
     Salvaged {

@@ -1,56 +1,11 @@
+-- `ps2_salvage::copy_four` meets its contract: four bytes, read and then written, are a copy.
+-- Assumes nothing.
 use lib.ListN.{length-set}
 use native.Mathlib.Omega.{arith}
 use Rattle.ps2_salvage.proofs.Copy.{four-paste}
 use borrow.Author.Needs.{needs}
 use Rattle.ps2_salvage.proofs.copy_four.Statement.{statement}
 use Rattle.ps2_salvage.proofs.copy_four.Tie as tie
-use Rattle.ps2_salvage.proofs.copy_four.Reads as reads
-use Rattle.ps2_salvage.proofs.copy_four.Lts as lts
-
-shared-slice-read-first : tie.Need-shared-slice-read-first
-shared-slice-read-first c = search needs
-
-add-second : tie.Need-add-second
-add-second c = search needs
-
-shared-slice-read-second : tie.Need-shared-slice-read-second
-shared-slice-read-second c = search needs
-
-add-third : tie.Need-add-third
-add-third c = search needs
-
-shared-slice-read-third : tie.Need-shared-slice-read-third
-shared-slice-read-third c = search needs
-
-add-fourth : tie.Need-add-fourth
-add-fourth c = search needs
-
-shared-slice-read-fourth : tie.Need-shared-slice-read-fourth
-shared-slice-read-fourth c = search needs
-
-slice-write-packets : tie.Need-slice-write-packets
-slice-write-packets c = search needs
-
-add-packets : tie.Need-add-packets
-add-packets c = search needs
-
-slice-write-packets-2 : tie.Need-slice-write-packets-2
-slice-write-packets-2 c = simp length-set (omega arith)
-
-add-packets-2 : tie.Need-add-packets-2
-add-packets-2 c = search needs
-
-slice-write-packets-3 : tie.Need-slice-write-packets-3
-slice-write-packets-3 c = simp length-set (omega arith)
-
-add-packets-3 : tie.Need-add-packets-3
-add-packets-3 c = search needs
-
-slice-write-packets-4 : tie.Need-slice-write-packets-4
-slice-write-packets-4 c = simp length-set (omega arith)
-
-same-length : tie.Need-same-length
-same-length c = search needs
 
 returns : tie.Need-returns
 returns c = four-paste _ _ _ _ (c .before .before .before .before .pre .0) (c .before .before .before .before .pre .1)
@@ -59,19 +14,19 @@ pub copy-four-spec : {M : Type 1} → statement M
 copy-four-spec =
     tie.close
     (tie.spec
-    shared-slice-read-first
-    add-second
-    shared-slice-read-second
-    add-third
-    shared-slice-read-third
-    add-fourth
-    shared-slice-read-fourth
-    slice-write-packets
-    add-packets
-    slice-write-packets-2
-    add-packets-2
-    slice-write-packets-3
-    add-packets-3
-    slice-write-packets-4
-    same-length
+    (λ c. search needs)
+    (λ c. search needs)
+    (λ c. search needs)
+    (λ c. search needs)
+    (λ c. search needs)
+    (λ c. search needs)
+    (λ c. search needs)
+    (λ c. search needs)
+    (λ c. search needs)
+    (λ c. simp length-set (omega arith))
+    (λ c. search needs)
+    (λ c. simp length-set (omega arith))
+    (λ c. search needs)
+    (λ c. simp length-set (omega arith))
+    (λ c. search needs)
     returns)

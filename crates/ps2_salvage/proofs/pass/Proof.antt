@@ -9,9 +9,6 @@ use Rattle.ps2_salvage.proofs.Pieces.{packet-bound}
 use Rattle.ps2_salvage.proofs.Going.{Going, going-begins, packets-length, positions-length, going-drops, going-takes, ends-at-end, ends-before-tail, ends-for-room, ends-for-place}
 use Rattle.ps2_salvage.proofs.pass.Statement.{statement}
 use Rattle.ps2_salvage.proofs.pass.Tie as tie
-use Rattle.ps2_salvage.proofs.pass.Reads as reads
-use Rattle.ps2_salvage.proofs.pass.Lts as lts
-use Rattle.ps2_salvage.proofs.copy_packet.Reads as copy-packet-reads
 
 abbrev Inv-loop : tie.InvT-loop
 Inv-loop id bytes packets₀ positions₀ packet used₀ packet-bytes₀ dropped₀ packets positions used packet-bytes dropped =
@@ -20,89 +17,84 @@ Inv-loop id bytes packets₀ positions₀ packet used₀ packet-bytes₀ dropped
 abbrev μ-loop : tie.MeasureT-loop
 μ-loop id bytes packets₀ positions₀ packet used₀ packet-bytes₀ dropped₀ packets positions used packet-bytes dropped = length bytes - used
 
-packet-length-requires : tie.Need-packet-length-requires Inv-loop μ-loop
-packet-length-requires c κs = search needs
-
-loop-holds : tie.Need-loop-holds Inv-loop μ-loop
-loop-holds c = going-begins _ _ _ _
-
-shared-slice-read-has : tie.Need-shared-slice-read-has Inv-loop μ-loop
-shared-slice-read-has c = search needs
-
-has-requires : tie.Need-has-requires Inv-loop μ-loop
-has-requires c κs = search needs
-
+-- a packet's end is a number: it has 4 bytes at most
 add-end : tie.Need-add-end Inv-loop μ-loop
-add-end c = omega (arith, packet-bound (c .before .before .before .before .before .before .before .before .before .args .id), c .before .before .before .before .before .packet-length .ensures)
-
-same-length : tie.Need-same-length Inv-loop μ-loop
-same-length c = packets-length _ _ _ _ _ _ _ _ _ (c .before .before .before .before .before .loop .inv)
-
-same-length-2 : tie.Need-same-length-2 Inv-loop μ-loop
-same-length-2 c = positions-length _ _ _ _ _ _ _ _ _ (c .before .before .before .before .before .loop .inv)
-
-returns : tie.Need-returns Inv-loop μ-loop
-returns c = ends-before-tail _ _ _ _ _ _ _ _ _ (c .before .before .before .before .before .loop .inv) (c .before .before .before .before .loop-test .taken) (sym (c .before .before .has .ensures) ∙ c .before .if1 .taken) (rw (← c .before .before .before .before .before .before .packet-length .ensures) (c .if2 .taken))
+add-end c =
+    let l = c .before .before .before in
+    omega (arith, packet-bound (l .before .before .before .before .before .args .id), l .before .packet-length .ensures)
 
 add-full : tie.Need-add-full Inv-loop μ-loop
-add-full c = omega (arith, packet-bound (c .before .before .before .before .before .before .before .before .before .before .args .id), c .before .before .before .before .before .before .packet-length .ensures, packets-length _ _ _ _ _ _ _ _ _ (c .before .before .before .before .before .loop .inv))
-
-same-length-3 : tie.Need-same-length-3 Inv-loop μ-loop
-same-length-3 c = packets-length _ _ _ _ _ _ _ _ _ (c .before .before .before .before .before .before .loop .inv)
-
-same-length-4 : tie.Need-same-length-4 Inv-loop μ-loop
-same-length-4 c = positions-length _ _ _ _ _ _ _ _ _ (c .before .before .before .before .before .before .loop .inv)
-
-returns-2 : tie.Need-returns-2 Inv-loop μ-loop
-returns-2 c = ends-for-room _ _ _ _ _ _ _ _ _ (c .before .before .before .before .before .before .loop .inv) (c .before .before .before .before .before .loop-test .taken) (sym (c .before .before .before .has .ensures) ∙ c .before .before .if1 .taken) (rw (← c .before .before .before .before .before .before .before .packet-length .ensures) (c .before .if2 .left)) (rw (← c .before .before .before .before .before .before .before .packet-length .ensures) (c .if3 .taken))
+add-full c =
+    let l = c .before .before .before .before in
+    omega (arith, packet-bound (l .before .before .before .before .before .args .id), l .before .packet-length .ensures, packets-length (l .loop .inv))
 
 copy-packet-requires : tie.Need-copy-packet-requires Inv-loop μ-loop
-copy-packet-requires c κs = rw (← c .before .before .before .before .before .before .before .before .packet-length .ensures) (c .before .before .if2 .left, c .before .if3 .left)
+copy-packet-requires c κs =
+    let l = c .before .before .before .before .before .before in
+    rw (← l .before .packet-length .ensures) (c .before .before .if2 .left, c .before .if3 .left)
 
+-- a packet, or a byte that is dropped
 loop-less : tie.Need-loop-less Inv-loop μ-loop
-loop-less c = omega (arith, packet-bound (c .before .before .before .before .before .before .before .before .before .before .before .before .before .before .before .args .id), c .before .before .before .before .before .before .before .before .before .before .before .packet-length .ensures)
+loop-less c =
+    let l = c .before .before .before .before .before .before .before .before .before in
+    omega (arith, packet-bound (l .before .before .before .before .before .args .id), l .before .packet-length .ensures)
 
 loop-again : tie.Need-loop-again Inv-loop μ-loop
 loop-again c =
-    let packet = c .before .before .before .before .before .before .before .before .before .before .before .packet-length .ensures in
+    let test = c .before .before .before .before .before .before in
+    let l = test .before .before .before in
+    let packet = l .before .packet-length .ensures in
     rw (c .before .before .copy-packet .ensures, packet)
-    (going-takes _ _ _ _ _ _ _ _ _ (c .before .before .before .before .before .before .before .before .before .before .loop .inv) (rw (← packet) (c .before .before .before .before .before .if2 .left)) (c .before .before .before .before .before .before .before .before .before .loop-test .taken) (sym (c .before .before .before .before .before .before .before .has .ensures) ∙ c .before .before .before .before .before .before .if1 .taken) (rw (← packet) (c .before .before .before .before .if3 .left)))
-
-same-length-5 : tie.Need-same-length-5 Inv-loop μ-loop
-same-length-5 c = packets-length _ _ _ _ _ _ _ _ _ (c .before .before .before .before .before .loop .inv)
-
-same-length-6 : tie.Need-same-length-6 Inv-loop μ-loop
-same-length-6 c = positions-length _ _ _ _ _ _ _ _ _ (c .before .before .before .before .before .loop .inv)
-
-returns-3 : tie.Need-returns-3 Inv-loop μ-loop
-returns-3 c = ends-for-place _ _ _ _ _ _ _ _ _ (c .before .before .before .before .before .loop .inv) (c .before .before .before .before .loop-test .taken) (sym (c .before .before .has .ensures) ∙ c .before .if1 .left) (c .if4 .taken)
-
-mul-positions : tie.Need-mul-positions Inv-loop μ-loop
-mul-positions c = search needs
-
-slice-write-positions : tie.Need-slice-write-positions Inv-loop μ-loop
-slice-write-positions c = search needs
-
-add-dropped : tie.Need-add-dropped Inv-loop μ-loop
-add-dropped c = search needs
-
-add-used : tie.Need-add-used Inv-loop μ-loop
-add-used c = search needs
-
-loop-less-2 : tie.Need-loop-less-2 Inv-loop μ-loop
-loop-less-2 c = search needs
+    (going-takes
+    (l .loop .inv)
+    (rw (← packet) (c .before .before .before .before .before .if2 .left))
+    (test .before .before .loop-test .taken)
+    (sym (test .before .starts-packet .ensures) ∙ test .if1 .taken)
+    (rw (← packet) (c .before .before .before .before .if3 .left)))
 
 loop-again-2 : tie.Need-loop-again-2 Inv-loop μ-loop
-loop-again-2 c = going-drops _ _ _ _ _ _ _ _ _ (c .before .before .before .before .before .loop .inv) (c .before .before .before .before .loop-test .taken) (sym (c .before .before .has .ensures) ∙ c .before .if1 .left) (c .if4 .left)
+loop-again-2 c =
+    let test = c .before in
+    going-drops
+    (test .before .before .before .loop .inv)
+    (test .before .before .loop-test .taken)
+    (sym (test .before .starts-packet .ensures) ∙ test .if1 .left)
+    (c .if4 .left)
 
-same-length-7 : tie.Need-same-length-7 Inv-loop μ-loop
-same-length-7 c = packets-length _ _ _ _ _ _ _ _ _ (c .before .loop .inv)
+-- the ends: before a short tail, for want of room, for want of a place, at the end
+returns : tie.Need-returns Inv-loop μ-loop
+returns c =
+    let test = c .before in
+    let l = test .before .before .before in
+    ends-before-tail
+    (l .loop .inv)
+    (test .before .before .loop-test .taken)
+    (sym (test .before .starts-packet .ensures) ∙ test .if1 .taken)
+    (rw (← l .before .packet-length .ensures) (c .if2 .taken))
 
-same-length-8 : tie.Need-same-length-8 Inv-loop μ-loop
-same-length-8 c = positions-length _ _ _ _ _ _ _ _ _ (c .before .loop .inv)
+returns-2 : tie.Need-returns-2 Inv-loop μ-loop
+returns-2 c =
+    let test = c .before .before in
+    let l = test .before .before .before in
+    let packet = l .before .packet-length .ensures in
+    ends-for-room
+    (l .loop .inv)
+    (test .before .before .loop-test .taken)
+    (sym (test .before .starts-packet .ensures) ∙ test .if1 .taken)
+    (rw (← packet) (c .before .if2 .left))
+    (rw (← packet) (c .if3 .taken))
+
+returns-3 : tie.Need-returns-3 Inv-loop μ-loop
+returns-3 c =
+    let test = c .before in
+    ends-for-place
+    (test .before .before .before .loop .inv)
+    (test .before .before .loop-test .taken)
+    (sym (test .before .starts-packet .ensures) ∙ test .if1 .left)
+    (c .if4 .taken)
 
 returns-4 : tie.Need-returns-4 Inv-loop μ-loop
-returns-4 c = ends-at-end _ _ _ _ _ _ _ _ _ (c .before .loop .inv) (c .loop-test .left)
+returns-4 c = ends-at-end (c .before .loop .inv) (c .loop-test .left)
 
 pub pass-spec : {M : Type 1} → statement M
 pass-spec =
@@ -110,30 +102,29 @@ pass-spec =
     (tie.spec
     Inv-loop
     μ-loop
-    packet-length-requires
-    loop-holds
-    shared-slice-read-has
-    has-requires
+    (λ c κs. search needs)
+    (λ c. going-begins _ _ _ _)
+    (λ c κs. search needs)
     add-end
-    same-length
-    same-length-2
+    (λ c. packets-length (c .before .before .before .before .loop .inv))
+    (λ c. positions-length (c .before .before .before .before .loop .inv))
     returns
     add-full
-    same-length-3
-    same-length-4
+    (λ c. packets-length (c .before .before .before .before .before .loop .inv))
+    (λ c. positions-length (c .before .before .before .before .before .loop .inv))
     returns-2
     copy-packet-requires
     loop-less
     loop-again
-    same-length-5
-    same-length-6
+    (λ c. search needs)
+    (λ c. packets-length (c .before .before .before .before .loop .inv))
+    (λ c. positions-length (c .before .before .before .before .loop .inv))
     returns-3
-    mul-positions
-    slice-write-positions
-    add-dropped
-    add-used
-    loop-less-2
+    (λ c. search needs)
+    (λ c. search needs)
+    (λ c. search needs)
+    (λ c. search needs)
     loop-again-2
-    same-length-7
-    same-length-8
+    (λ c. packets-length (c .before .loop .inv))
+    (λ c. positions-length (c .before .loop .inv))
     returns-4)

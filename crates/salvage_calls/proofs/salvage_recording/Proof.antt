@@ -17,7 +17,7 @@ returns c =
       «packet_bytes» = pass .«packet_bytes»;
       dropped = pass .dropped;
       packets-left = pass .packets-left;
-      positions-left = pass .positions-left
+      positions-left = pass .positions-left;
     })
 
 returns-2 : tie.Need-returns-2
