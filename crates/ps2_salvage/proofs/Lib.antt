@@ -8,6 +8,7 @@ pub mod Split
 pub mod Fitting
 pub mod Rules
 pub mod Unique
+pub mod FoundAgain
 pub mod Together
 pub mod Joining
 pub mod Limits
