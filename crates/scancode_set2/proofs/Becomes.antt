@@ -1,0 +1,98 @@
+-- The byte that a code becomes: it is never 00, and every code but F0 at the end becomes one or is refused with 22.
+-- Assumes nothing.
+use mathlib.Core.Path.{_≡_, refl, sym, ap, _∙_}
+use mathlib.Core.Bool.{Bool, true, false, cond, _||_}
+use mathlib.Core.Option.{Option, none, some}
+use Prim.Native.Nat.{ℕ, _+_, _<_}
+use native.Mathlib.Omega.{arith}
+use lib.Dec.{eqb}
+use borrow.Author.Tests.{eqb-true}
+use Rattle.bits.specs.Bits.{putBit}
+use Rattle.bits.proofs.Every.{agree}
+use Rattle.exchange.specs.Answer.{Answer, gives, refuses}
+use Rattle.scancode_set2.specs.Table.{entryOf, orNone}
+use Rattle.scancode_set2.specs.Codes.{isPrefix, Code, alone, afterF0}
+use Rattle.scancode_set2.specs.Convert.{withTopBit, byEntry, becomes, orNoByte}
+use Rattle.scancode_set2.proofs.Table.{entry-press}
+
+-- the top bit, of a byte without it
+pub top-bit : (b : ℕ) → b < 0x80 → withTopBit b ≡ b + 0x80
+unfolding putBit
+top-bit b h = agree withTopBit (λ (x : ℕ). x + 0x80) 0x80 tt b h
+
+-- ---- a code by itself
+
+pub alone-prefix : (c : ℕ) → isPrefix c ≡ true → becomes (alone c) ≡ gives c
+unfolding becomes
+alone-prefix c e = rw e
+
+pub alone-entry : (c : ℕ) → isPrefix c ≡ false → becomes (alone c) ≡ byEntry (λ e. e) (entryOf c)
+unfolding becomes
+alone-entry c e = rw e
+
+-- ---- the ways of a code
+
+-- a code becomes a byte that is not 00, or has no entry
+pub data Way (c : Code) : Type 0 where
+  a-byte : (b : ℕ) → 0 < b → becomes c ≡ gives b → Way c
+  no-entry : becomes c ≡ refuses 22 → Way c
+
+prefix-positive : (c : ℕ) → isPrefix c ≡ true → 0 < c
+prefix-positive c h = by (eqb c 0xE0) refl
+  where
+    by : (t : Bool) → eqb c 0xE0 ≡ t → 0 < c
+    by true e = omega (arith, eqb-true c 0xE0 e)
+    by false e = omega (arith, eqb-true c 0xE1 (rw e at h))
+
+pub alone-way : (c : ℕ) → Way (alone c)
+alone-way c = by (isPrefix c) refl
+  where
+    entered : (x : Option ℕ) → entryOf c ≡ x → isPrefix c ≡ false → Way (alone c)
+    entered none e p = no-entry (alone-entry c p ∙ ap (byEntry (λ e. e)) e)
+    entered (some b) e p = a-byte b (entry-press c e .0) (alone-entry c p ∙ ap (byEntry (λ e. e)) e)
+
+    by : (t : Bool) → isPrefix c ≡ t → Way (alone c)
+    by true p = a-byte c (prefix-positive c p) (alone-prefix c p)
+    by false p = entered (entryOf c) refl p
+
+pub after-way : (c : ℕ) → Way (afterF0 c)
+unfolding becomes
+after-way c = by (entryOf c) refl
+  where
+    by : (x : Option ℕ) → entryOf c ≡ x → Way (afterF0 c)
+    by none e = no-entry (ap (byEntry withTopBit) e)
+    by (some b) e = a-byte (withTopBit b) (omega (arith, top-bit b (entry-press c e .1))) (ap (byEntry withTopBit) e)
+
+-- ---- the byte as a number
+
+pub zero-refused : (c : Code) → Way c → orNoByte (becomes c) ≡ 0 → becomes c ≡ refuses 22
+zero-refused c (no-entry q) z = q
+zero-refused c (a-byte b h q) z = absurd (omega (arith, sym z ∙ ap orNoByte q))
+
+pub byte-given : (c : Code) → Way c → (orNoByte (becomes c) ≡ 0 → ⊥) → becomes c ≡ gives (orNoByte (becomes c))
+byte-given c (no-entry q) n = absurd (n (ap orNoByte q))
+byte-given c (a-byte b h q) n = q ∙ ap gives (sym (ap orNoByte q))
+
+-- a code's byte by its entry
+pub pressed-entry : (c : ℕ) → isPrefix c ≡ false → orNoByte (becomes (alone c)) ≡ orNone (entryOf c)
+pressed-entry c p = ap orNoByte (alone-entry c p) ∙ by (entryOf c)
+  where
+    by : (x : Option ℕ) → orNoByte (byEntry (λ e. e) x) ≡ orNone x
+    by none = refl
+    by (some e) = refl
+
+pub released-none : (c : ℕ) → orNone (entryOf c) ≡ 0 → orNoByte (becomes (afterF0 c)) ≡ 0
+unfolding becomes
+released-none c z = by (entryOf c) refl
+  where
+    by : (x : Option ℕ) → entryOf c ≡ x → orNoByte (byEntry withTopBit (entryOf c)) ≡ 0
+    by none e = rw e
+    by (some b) e = absurd (omega (arith, entry-press c e .0, sym z ∙ ap orNone e))
+
+pub released-some : (c : ℕ) → (orNone (entryOf c) ≡ 0 → ⊥) → orNoByte (becomes (afterF0 c)) ≡ withTopBit (orNone (entryOf c))
+unfolding becomes
+released-some c n = by (entryOf c) refl
+  where
+    by : (x : Option ℕ) → entryOf c ≡ x → orNoByte (byEntry withTopBit (entryOf c)) ≡ withTopBit (orNone (entryOf c))
+    by none e = absurd (n (ap orNone e))
+    by (some b) e = rw e

@@ -1,0 +1,5 @@
+-- Laws of set 2 and of its conversion.
+pub mod Table
+pub mod Becomes
+pub mod Codes
+pub mod Progress
