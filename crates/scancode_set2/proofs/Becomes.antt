@@ -20,7 +20,7 @@ pub top-bit : (b : ℕ) → b < 0x80 → withTopBit b ≡ b + 0x80
 unfolding putBit
 top-bit b h = agree withTopBit (λ (x : ℕ). x + 0x80) 0x80 tt b h
 
--- ---- a code by itself
+-- ---- a code by itself, and one after F0
 
 pub alone-prefix : (c : ℕ) → isPrefix c ≡ true → becomes (alone c) ≡ gives c
 unfolding becomes
@@ -30,12 +30,40 @@ pub alone-entry : (c : ℕ) → isPrefix c ≡ false → becomes (alone c) ≡ b
 unfolding becomes
 alone-entry c e = rw e
 
+pub after-entry : (c : ℕ) → becomes (afterF0 c) ≡ byEntry withTopBit (entryOf c)
+unfolding becomes
+after-entry c = refl
+
+pub data Alone (c : ℕ) : Type 0 where
+  is-prefix : isPrefix c ≡ true → becomes (alone c) ≡ gives c → Alone c
+  is-press : {e : ℕ} → entryOf c ≡ some e → becomes (alone c) ≡ gives e → Alone c
+  is-no-press : isPrefix c ≡ false → entryOf c ≡ none → becomes (alone c) ≡ refuses 22 → Alone c
+
+pub alone-is : (c : ℕ) → Alone c
+alone-is c = by (isPrefix c) refl (entryOf c) refl
+  where
+    by : (t : Bool) → isPrefix c ≡ t → (x : Option ℕ) → entryOf c ≡ x → Alone c
+    by true p x e = is-prefix p (alone-prefix c p)
+    by false p none e = is-no-press p e (alone-entry c p ∙ ap (byEntry (λ e. e)) e)
+    by false p (some b) e = is-press e (alone-entry c p ∙ ap (byEntry (λ e. e)) e)
+
+pub data After (c : ℕ) : Type 0 where
+  is-release : {e : ℕ} → entryOf c ≡ some e → becomes (afterF0 c) ≡ gives (withTopBit e) → After c
+  is-no-release : entryOf c ≡ none → becomes (afterF0 c) ≡ refuses 22 → After c
+
+pub after-is : (c : ℕ) → After c
+after-is c = by (entryOf c) refl
+  where
+    by : (x : Option ℕ) → entryOf c ≡ x → After c
+    by none e = is-no-release e (after-entry c ∙ ap (byEntry withTopBit) e)
+    by (some b) e = is-release e (after-entry c ∙ ap (byEntry withTopBit) e)
+
 -- ---- the ways of a code
 
 -- a code becomes a byte that is not 00, or has no entry
 pub data Way (c : Code) : Type 0 where
   a-byte : (b : ℕ) → 0 < b → becomes c ≡ gives b → Way c
-  no-entry : becomes c ≡ refuses 22 → Way c
+  no-byte : becomes c ≡ refuses 22 → Way c
 
 prefix-positive : (c : ℕ) → isPrefix c ≡ true → 0 < c
 prefix-positive c h = by (eqb c 0xE0) refl
@@ -45,32 +73,28 @@ prefix-positive c h = by (eqb c 0xE0) refl
     by false e = omega (arith, eqb-true c 0xE1 (rw e at h))
 
 pub alone-way : (c : ℕ) → Way (alone c)
-alone-way c = by (isPrefix c) refl
+alone-way c = by (alone-is c)
   where
-    entered : (x : Option ℕ) → entryOf c ≡ x → isPrefix c ≡ false → Way (alone c)
-    entered none e p = no-entry (alone-entry c p ∙ ap (byEntry (λ e. e)) e)
-    entered (some b) e p = a-byte b (entry-press c e .0) (alone-entry c p ∙ ap (byEntry (λ e. e)) e)
-
-    by : (t : Bool) → isPrefix c ≡ t → Way (alone c)
-    by true p = a-byte c (prefix-positive c p) (alone-prefix c p)
-    by false p = entered (entryOf c) refl p
+    by : Alone c → Way (alone c)
+    by (is-prefix p q) = a-byte c (prefix-positive c p) q
+    by (is-press e q) = a-byte _ (entry-press c e .0) q
+    by (is-no-press p e q) = no-byte q
 
 pub after-way : (c : ℕ) → Way (afterF0 c)
-unfolding becomes
-after-way c = by (entryOf c) refl
+after-way c = by (after-is c)
   where
-    by : (x : Option ℕ) → entryOf c ≡ x → Way (afterF0 c)
-    by none e = no-entry (ap (byEntry withTopBit) e)
-    by (some b) e = a-byte (withTopBit b) (omega (arith, top-bit b (entry-press c e .1))) (ap (byEntry withTopBit) e)
+    by : After c → Way (afterF0 c)
+    by (is-release {e = b} e q) = a-byte (withTopBit b) (omega (arith, top-bit b (entry-press c e .1))) q
+    by (is-no-release e q) = no-byte q
 
 -- ---- the byte as a number
 
 pub zero-refused : (c : Code) → Way c → orNoByte (becomes c) ≡ 0 → becomes c ≡ refuses 22
-zero-refused c (no-entry q) z = q
+zero-refused c (no-byte q) z = q
 zero-refused c (a-byte b h q) z = absurd (omega (arith, sym z ∙ ap orNoByte q))
 
 pub byte-given : (c : Code) → Way c → (orNoByte (becomes c) ≡ 0 → ⊥) → becomes c ≡ gives (orNoByte (becomes c))
-byte-given c (no-entry q) n = absurd (n (ap orNoByte q))
+byte-given c (no-byte q) n = absurd (n (ap orNoByte q))
 byte-given c (a-byte b h q) n = q ∙ ap gives (sym (ap orNoByte q))
 
 -- a code's byte by its entry
@@ -82,17 +106,15 @@ pressed-entry c p = ap orNoByte (alone-entry c p) ∙ by (entryOf c)
     by (some e) = refl
 
 pub released-none : (c : ℕ) → orNone (entryOf c) ≡ 0 → orNoByte (becomes (afterF0 c)) ≡ 0
-unfolding becomes
-released-none c z = by (entryOf c) refl
+released-none c z = by (after-is c)
   where
-    by : (x : Option ℕ) → entryOf c ≡ x → orNoByte (byEntry withTopBit (entryOf c)) ≡ 0
-    by none e = rw e
-    by (some b) e = absurd (omega (arith, entry-press c e .0, sym z ∙ ap orNone e))
+    by : After c → orNoByte (becomes (afterF0 c)) ≡ 0
+    by (is-release e q) = absurd (omega (arith, entry-press c e .0, sym z ∙ ap orNone e))
+    by (is-no-release e q) = ap orNoByte q
 
 pub released-some : (c : ℕ) → (orNone (entryOf c) ≡ 0 → ⊥) → orNoByte (becomes (afterF0 c)) ≡ withTopBit (orNone (entryOf c))
-unfolding becomes
-released-some c n = by (entryOf c) refl
+released-some c n = by (after-is c)
   where
-    by : (x : Option ℕ) → entryOf c ≡ x → orNoByte (byEntry withTopBit (entryOf c)) ≡ withTopBit (orNone (entryOf c))
-    by none e = absurd (n (ap orNone e))
-    by (some b) e = rw e
+    by : After c → orNoByte (becomes (afterF0 c)) ≡ withTopBit (orNone (entryOf c))
+    by (is-release e q) = ap orNoByte q ∙ ap withTopBit (sym (ap orNone e))
+    by (is-no-release e q) = absurd (n (ap orNone e))

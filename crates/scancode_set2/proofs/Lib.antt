@@ -3,3 +3,6 @@ pub mod Table
 pub mod Becomes
 pub mod Codes
 pub mod Progress
+pub mod Goes
+pub mod Laws
+pub mod Worked

@@ -12,14 +12,11 @@ use Rattle.exchange.specs.Answer.{Answer, gives, refuses}
 use Rattle.ps2_answers.specs.Refusals.{Success, success}
 use Rattle.scancode_set2.specs.Codes.{breakByte, Code, alone, afterF0, endsAfterF0, codes, width}
 use Rattle.scancode_set2.specs.Convert.{becomes, orNoByte, Converted, ends, writes, convertCode, convertCodes, convertStream, Outcome, outcome, leaves, converted}
+use Rattle.scancode_set2.specs.Stops.{behind}
 use Rattle.scancode_set2.proofs.Codes.{alone-at, after-at}
 use Rattle.scancode_set2.proofs.Becomes.{Way, alone-way, after-way, zero-refused, byte-given}
 
 -- ---- one conversion behind another
-
--- what was used and written, before what a conversion comes to
-abbrev pub behind : ℕ → List ℕ → Converted → Converted
-behind used bytes c = record { end = c .end; used = used + c .used; bytes = bytes ++ c .bytes }
 
 pub behind-none : (c : Converted) → behind 0 [] c ≡ c
 behind-none c = rw (zero-add (c .used))

@@ -3,3 +3,4 @@ pub mod Table
 pub mod Set2
 pub mod Codes
 pub mod Convert
+pub mod Stops
