@@ -11,7 +11,7 @@ use Rattle.bits.specs.Bits.{putBit}
 use Rattle.bits.proofs.Every.{agree}
 use Rattle.exchange.specs.Answer.{Answer, gives, refuses}
 use Rattle.scancode_set2.specs.Table.{entryOf, orNone}
-use Rattle.scancode_set2.specs.Codes.{isPrefix, Code, alone, afterF0}
+use Rattle.scancode_set2.specs.Codes.{isPrefix, Code, alone, afterF0, endsAfterF0}
 use Rattle.scancode_set2.specs.Convert.{withTopBit, byEntry, becomes, orNoByte}
 use Rattle.scancode_set2.proofs.Table.{entry-press}
 
@@ -33,6 +33,10 @@ alone-entry c e = rw e
 pub after-entry : (c : ℕ) → becomes (afterF0 c) ≡ byEntry withTopBit (entryOf c)
 unfolding becomes
 after-entry c = refl
+
+pub cut-refused : becomes endsAfterF0 ≡ refuses 24
+unfolding becomes
+cut-refused = refl
 
 pub data Alone (c : ℕ) : Type 0 where
   is-prefix : isPrefix c ≡ true → becomes (alone c) ≡ gives c → Alone c

@@ -7,15 +7,17 @@ use mathlib.Core.Option.{none, some}
 use Prim.Native.Nat.{ℕ, suc, _+_, _-_, _≤_}
 use native.Mathlib.Nat.{zero-add, add-assoc, suc-add, sub-zero}
 use native.Mathlib.Omega.{arith}
-use lib.ListN.{length, take, drop}
+use lib.ListN.{length, take, drop, length-drop}
+use lib.Seq.{take-all}
 use borrow.Author.Tests.{eqb-true, ne-eqb}
 use Rattle.exchange.specs.Answer.{Answer, gives, refuses}
 use Rattle.ps2_answers.specs.Refusals.{Success, success}
 use Rattle.scancode_set2.specs.Table.{entryOf}
-use Rattle.scancode_set2.specs.Codes.{breakByte, isBreak, isPrefix, Code, alone, afterF0, width}
+use Rattle.scancode_set2.specs.Codes.{breakByte, isBreak, isPrefix, Code, alone, afterF0, codes, width}
 use Rattle.scancode_set2.specs.Convert.{withTopBit, byEntry, Converted, ends, writes, convertStream}
-use Rattle.scancode_set2.specs.Stops.{Convertible, a-prefix, a-press, a-release, Stop, used-up, no-entry, no-entry-after, full, ends-after, Written, whole, behind, onDone, thenInto, Lengths}
+use Rattle.scancode_set2.specs.Stops.{Convertible, a-prefix, a-press, a-release, Stop, used-up, no-entry, no-entry-after, full, ends-after, Written, Became, no-codes, one-code, whole, behind, onDone, thenInto, Lengths}
 use Rattle.scancode_set2.proofs.Table.{entry-above}
+use Rattle.scancode_set2.proofs.Codes.{codes-none, codes-alone, codes-after}
 use Rattle.scancode_set2.proofs.Becomes.{alone-prefix, alone-entry, after-entry, Alone, is-prefix, is-press, is-no-press, alone-is}
 use Rattle.scancode_set2.proofs.Progress.{behind-none}
 use Rattle.scancode_set2.proofs.Goes.{alone-written, alone-full, alone-refused, after-written, after-full, after-refused, converts-none, converts-cut, Goes, at-end, by-alone, by-after, goes}
@@ -149,6 +151,13 @@ module _ (later : List ℕ) where
 
 -- ---- what it writes
 
+became : {stream : List ℕ} {room : ℕ} {r : Converted} → Goes stream room r → Became (codes (take (r .used) stream)) (r .bytes)
+became (at-end s) = rw codes-none no-codes
+became (by-alone {b = b} {stream = stream} {r = r} n q w g) =
+    rw (take-one (r .used) stream b, codes-alone b (take (r .used) stream) n) (one-code q (became g))
+became (by-after {c = c} {stream = stream} {r = r} q w g) =
+    rw (take-two (r .used) stream breakByte c, codes-after c (take (r .used) stream)) (one-code q (became g))
+
 more-written : {x : ℕ} {bytes : List ℕ} → Written x → ((b : ℕ) → List·Memᴰ b bytes → Written b) → (b : ℕ) → List·Memᴰ b (x ∷ bytes) → Written b
 more-written w all b (List·Memᴰ·head e) = rw e w
 more-written w all b (List·Memᴰ·tail m) = all b m
@@ -159,6 +168,13 @@ written-in (by-alone n q w g) b m = more-written w (λ b m. written-in g b m) b 
 written-in (by-after q w g) b m = more-written w (λ b m. written-in g b m) b m
 
 -- ---- how much
+
+done-used : {stream : List ℕ} {room : ℕ} {a : Answer Success} → Stop stream room a → a ≡ gives success → length stream ≡ 0
+done-used used-up e = refl
+done-used (no-entry n p q) e = let z : _≡_ {A = ℕ} 0 1 = cc in absurd (omega arith)
+done-used (no-entry-after q) e = let z : _≡_ {A = ℕ} 0 1 = cc in absurd (omega arith)
+done-used (full v) e = let z : _≡_ {A = ℕ} 0 1 = cc in absurd (omega arith)
+done-used ends-after e = let z : _≡_ {A = ℕ} 0 1 = cc in absurd (omega arith)
 
 lengths : {stream : List ℕ} {room : ℕ} {r : Converted} → Goes stream room r → Lengths stream room r
 lengths (at-end s) = record { used-le = omega arith; written-le-used = omega arith; written-le-room = omega arith }
@@ -178,6 +194,14 @@ module _ (stream : List ℕ) (room : ℕ) where
   -- What was converted before a refusal is the conversion of the part that was used.
   pub convert-used : convertStream (take (r .used) stream) room ≡ whole r
   convert-used = used-part (goes stream room)
+
+  -- The bytes written are what the codes that were used become, one for each, in order.
+  pub convert-became : Became (codes (take (r .used) stream)) (r .bytes)
+  convert-became = became (goes stream room)
+
+  -- Where nothing is refused, all of the stream is used.
+  pub convert-done : r .end ≡ gives success → take (r .used) stream ≡ stream
+  convert-done e = take-all (r .used) stream (omega (arith, done-used convert-stops e, length-drop (r .used) stream))
 
   -- Every byte of the output is E0 or E1 passed through or a table entry, with the top bit or without.
   pub convert-written : (b : ℕ) → List·Memᴰ b (r .bytes) → Written b

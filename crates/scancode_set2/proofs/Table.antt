@@ -54,7 +54,7 @@ press-byte c = by (ltb c 0x85) refl
     by true e = every-at (λ (c : ℕ). isPressByte (entryOf c)) 0x85 press-bytes c (ltb-true c 0x85 e)
     by false e = rw (entry-above c (omega (arith, ltb-false c 0x85 e))) tt
 
-both : (a b : Bool) → T (a && b) → T a × T b
+pub both : (a b : Bool) → T (a && b) → T a × T b
 both true b t = (tt, t)
 both false b t = absurd t
 

@@ -9,8 +9,8 @@ use lib.ListN.{length}
 use Rattle.exchange.specs.Answer.{Answer, gives, refuses}
 use Rattle.ps2_answers.specs.Refusals.{Success, success}
 use Rattle.scancode_set2.specs.Table.{entryOf}
-use Rattle.scancode_set2.specs.Codes.{isPrefix}
-use Rattle.scancode_set2.specs.Convert.{withTopBit, Converted}
+use Rattle.scancode_set2.specs.Codes.{isPrefix, Code}
+use Rattle.scancode_set2.specs.Convert.{withTopBit, becomes, Converted}
 
 -- A stream that begins with what becomes a byte: E0 or E1, a code with an entry, or F0 and a code with an entry.
 pub data Convertible : List ℕ → Type 0 where
@@ -31,6 +31,11 @@ pub data Written : ℕ → Type 0 where
   passed : {b : ℕ} → isPrefix b ≡ true → Written b
   entered : {b : ℕ} (c : ℕ) → entryOf c ≡ some b → Written b
   released : {e : ℕ} (c : ℕ) → entryOf c ≡ some e → Written (withTopBit e)
+
+-- Each code became the byte that stands in its place.
+pub data Became : List Code → List ℕ → Type 0 where
+  no-codes : Became [] []
+  one-code : {c : Code} {b : ℕ} {codes : List Code} {bytes : List ℕ} → becomes c ≡ gives b → Became codes bytes → Became (c ∷ codes) (b ∷ bytes)
 
 -- A conversion that was done: all of it, with nothing refused.
 abbrev pub whole : Converted → Converted

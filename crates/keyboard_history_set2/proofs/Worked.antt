@@ -1,0 +1,90 @@
+-- Closed examples of the rule over set 2, by computation; the first by the theorem, so that its premise is met by something.
+-- Assumes nothing.
+use mathlib.Core.Path.{_≡_, refl, _∙_}
+use mathlib.Core.List.{List, [], _∷_}
+use Prim.Native.Nat.{ℕ}
+use Rattle.bits.specs.Bits.{odd, putBit}
+use Rattle.exchange.specs.Answer.{gives}
+use Rattle.ps2_answers.specs.Refusals.{success}
+use Rattle.keycodes_ascii.specs.declared.KeyAction.{KeyAction}
+use Rattle.keycodes_ascii.specs.declared.KeyEvent.{KeyEvent}
+use Rattle.keycodes_ascii.specs.declared.Keycode.{Keycode}
+use Rattle.keycodes_ascii.specs.Keycode.{keycodeOf, numbered, keycodes}
+use Rattle.scancode_set2.specs.Table.{printed, entryOf}
+use Rattle.scancode_set2.specs.Codes.{alone, afterF0, codes}
+use Rattle.scancode_set2.specs.Convert.{becomes, convertCodes, convertStream}
+use Rattle.keyboard.specs.Scancode.{scancode}
+use Rattle.keyboard_record.specs.Queue.{waiting}
+use Rattle.keyboard_scancodes.specs.FlagTable.{flagTable, isOf, pressesLock}
+use Rattle.keyboard_scancodes.specs.Events.{keycodeAt}
+use Rattle.keyboard_history.specs.Past.{Past, nothing, _▸_, onto}
+use Rattle.keyboard_history.specs.Said.{times, lastWasPress, saidOf, wordOf}
+use Rattle.keyboard_history.specs.Counted.{Call, handling, scancodeAfter, counted, counts}
+use Rattle.keyboard_history.specs.Row.{lessMet, givenTo}
+use Rattle.keyboard_history.specs.Run.{after}
+use Rattle.keyboard_history.specs.Examples.{press, shortLamps}
+use Rattle.keyboard_history_set2.specs.SaidSet2.{prefixSet2, strokeSet2, strokesSet2, flagsSet2, eventSet2, eventsSet2}
+use Rattle.keyboard_history_set2.specs.Turns.{turns, rowOf}
+use Rattle.keyboard_history_set2.specs.HistorySet2.{codesOf}
+use Rattle.keyboard_history_set2.proofs.HistorySet2.{history-set2}
+
+-- ---- Shift, A, and both released
+
+abbrev stream : List ℕ
+stream = 0x12 ∷ 0x1C ∷ 0xF0 ∷ 0x1C ∷ 0xF0 ∷ 0x12 ∷ []
+
+-- four handler calls, each with a converted byte
+abbrev calls : Past Call
+calls = nothing ▸ handling (0x2A ∷ []) [] ▸ handling (0x1E ∷ []) [] ▸ handling (0x9E ∷ []) [] ▸ handling (0xAA ∷ []) []
+
+abbrev release : Keycode → ℕ → KeyEvent
+release key flags = record { keycode = key; action = KeyAction.Released; modifiers = record { bits = flags } }
+
+counted-bytes : counted shortLamps calls ≡ onto nothing (convertStream stream 4 .bytes)
+unfolding counted scancodeAfter scancode flagTable isOf pressesLock onto convertCodes codes becomes entryOf printed putBit
+counted-bytes = refl
+
+converted-whole : convertStream stream 4 .end ≡ gives success
+unfolding convertCodes codes becomes entryOf printed putBit
+converted-whole = refl
+
+-- what the codes say of the row
+row-codes : rowOf (turns shortLamps calls (codesOf stream))
+    ≡ press Keycode.LeftShift 0x001 ∷ press Keycode.A 0x001 ∷ release Keycode.A 0x001 ∷ release Keycode.LeftShift 0x000 ∷ []
+unfolding rowOf turns counts counted scancodeAfter scancode lessMet givenTo onto codes eventSet2 flagsSet2 strokeSet2 strokesSet2 prefixSet2 wordOf saidOf times lastWasPress flagTable isOf pressesLock entryOf printed putBit odd keycodeAt keycodeOf numbered keycodes
+row-codes = refl
+
+-- the events of the four lines that tablekeys prints
+pub shift-a-waits : waiting (after shortLamps calls)
+    ≡ press Keycode.LeftShift 0x001 ∷ press Keycode.A 0x001 ∷ release Keycode.A 0x001 ∷ release Keycode.LeftShift 0x000 ∷ []
+shift-a-waits = history-set2 shortLamps calls stream 4 counted-bytes converted-whole .queue ∙ row-codes
+
+-- ---- what single codes say
+
+-- E0 14 is right Control, and its release is E0 F0 14: F0 is passed over in "directly after".
+pub right-control :
+    (flagsSet2 (nothing ▸ alone 0xE0 ▸ alone 0x14) ≡ 0x008)
+    × (flagsSet2 (nothing ▸ alone 0xE0 ▸ alone 0x14 ▸ alone 0xE0 ▸ afterF0 0x14) ≡ 0x000)
+    × (flagsSet2 (nothing ▸ alone 0xE0 ▸ alone 0x14 ▸ afterF0 0x14) ≡ 0x008)
+unfolding flagsSet2 strokeSet2 strokesSet2 prefixSet2 onto wordOf saidOf times lastWasPress flagTable isOf entryOf printed putBit odd
+right-control = (refl, refl, refl)
+
+-- F0 47 and F0 4F count as E0 and E1: the 14 behind them is right Control. 47 itself does not.
+pub released-prefix :
+    (flagsSet2 (nothing ▸ afterF0 0x47 ▸ alone 0x14) ≡ 0x008)
+    × (flagsSet2 (nothing ▸ afterF0 0x4F ▸ alone 0x14) ≡ 0x008)
+    × (flagsSet2 (nothing ▸ alone 0x47 ▸ alone 0x14) ≡ 0x004)
+unfolding flagsSet2 strokeSet2 strokesSet2 prefixSet2 onto wordOf saidOf times lastWasPress flagTable isOf entryOf printed putBit odd
+released-prefix = (refl, refl, refl)
+
+-- Both Shifts, left Control, Alt, both Supers and the three locks, by their codes.
+pub every-flag : flagsSet2 (nothing ▸ alone 0x12 ▸ alone 0x59 ▸ alone 0x14 ▸ alone 0x11 ▸ alone 0xE0 ▸ alone 0x1F ▸ alone 0xE0 ▸ alone 0x27 ▸ alone 0x58 ▸ alone 0x77 ▸ alone 0x7E) ≡ 0x3F7
+unfolding flagsSet2 strokeSet2 strokesSet2 prefixSet2 onto wordOf saidOf times lastWasPress flagTable isOf entryOf printed putBit odd
+every-flag = refl
+
+-- 83 and 02 are one key, F7; a key above 5D gives no event.
+pub one-key :
+    (eventsSet2 (nothing ▸ alone 0x83 ▸ afterF0 0x02) ≡ press Keycode.F7 0x000 ∷ release Keycode.F7 0x000 ∷ [])
+    × (eventsSet2 (nothing ▸ alone 0x13 ▸ afterF0 0x13 ▸ afterF0 0x65) ≡ [])
+unfolding eventsSet2 eventSet2 flagsSet2 strokeSet2 strokesSet2 prefixSet2 onto wordOf saidOf times lastWasPress flagTable isOf entryOf printed putBit odd keycodeAt keycodeOf numbered keycodes
+one-key = (refl, refl)
