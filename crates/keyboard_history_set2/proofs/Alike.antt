@@ -1,29 +1,27 @@
 -- Codes and the bytes that they become say the same prefix, the same flags and the same events.
 -- Assumes nothing.
 use mathlib.Core.Path.{_≡_, refl, sym, ap, ap₂, _∙_}
-use mathlib.Core.Bool.{Bool, true, false, cond, not, _&&_, _||_}
+use mathlib.Core.Bool.{Bool, true, false, cond}
 use mathlib.Core.List.{List, [], _∷_, _++_, append-nil}
-use Prim.Native.Nat.{ℕ, _<_}
-use native.Mathlib.Omega.{arith}
-use lib.Dec.{eqb, leb}
-use borrow.Author.Tests.{ne-eqb}
+use Prim.Native.Nat.{ℕ}
+use lib.Dec.{eqb}
 use Rattle.exchange.specs.Answer.{gives}
 use Rattle.keycodes_ascii.specs.declared.KeyEvent.{KeyEvent}
 use Rattle.scancode_set2.specs.Codes.{isPrefix, Code}
 use Rattle.scancode_set2.specs.Convert.{becomes}
 use Rattle.scancode_set2.specs.Stops.{Became, no-codes, one-code}
-use Rattle.keyboard_scancodes.specs.Strokes.{Stroke, stroke, lowPart, isPress, isSilent}
-use Rattle.keyboard_scancodes.specs.FlagTable.{FlagRow, flagTable}
+use Rattle.keyboard_scancodes.specs.Strokes.{Stroke, stroke, isSilent}
+use Rattle.keyboard_scancodes.specs.FlagTable.{flagTable}
 use Rattle.keyboard_scancodes.specs.FlagsAfter.{flagsAfter}
-use Rattle.keyboard_scancodes.specs.Events.{givesEvent, eventOf, keycodeAt, lastKeycode}
+use Rattle.keyboard_scancodes.specs.Events.{givesEvent, eventOf}
 use Rattle.keyboard_scancodes.proofs.Flags.{table-distinct}
 use Rattle.keyboard_scancodes.proofs.Silent.{silent-flags, silent-gives}
 use Rattle.keyboard_history.specs.Past.{Past, nothing, _▸_, onto}
-use Rattle.keyboard_history.specs.Said.{prefixSaid, strokes, said, wordOf, flagsSaid, eventGiven, eventsGiven}
+use Rattle.keyboard_history.specs.Said.{prefixSaid, strokes, said, flagsSaid, eventGiven, eventsGiven}
 use Rattle.keyboard_history.proofs.Flags.{word-after, said-more, flags-more}
 use Rattle.keyboard_history.proofs.Row.{given-none, given-one}
 use Rattle.keyboard_history_set2.specs.SaidSet2.{isPrefixCode, prefixSet2, strokeOf, strokeSet2, strokesSet2, flagsSet2, eventOfStroke, eventOfStrokes, eventSet2, eventsSet2}
-use Rattle.keyboard_history_set2.proofs.Says.{Says, says, prefix-says, stroke-says, nonzero-says}
+use Rattle.keyboard_history_set2.proofs.Says.{says, prefix-says, stroke-says, nonzero-says}
 
 -- each code of the one became the byte of the other
 pub data Reads : Past Code → Past ℕ → Type 0 where

@@ -1,24 +1,22 @@
 -- The history rule over set 2 (request 2.2), for every lamp exchange and every list of calls whose counted scancodes are a converted stream.
 -- Assumes nothing.
-use mathlib.Core.Path.{_≡_, refl, sym, ap, _∙_, subst, subst⁻¹}
-use mathlib.Core.List.{List, _++_}
+use mathlib.Core.Path.{_≡_, sym, ap, _∙_, subst, subst⁻¹}
+use mathlib.Core.List.{List}
 use Prim.Native.Nat.{ℕ}
 use lib.ListN.{take}
 use Rattle.exchange.specs.Exchange.{Exchange}
 use Rattle.exchange.specs.Answer.{Answer, gives}
 use Rattle.ps2_answers.specs.Refusals.{success}
-use Rattle.keyboard.specs.KeyboardLamps.{keyboardLamps}
-use Rattle.scancode_set2.specs.Codes.{Code, codes}
 use Rattle.scancode_set2.specs.Convert.{convertStream}
 use Rattle.scancode_set2.proofs.Laws.{convert-became, convert-done}
 use Rattle.keyboard_history.specs.Past.{Past, nothing, onto}
 use Rattle.keyboard_history.specs.Counted.{Call, counted}
 use Rattle.keyboard_history.specs.Row.{events, lessMet}
 use Rattle.keyboard_history.proofs.History.{history}
-use Rattle.keyboard_history_set2.specs.Turns.{Turn, turns, rowOf, givenOf, meetsOf, removedOf}
+use Rattle.keyboard_history_set2.specs.Turns.{Turn, rowOf, givenOf, meetsOf, removedOf}
 use Rattle.keyboard_history_set2.specs.HistorySet2.{codesOf, HistorySet2}
 use Rattle.keyboard_history_set2.proofs.Alike.{Reads, reads-all, prefix-reads, flags-reads, events-reads}
-use Rattle.keyboard_history_set2.proofs.Turns.{turnsSet1, row-turns, given-turns, meets-turns, removed-turns, turns-same}
+use Rattle.keyboard_history_set2.proofs.Turns.{row-turns, given-turns, meets-turns, removed-turns, turns-same}
 
 module _ {A : Type 0} (lamps : ℕ → Exchange (Answer A)) where
   by-reads : (calls : Past Call) (stream : List ℕ) → Reads (codesOf stream) (counted lamps calls) → HistorySet2 lamps calls stream

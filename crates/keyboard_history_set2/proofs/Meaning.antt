@@ -1,8 +1,8 @@
 -- The words of the rule mean over set 2 what they should: the flags, code by code.
 -- Assumes nothing.
-use mathlib.Core.Path.{_≡_, refl, sym, ap, ap₂, _∙_, subst}
-use mathlib.Core.Bool.{Bool, true, false, not, cond, _&&_, _||_, and-true, and-false, Bool·beq}
-use mathlib.Core.List.{List, [], _∷_, map, List·Memᴰ, List·Memᴰ·head, List·Memᴰ·tail}
+use mathlib.Core.Path.{_≡_, refl, sym, ap, _∙_, subst}
+use mathlib.Core.Bool.{Bool, true, false, not, cond, _&&_, and-true, and-false, Bool·beq}
+use mathlib.Core.List.{List, map, List·Memᴰ, List·Memᴰ·head, List·Memᴰ·tail}
 use mathlib.Core.Logic.{⊎-elim}
 use mathlib.Core.Option.{some}
 use Prim.Native.Nat.{ℕ, suc, _+_, _%_, _<_}
@@ -10,13 +10,13 @@ use native.Mathlib.Omega.{arith}
 use lib.Dec.{T, eqb, ltb, ltb→lt}
 use lib.ListN.{take}
 use borrow.Author.Tests.{ltb-true, ltb-false, lt-ltb, le-ltb, ne-eqb, eqb-true}
-use Rattle.bits.specs.Bits.{odd, bit, putBit}
+use Rattle.bits.specs.Bits.{odd, bit}
 use Rattle.bits.proofs.Every.{every, agree-bool, each}
 use Rattle.exchange.specs.Exchange.{Exchange}
-use Rattle.exchange.specs.Answer.{Answer, gives}
-use Rattle.scancode_set2.specs.Table.{printed, entryOf, orNone}
-use Rattle.scancode_set2.specs.Codes.{isPrefix, Code, alone, afterF0, endsAfterF0}
-use Rattle.scancode_set2.specs.Convert.{withTopBit, becomes, convertStream}
+use Rattle.exchange.specs.Answer.{Answer}
+use Rattle.scancode_set2.specs.Table.{printed, entryOf}
+use Rattle.scancode_set2.specs.Codes.{isPrefix, Code}
+use Rattle.scancode_set2.specs.Convert.{withTopBit, convertStream}
 use Rattle.scancode_set2.proofs.Table.{entry-above, both, entry-press}
 use Rattle.scancode_set2.proofs.Becomes.{top-bit}
 use Rattle.scancode_set2.proofs.Laws.{convert-became}

@@ -1,13 +1,13 @@
 -- A code of set 2 and the byte of set 1 that it becomes say the same: prefix or not, and the same stroke.
 -- Assumes nothing.
 use mathlib.Core.Path.{_≡_, refl, sym, ap, _∙_}
-use mathlib.Core.Bool.{Bool, true, false, _||_, false≢true, Bool·beq}
-use mathlib.Core.List.{List, [], _∷_}
-use mathlib.Core.Option.{Option, none, some}
+use mathlib.Core.Bool.{Bool, true, false, false≢true, Bool·beq}
+use mathlib.Core.List.{[], _∷_}
+use mathlib.Core.Option.{Option, some}
 use Prim.Native.Nat.{ℕ, _+_, _%_, _<_}
 use native.Mathlib.Omega.{arith}
 use lib.Dec.{T, eqb, ltb}
-use borrow.Author.Tests.{ltb-true, ltb-false, lt-ltb, le-ltb, ne-eqb, eqb-true}
+use borrow.Author.Tests.{ltb-true, ltb-false, lt-ltb, le-ltb, ne-eqb}
 use Rattle.bits.specs.Bits.{putBit}
 use Rattle.bits.proofs.Every.{every, agree-bool}
 use Rattle.exchange.specs.Answer.{Answer, gives, refuses}
@@ -16,7 +16,7 @@ use Rattle.scancode_set2.specs.Codes.{isPrefix, Code, alone, afterF0, endsAfter
 use Rattle.scancode_set2.specs.Convert.{withTopBit, becomes}
 use Rattle.scancode_set2.proofs.Table.{entry-above, entry-press}
 use Rattle.scancode_set2.proofs.Becomes.{top-bit, cut-refused, Alone, is-prefix, is-press, is-no-press, alone-is, After, is-release, is-no-release, after-is}
-use Rattle.keyboard_scancodes.specs.Strokes.{Stroke, stroke, lowPart, isPress, isSilent}
+use Rattle.keyboard_scancodes.specs.Strokes.{stroke}
 use Rattle.keyboard_history_set2.specs.SaidSet2.{isPrefixCode, keyOf, strokeOf}
 
 -- ---- the ways to become a byte

@@ -1,23 +1,20 @@
 -- The row of the history rule, turn by turn; and that its turns are those read over the codes that the counted scancodes come from.
 -- Assumes nothing.
-use mathlib.Core.Path.{_≡_, refl, sym, ap, ap₂, _∙_}
-use mathlib.Core.Bool.{Bool, true, false, cond}
-use mathlib.Core.List.{List, [], _∷_, _++_}
+use mathlib.Core.Path.{_≡_, refl, ap, ap₂}
+use mathlib.Core.Bool.{Bool, cond}
+use mathlib.Core.List.{List, [], _++_}
 use mathlib.Core.Option.{Option, none, some}
 use Prim.Native.Nat.{ℕ}
 use Rattle.exchange.specs.Exchange.{Exchange}
-use Rattle.exchange.specs.Answer.{Answer, gives}
+use Rattle.exchange.specs.Answer.{Answer}
 use Rattle.keycodes_ascii.specs.declared.KeyEvent.{KeyEvent}
 use Rattle.scancode_set2.specs.Codes.{Code}
-use Rattle.scancode_set2.specs.Convert.{becomes}
 use Rattle.keyboard.specs.Scancode.{isSome}
 use Rattle.keyboard_history.specs.Past.{Past, nothing, _▸_}
-use Rattle.keyboard_history.specs.Said.{eventGiven}
 use Rattle.keyboard_history.specs.Counted.{Call, handling, taking, count, scancodeAfter, counted, counts}
 use Rattle.keyboard_history.specs.Row.{Given, lessMet, anyMet, givenTo, eventOfCall, first, rest, newly, row, given, meets, removed}
-use Rattle.keyboard_history_set2.specs.SaidSet2.{eventSet2}
-use Rattle.keyboard_history_set2.specs.Turns.{Turn, handled, took, lastCounts, before, lastEvent, turns, rowOf, givenOf, meetsOf, removedOf}
-use Rattle.keyboard_history_set2.proofs.Alike.{Reads, no-reads, one-read, event-reads}
+use Rattle.keyboard_history_set2.specs.Turns.{Turn, handled, took, before, lastEvent, turns, rowOf, givenOf, meetsOf, removedOf}
+use Rattle.keyboard_history_set2.proofs.Alike.{Reads, one-read, event-reads}
 
 module _ {A : Type 0} (lamps : ℕ → Exchange (Answer A)) where
   -- the turns of the rule over the counted scancodes

@@ -13,7 +13,7 @@ use Rattle.keyboard_history.specs.Counted.{Call}
 use Rattle.keyboard_history.specs.Row.{events, lessMet}
 use Rattle.keyboard_history.specs.Run.{after, answers, takings, eventsTaken}
 use Rattle.keyboard_history_set2.specs.SaidSet2.{prefixSet2, flagsSet2, eventsSet2}
-use Rattle.keyboard_history_set2.specs.Turns.{Turn, turns, rowOf, givenOf, meetsOf, removedOf}
+use Rattle.keyboard_history_set2.specs.Turns.{turns, rowOf, givenOf, meetsOf, removedOf}
 
 -- The codes of a stream, in the order in which they came.
 abbrev pub codesOf : List ℕ → Past Code

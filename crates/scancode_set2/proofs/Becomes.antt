@@ -1,7 +1,7 @@
 -- The byte that a code becomes: it is never 00, and every code but F0 at the end becomes one or is refused with 22.
 -- Assumes nothing.
 use mathlib.Core.Path.{_≡_, refl, sym, ap, _∙_}
-use mathlib.Core.Bool.{Bool, true, false, cond, _||_}
+use mathlib.Core.Bool.{Bool, true, false}
 use mathlib.Core.Option.{Option, none, some}
 use Prim.Native.Nat.{ℕ, _+_, _<_}
 use native.Mathlib.Omega.{arith}
@@ -9,7 +9,7 @@ use lib.Dec.{eqb}
 use borrow.Author.Tests.{eqb-true}
 use Rattle.bits.specs.Bits.{putBit}
 use Rattle.bits.proofs.Every.{agree}
-use Rattle.exchange.specs.Answer.{Answer, gives, refuses}
+use Rattle.exchange.specs.Answer.{gives, refuses}
 use Rattle.scancode_set2.specs.Table.{entryOf, orNone}
 use Rattle.scancode_set2.specs.Codes.{isPrefix, Code, alone, afterF0, endsAfterF0}
 use Rattle.scancode_set2.specs.Convert.{withTopBit, byEntry, becomes, orNoByte}

@@ -1,15 +1,15 @@
 -- The codes of a stream: its first code, and a way to go through it code by code.
 -- Assumes nothing.
-use mathlib.Core.Path.{_≡_, refl, sym, ap, _∙_}
-use mathlib.Core.Bool.{Bool, true, false, cond}
+use mathlib.Core.Path.{_≡_, refl}
+use mathlib.Core.Bool.{Bool, true, false}
 use mathlib.Core.List.{List, [], _∷_}
-use Prim.Native.Nat.{ℕ, zero, suc, _+_, _-_, _<_, _≤_}
+use Prim.Native.Nat.{ℕ, suc, _+_, _-_, _<_, _≤_}
 use native.Mathlib.Numerals.{add-one}
 use native.Mathlib.Omega.{arith}
-use lib.ListN.{length, getD, drop, length-drop, drop-of-length-le}
+use lib.ListN.{length, getD, drop, drop-of-length-le}
 use lib.Seq.{drop-cons}
 use borrow.Author.Tests.{eqb-true, ne-eqb}
-use Rattle.scancode_set2.specs.Codes.{breakByte, isBreak, Code, alone, afterF0, endsAfterF0, codes}
+use Rattle.scancode_set2.specs.Codes.{breakByte, isBreak, alone, afterF0, endsAfterF0, codes}
 
 -- ---- the first code
 

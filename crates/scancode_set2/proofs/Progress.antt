@@ -2,7 +2,7 @@
 -- Assumes nothing.
 use mathlib.Core.Path.{_≡_, refl, sym, ap, ap₂, _∙_}
 use mathlib.Core.List.{List, [], _∷_, _++_, append-nil, append-assoc}
-use Prim.Native.Nat.{ℕ, zero, suc, _+_, _-_, _<_, _≤_}
+use Prim.Native.Nat.{ℕ, suc, _+_, _-_, _<_, _≤_}
 use native.Mathlib.Nat.{add-zero, zero-add, add-assoc, sub-zero}
 use native.Mathlib.Numerals.{add-one}
 use native.Mathlib.Omega.{arith}
@@ -11,7 +11,7 @@ use lib.Seq.{length-take-le, take-suc-set, drop-set-lt, drop-drop}
 use Rattle.exchange.specs.Answer.{Answer, gives, refuses}
 use Rattle.ps2_answers.specs.Refusals.{Success, success}
 use Rattle.scancode_set2.specs.Codes.{breakByte, Code, alone, afterF0, endsAfterF0, codes, width}
-use Rattle.scancode_set2.specs.Convert.{becomes, orNoByte, Converted, ends, writes, convertCode, convertCodes, convertStream, Outcome, outcome, leaves, converted}
+use Rattle.scancode_set2.specs.Convert.{becomes, orNoByte, Converted, ends, writes, convertCodes, convertStream, outcome, leaves, converted}
 use Rattle.scancode_set2.specs.Stops.{behind}
 use Rattle.scancode_set2.proofs.Codes.{alone-at, after-at}
 use Rattle.scancode_set2.proofs.Becomes.{Way, alone-way, after-way, zero-refused, byte-given}

@@ -1,6 +1,6 @@
 -- The conversion of a set 2 stream to set 1, as request 2.2 words it.
 -- Assumes nothing.
-use mathlib.Core.Bool.{Bool, true, cond}
+use mathlib.Core.Bool.{true, cond}
 use mathlib.Core.List.{List, [], _∷_, _++_}
 use mathlib.Core.Option.{Option, none, some}
 use Prim.Native.Nat.{ℕ, zero, suc, _+_}

@@ -1,6 +1,6 @@
 -- `scancode_set2::convert` meets its contract. The loop's invariant is how far the conversion has come; each return is where nothing more is converted.
 -- Assumes nothing.
-use Prim.Native.Nat.{_+_, _-_}
+use Prim.Native.Nat.{_-_}
 use mathlib.Core.Logic.{⊎-elim}
 use native.Mathlib.Omega.{arith}
 use lib.ListN.{length}

@@ -1,7 +1,7 @@
 -- `scancode_set2::released` meets its contract: the top bit is set of an entry, where there is one.
 -- Assumes nothing.
 use borrow.Author.Needs.{needs}
-use mathlib.Core.Path.{_≡_, ap, sym, _∙_}
+use mathlib.Core.Path.{ap, sym, _∙_}
 use Rattle.bits.proofs.Masks.{set-mask}
 use Rattle.scancode_set2.specs.Convert.{withTopBit}
 use Rattle.scancode_set2.proofs.Becomes.{released-none, released-some}
