@@ -5,7 +5,7 @@ use mathlib.Core.List.{List, [], _∷_}
 use Prim.Native.Nat.{ℕ, suc}
 use lib.Dec.{eqb}
 use Rattle.bits.specs.Bits.{odd}
-use Rattle.keyboard_modifiers.specs.Flags.{shiftLeft, shiftRight, controlLeft, controlRight, alt, superKeyLeft, superKeyRight, capsLock, numLock, scrollLock}
+use Rattle.keyboard_modifiers.specs.Flags.{shiftLeft, shiftRight, controlLeft, controlRight, alt, superKeyLeft, superKeyRight, capsLock, numLock, scrollLock, altRight}
 use Rattle.scancode_set2.specs.Codes.{Code, alone, afterF0, endsAfterF0}
 use Rattle.keyboard_scancodes.specs.FlagTable.{Kind, lock, held, left, right, FlagRow, flagRow}
 use Rattle.keyboard_history.specs.Past.{Past, nothing, _▸_}
@@ -23,7 +23,8 @@ flagCodes =
     flagRow superKeyRight held 0x27 ∷
     flagRow capsLock lock 0x58 ∷
     flagRow numLock lock 0x77 ∷
-    flagRow scrollLock lock 0x7E ∷ []
+    flagRow scrollLock lock 0x7E ∷
+    flagRow altRight right 0x11 ∷ []
 
 -- How many times the code p came by itself.
 unfoldable pub timesAlone : ℕ → Past Code → ℕ
