@@ -4,17 +4,17 @@ use mathlib.Core.Path.{_≡_, refl, sym, ap, _∙_}
 use mathlib.Core.Bool.{Bool, true, false, false≢true}
 use mathlib.Core.List.{List, _∷_, _++_, List·Memᴰ, List·Memᴰ·head, List·Memᴰ·tail, List·Memᴰ·not-nil}
 use mathlib.Core.Option.{some}
-use Prim.Native.Nat.{ℕ, suc, _+_, _-_}
+use Prim.Native.Nat.{ℕ, suc, _+_, _-_, _≤_}
 use native.Mathlib.Nat.{zero-add, add-assoc, suc-add, sub-zero}
 use native.Mathlib.Omega.{arith}
-use lib.ListN.{length, take, drop, length-drop}
+use lib.ListN.{length, take, drop, length-append, length-drop}
 use lib.Seq.{take-all}
 use borrow.Author.Tests.{eqb-true, ne-eqb}
 use Rattle.exchange.specs.Answer.{Answer, gives, refuses}
 use Rattle.ps2_answers.specs.Refusals.{Success, success}
 use Rattle.scancode_set2.specs.Table.{entryOf}
 use Rattle.scancode_set2.specs.Codes.{breakByte, isBreak, isPrefix, Code, alone, afterF0, codes, width}
-use Rattle.scancode_set2.specs.Convert.{withTopBit, byEntry, Converted, ends, writes, convertStream}
+use Rattle.scancode_set2.specs.Convert.{withTopBit, byEntry, Converted, ends, writes, convertStream, Outcome, outcome, leaves, converted}
 use Rattle.scancode_set2.specs.Stops.{Convertible, a-prefix, a-press, a-release, Stop, used-up, no-entry, no-entry-after, full, ends-after, Written, Became, no-codes, one-code, whole, behind, onDone, thenInto, Lengths}
 use Rattle.scancode_set2.proofs.Table.{entry-above}
 use Rattle.scancode_set2.proofs.Codes.{codes-none, codes-alone, codes-after}
@@ -219,3 +219,18 @@ module _ (stream : List ℕ) (room : ℕ) where
   -- Two streams one after the other are converted as the two joined, where the first doesn't end inside F0.
   pub convert-joined : (later : List ℕ) → (r .end ≡ refuses 24 → ⊥) → convertStream (stream ++ later) room ≡ thenInto r (convertStream later) room
   convert-joined later = join later (goes stream room)
+
+-- ---- what a call leaves
+
+module _ (stream out : List ℕ) {a : Answer Success} {used count : ℕ} {left : List ℕ} (h : outcome a used count left ≡ converted stream out) where
+  abbrev made : Converted
+  made = convertStream stream (length out)
+
+  left-is : left ≡ made .bytes ++ drop count out
+  unfolding leaves
+  left-is = ap (λ (o : Outcome). o .output) h ∙ ap (λ (n : ℕ). made .bytes ++ drop n out) (sym (ap (λ (o : Outcome). o .count) h))
+
+  -- No more bytes are counted than the output has.
+  pub count-le : count ≤ length left
+  unfolding leaves
+  count-le = omega (arith, ap (λ (o : Outcome). o .count) h, ap length left-is, length-append (made .bytes) (drop count out))
