@@ -1,6 +1,9 @@
 // Replays calls on lent bytes, without ports: reads packed calls from standard input and writes packed answers. tests/traces/README.md tells the format.
+mod converting;
 mod salvaging;
 
+use converting::CONVERT_SET2;
+use converting::answer_conversion;
 use packed_calls::END;
 use packed_calls::Instruction;
 use packed_calls::NO_CALL;
@@ -24,6 +27,7 @@ fn answer_with(i: Instruction, input: &[u8], out: &mut [u8]) {
     match op {
         PART => {}
         END => {}
+        CONVERT_SET2 => answer_conversion(i, input, out),
         SALVAGE => answer_salvage(i, input, out),
         _ => {
             write_answer(op, ending(NO_CALL, 0, 0, 0), out);
@@ -57,6 +61,6 @@ fn replay_in(input: &mut [u8; INPUT_SPACE], out: &mut [u8]) {
 
 fn main() {
     let mut input = [0u8; INPUT_SPACE];
-    let mut out = io::buffer();
+    let mut out = io::large_buffer();
     replay_in(&mut input, &mut out);
 }

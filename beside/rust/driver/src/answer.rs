@@ -21,6 +21,12 @@ pub enum Answer {
         left: Handler,
     },
     Salvaged(Salvaged),
+    /// Of an operation on lent bytes: the input's bytes used, and those written to the output.
+    Bytes {
+        end: u8,
+        used: usize,
+        bytes: Vec<u8>,
+    },
 }
 
 /// What a call answers beside its end.
@@ -158,15 +164,24 @@ impl fmt::Display for Done {
     }
 }
 
+/// How a call ended: well, or refused by a number.
+fn write_end(f: &mut fmt::Formatter, end: u8) -> fmt::Result {
+    match end {
+        0 => f.write_str("out=ok"),
+        number => write!(f, "out=refused:{number}"),
+    }
+}
+
 impl fmt::Display for Answer {
     fn fmt(&self, f: &mut fmt::Formatter) -> fmt::Result {
         match self {
             Answer::Call { end, used, log, value, record } => {
-                match end {
-                    0 => f.write_str("out=ok")?,
-                    number => write!(f, "out=refused:{number}")?,
-                }
+                write_end(f, *end)?;
                 write!(f, " used={used} wrote={} log={}{value} rec={record}", log.len() / 2, Hex(log))
+            }
+            Answer::Bytes { end, used, bytes } => {
+                write_end(f, *end)?;
+                write!(f, " used={used} wrote={} bytes={}", bytes.len(), Hex(bytes))
             }
             Answer::Run { done, left } => {
                 let (used, pairs) = counts(done);
@@ -205,20 +220,25 @@ pub fn parse(op: &Op, line: &str) -> Result<Answer, String> {
         let found = line.split(' ').find_map(|word| word.strip_prefix(name)?.strip_prefix('='));
         found.ok_or_else(|| format!("the answer has no '{name}='"))
     };
+    let end = || -> Result<u8, String> {
+        match field("out")? {
+            "ok" => Ok(0),
+            out => Ok(decimal(out.strip_prefix("refused:").ok_or("the answer is neither ok nor refused")?)? as u8),
+        }
+    };
+    let used = || -> Result<usize, String> { Ok(decimal(field("used")?)? as usize) };
     let answer = if let Op::Handle(..) = op {
         let done = match field("calls")? {
             "-" => Vec::new(),
             calls => calls.split(',').map(parse_done).collect::<Result<_, _>>()?,
         };
         Answer::Run { done, left: parse_handler(Some(field("rec")?))? }
+    } else if op.takes_bytes() {
+        Answer::Bytes { end: end()?, used: used()?, bytes: parse_script(field("bytes")?)? }
     } else {
-        let end = match field("out")? {
-            "ok" => 0,
-            out => decimal(out.strip_prefix("refused:").ok_or("the answer is neither ok nor refused")?)? as u8,
-        };
         Answer::Call {
-            end,
-            used: decimal(field("used")?)? as usize,
+            end: end()?,
+            used: used()?,
             log: parse_script(field("log")?)?,
             value: field("val").map_or(Ok(Value::Nothing), |text| parse_value(op, text))?,
             record: parse_record(op, field("rec")?)?,

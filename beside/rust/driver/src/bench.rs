@@ -2,7 +2,7 @@
 //! calls and passes over a recording are measured by the programs `calls` and `recording`, which link the port's.
 
 use crate::answer::Answer;
-use crate::call::{self, Call, ALL_FLAGS, LAST_KEYCODE};
+use crate::call::{self, Call, Hex, ALL_FLAGS, LAST_KEYCODE};
 use crate::device::Rng;
 use crate::oracle::Oracle;
 use crate::packed::{put_call, read_answer, Program};
@@ -192,6 +192,30 @@ fn keys() -> Vec<u8> {
     (0..32768).map(|_| 0x02 + rng.below(0x38) as u8).flat_map(|key| [key, key | 0x80]).collect()
 }
 
+/// About so many bytes of set 2: letters pressed and released, one in eight with Shift, and the cursor keys as often.
+fn set2_keys(count: usize) -> Vec<u8> {
+    const LETTERS: [u8; 26] = [
+        0x1C, 0x32, 0x21, 0x23, 0x24, 0x2B, 0x34, 0x33, 0x43, 0x3B, 0x42, 0x4B, 0x3A, 0x31, 0x44, 0x4D, 0x15, 0x2D,
+        0x1B, 0x2C, 0x3C, 0x2A, 0x1D, 0x22, 0x35, 0x1A,
+    ];
+    let (mut rng, mut stream) = (Rng(1), Vec::new());
+    while stream.len() < count {
+        let letter = rng.pick(&LETTERS);
+        match rng.below(8) {
+            0 => stream.extend([0x12, letter, 0xF0, letter, 0xF0, 0x12]),
+            1 => stream.extend([0xE0, 0x75, 0xE0, 0xF0, 0x75]),
+            _ => stream.extend([letter, 0xF0, letter]),
+        }
+    }
+    stream
+}
+
+/// The conversion of about so many bytes of set 2, with room for all.
+fn conversion(count: usize) -> String {
+    let stream = set2_keys(count);
+    format!("convert_set2 in={} room={}", Hex(&stream), stream.len())
+}
+
 /// Packed calls, for one of the port's programs.
 fn packed(calls: &[Call], times: u64) -> Result<Vec<u8>, String> {
     let mut out = Vec::new();
@@ -297,6 +321,13 @@ pub fn bench(port: Paths, tablekeys: &str, rounds: usize) -> io::Result<ExitCode
         ),
         ("`read_config`", one("read_config script=03 log=2"), "a write and a read: the least call, so the most that a loop adds to a call"),
         ("`to_ascii`", every_character(), "the mean over the 94 keycodes that events have and all flags"),
+        (
+            "`convert`, 60,000 bytes of set 2",
+            one(&conversion(60000)),
+            "letters pressed and released, one in eight with Shift, and as many cursor keys; the Rust is plain Rust for the same job (beside/rust/driver/src/plain.rs)",
+        ),
+        ("`convert`, 600 bytes of set 2", one(&conversion(600)), "the same, shorter"),
+        ("`convert`, 6 bytes of set 2", one(&conversion(6)), "the same, two keys: the table, which is put on the stack at each call, is most of it"),
     ];
     let mut oracle = Oracle::new();
     for (name, lines, contents) in rows {

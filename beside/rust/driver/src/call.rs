@@ -7,8 +7,9 @@ use std::fmt::{self, Write};
 #[derive(Clone, Debug, PartialEq)]
 pub struct Call {
     pub op: Op,
+    /// The script, or the input of an operation on lent bytes.
     pub script: Vec<u8>,
-    /// Room of the log, in bytes; for a handler line the room of each call.
+    /// Room of the log, in bytes; for a handler line the room of each call, for an operation on lent bytes the output's.
     pub room: usize,
     /// How often the call is made, each time from the same state.
     pub repeat: u64,
@@ -30,6 +31,7 @@ pub enum Op {
     KeyboardInit,
     Handle(Handler, Vec<Step>),
     ToAscii(u8, u16),
+    ConvertSet2,
     Salvage(Salvage),
 }
 
@@ -122,12 +124,15 @@ pub fn parse(line: &str) -> Result<Call, String> {
     while let Some(word) = words.next_if(|word| !word.contains('=')) {
         args.push(word);
     }
-    let (mut script, mut room, mut state, mut plan, mut repeat) = (None, None, None, None, None);
+    let (mut script, mut log, mut state, mut plan, mut repeat) = (None, None, None, None, None);
+    let (mut input, mut output) = (None, None);
     for word in words {
         let (key, value) = word.split_once('=').ok_or_else(|| format!("'{word}' is not key=value"))?;
         let field = match key {
             "script" => &mut script,
-            "log" => &mut room,
+            "log" => &mut log,
+            "in" => &mut input,
+            "room" => &mut output,
             "state" => &mut state,
             "plan" => &mut plan,
             "repeat" => &mut repeat,
@@ -138,7 +143,14 @@ pub fn parse(line: &str) -> Result<Call, String> {
         }
     }
     let op = parse_op(name, &args, state, plan)?;
-    for (key, value, takes) in [("script", script, op.takes_script()), ("log", room, op.takes_log())] {
+    // What an operation takes: a script and a log, or lent bytes.
+    let takes = [
+        ("script", script, op.takes_script()),
+        ("log", log, op.takes_log()),
+        ("in", input, op.takes_bytes()),
+        ("room", output, op.takes_bytes()),
+    ];
+    for (key, value, takes) in takes {
         match (value, takes) {
             (None, true) => return Err(format!("the field '{key}=' is missing")),
             (Some(_), false) => return Err(format!("{name} takes no {key}")),
@@ -147,8 +159,8 @@ pub fn parse(line: &str) -> Result<Call, String> {
     }
     Ok(Call {
         op,
-        script: script.map_or(Ok(Vec::new()), parse_script)?,
-        room: room.map_or(Ok(0), decimal)? as usize,
+        script: script.or(input).map_or(Ok(Vec::new()), parse_script)?,
+        room: log.or(output).map_or(Ok(0), decimal)? as usize,
         repeat: repeat.map_or(Ok(1), decimal)?,
     })
 }
@@ -221,6 +233,7 @@ fn parse_op(name: &str, args: &[&str], state: Option<&str>, plan: Option<&str>) 
             }
             Ok(Op::ToAscii(keycode, parse_flags(args[1])?))
         }
+        "convert_set2" => none(Op::ConvertSet2),
         _ => return Err(format!("there is no operation '{name}'")),
     }?;
     if plan.is_some() && !matches!(op, Op::Handle(..)) {
@@ -474,6 +487,7 @@ impl Op {
                 handler.flags > ALL_FLAGS || handler.queue.iter().any(|event| event.flags > ALL_FLAGS)
             }
             Op::ToAscii(_, flags) => *flags > ALL_FLAGS,
+            Op::ConvertSet2 => return Some("the Rust converts no set 2"),
             Op::Salvage(_) => return Some("the Rust salvages no recording"),
             _ => false,
         };
@@ -482,11 +496,16 @@ impl Op {
 
     /// Whether a call's line has a script, and whether it has a log's room.
     pub fn takes_script(&self) -> bool {
-        !matches!(self, Op::ToAscii(..))
+        !matches!(self, Op::ToAscii(..)) && !self.takes_bytes()
     }
 
     pub fn takes_log(&self) -> bool {
         self.takes_script() && !matches!(self, Op::Mouse(MouseOp::ReadSignedPacket, _))
+    }
+
+    /// Whether it is an operation on lent bytes: an input and an output, no ports.
+    pub fn takes_bytes(&self) -> bool {
+        matches!(self, Op::ConvertSet2)
     }
 
     pub fn name(&self) -> &'static str {
@@ -526,6 +545,7 @@ impl Op {
             Op::KeyboardInit => "keyboard_init",
             Op::Handle(..) => "handle",
             Op::ToAscii(..) => "to_ascii",
+            Op::ConvertSet2 => "convert_set2",
             Op::Salvage(_) => salvage::NAME,
         }
     }
@@ -571,6 +591,11 @@ impl Call {
         }
         if self.op.takes_log() {
             write!(out, " log={}", self.room).unwrap();
+        }
+        if self.op.takes_bytes() {
+            out += " in=";
+            push_script(&mut out, &self.script);
+            write!(out, " room={}", self.room).unwrap();
         }
         if let Op::Handle(_, plan) = &self.op {
             push_plan(&mut out, plan);

@@ -6,7 +6,7 @@ use crate::call::{Call, Op};
 use crate::device::Rng;
 use crate::generate::{by_chance, kind_by_chance, names, sweep, sweep_lengths, Enough, KINDS};
 use crate::oracle::Oracle;
-use crate::packed::{put_call, read_answer, Program};
+use crate::packed::{put_call, read_answer, Program, PROGRAMS};
 use crate::port::{self, Running};
 use std::collections::BTreeMap;
 use std::io::{self, BufRead, Read, Write};
@@ -27,9 +27,9 @@ static ALIKE: AtomicU64 = AtomicU64::new(0);
 
 /// Calls on their way: packed to the port's programs, with the Rust's answers to the thread that compares.
 struct Sender {
-    to_port: [SyncSender<Vec<u8>>; 2],
+    to_port: [SyncSender<Vec<u8>>; PROGRAMS],
     to_reader: SyncSender<Vec<Asked>>,
-    packed: [Vec<u8>; 2],
+    packed: [Vec<u8>; PROGRAMS],
     batch: Vec<Asked>,
     calls: u64,
     /// How many calls of each operation were sent, from the sweep and by chance.
@@ -64,7 +64,7 @@ impl Sender {
     }
 
     fn flush(&mut self) -> Result<(), Enough> {
-        // A channel is closed only where the comparison has ended. A batch is read only once both programs have been sent their part of it.
+        // A channel is closed only where the comparison has ended. A batch is read only once all programs have been sent their part of it.
         for (to_port, packed) in self.to_port.iter().zip(&mut self.packed) {
             to_port.send(std::mem::take(packed)).map_err(|_| Enough)?;
         }
@@ -79,7 +79,7 @@ fn count_answers(answers: &mut BTreeMap<String, u64>, answer: &Answer) {
         *answers.entry(name).or_default() += 1;
     };
     match answer {
-        Answer::Call { end, .. } => count(*end),
+        Answer::Call { end, .. } | Answer::Bytes { end, .. } => count(*end),
         Answer::Salvaged(salvaged) => count(salvaged.end),
         Answer::Run { done, .. } => {
             for d in done {
@@ -190,7 +190,7 @@ pub fn compare(port: port::Paths, calls: u64, seed: u64, damaged: Option<u64>) -
     let mut sender = Sender {
         to_port,
         to_reader,
-        packed: [Vec::new(), Vec::new()],
+        packed: [const { Vec::new() }; PROGRAMS],
         batch: Vec::new(),
         calls: 0,
         sent: names().into_iter().map(|name| (name, [0, 0])).collect(),

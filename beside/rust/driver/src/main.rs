@@ -8,6 +8,7 @@ mod device;
 mod generate;
 mod oracle;
 mod packed;
+mod plain;
 mod port;
 mod salvage;
 
@@ -81,15 +82,17 @@ fn number(args: &[String], name: &str) -> Option<u64> {
 fn main() -> io::Result<ExitCode> {
     let args: Vec<String> = std::env::args().skip(1).collect();
     let (calls, seed) = (number(&args, "--calls"), number(&args, "--seed"));
-    let port = option(&args, "--port").and_then(|ports| Some([ports, option(&args, "--keys")?]));
-    // Calls on lent bytes have a program of their own, which a comparison with the Rust does without.
-    let bytes = option(&args, "--bytes").unwrap_or("replay_bytes");
+    let programs = ["--port", "--keys", "--bytes"].map(|name| option(&args, name));
+    let port = match programs {
+        [Some(ports), Some(keys), Some(bytes)] => Some([ports, keys, bytes]),
+        _ => None,
+    };
     let but = option(&args, "--but").map_or(Ok(Default::default()), port::calls_of);
     match (args.first().map(String::as_str), calls, seed, port) {
         (Some("replay"), None, None, None) => port::answer_lines(by_rust()),
-        (Some("replay"), None, None, Some(port)) => port::replay([port[0], port[1], bytes]),
+        (Some("replay"), None, None, Some(port)) => port::replay(port),
         (Some("held"), None, None, None) => port::held(&but?, by_rust()),
-        (Some("held"), None, None, Some(port)) => port::held_port([port[0], port[1], bytes], &but?),
+        (Some("held"), None, None, Some(port)) => port::held_port(port, &but?),
         (Some("pack"), ..) => {
             let named = |name: &str| args.iter().any(|arg| arg == name);
             port::pack(if named("--keys") { Program::Keys } else { Program::Ports }, named("--answers"), &but?)
@@ -110,7 +113,7 @@ fn main() -> io::Result<ExitCode> {
             eprintln!("       beside pack [--keys] [--answers] [--but TRACE]");
             eprintln!("       beside compare --calls N --seed S PORT [--damage CALL]");
             eprintln!("       beside bench [--rounds N] PORT --tablekeys PROGRAM");
-            eprintln!("where PORT is --port PROGRAM --keys PROGRAM, and for replay and held --bytes PROGRAM");
+            eprintln!("where PORT is --port PROGRAM --keys PROGRAM --bytes PROGRAM");
             Ok(ExitCode::from(2))
         }
     }

@@ -3,6 +3,7 @@
 
 use crate::answer::*;
 use crate::call::*;
+use crate::plain;
 use event_types::Event;
 use keycodes_ascii::{KeyAction, KeyboardModifiers as Flags, Keycode};
 use port_io::{wire, Device, Lack};
@@ -161,6 +162,7 @@ impl Oracle {
         match &call.op {
             Op::Handle(handler, plan) => return self.answer_handle(call, handler, plan),
             Op::ToAscii(keycode, flags) => return answer_to_ascii(*keycode, *flags, call.repeat),
+            op if op.takes_bytes() => return plain::answer(call),
             _ => {}
         }
         if call.op == Op::KeyboardInit {
@@ -203,6 +205,7 @@ impl Oracle {
                 })
             }
             Op::ToAscii(keycode, flags) => drop(answer_to_ascii(keycode, flags, times)),
+            Op::ConvertSet2 => plain::repeat(call, times),
             _ => unreachable!("{} is not measured", call.op.name()),
         }
         assert_eq!(wire().lack, 0, "the script and the log suffice");
@@ -215,7 +218,7 @@ impl Oracle {
         match op {
             Op::Handle(handler, _) => self.set(handler),
             Op::KeyboardInit => self.set(&Handler::default()),
-            Op::ToAscii(..) => return (Vec::new(), 0),
+            Op::ToAscii(..) | Op::ConvertSet2 => return (Vec::new(), 0),
             _ => {}
         }
         wire().script.clear();
@@ -274,7 +277,7 @@ impl Oracle {
                 record = Record::NoHandler;
                 (end, Value::Nothing)
             }
-            Op::Handle(..) | Op::ToAscii(..) | Op::Salvage(_) => unreachable!(),
+            Op::Handle(..) | Op::ToAscii(..) | Op::ConvertSet2 | Op::Salvage(_) => unreachable!(),
         };
         (end, value, record)
     }

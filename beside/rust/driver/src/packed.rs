@@ -5,8 +5,8 @@ use crate::answer::*;
 use crate::call::*;
 use std::io::{self, Read};
 
-/// The port's programs: crates/replay makes the calls on the ports, crates/replay_keys those on keys, crates/replay_bytes those on lent
-/// bytes.
+/// The port's programs: crates/replay makes the calls on the ports, crates/replay_keys those on keys, crates/replay_bytes those on
+/// lent bytes.
 #[derive(Clone, Copy)]
 pub enum Program {
     Ports,
@@ -14,20 +14,24 @@ pub enum Program {
     Bytes,
 }
 
+/// How many programs the port has.
+pub const PROGRAMS: usize = 3;
+
 impl Program {
     /// The program that makes an operation's calls.
     pub fn of(op: &Op) -> Program {
         match op {
             Op::Handle(..) | Op::KeyboardInit | Op::ToAscii(..) => Program::Keys,
-            Op::Salvage(_) => Program::Bytes,
+            Op::ConvertSet2 | Op::Salvage(_) => Program::Bytes,
             _ => Program::Ports,
         }
     }
 }
 
-/// The longest script and the largest room of a log that the port's programs have space for.
+/// The longest script and the largest room of a log that the port's programs have space for, and the most lent bytes, in and out.
 pub const LONGEST_SCRIPT: usize = 1_199_999;
 pub const LARGEST_ROOM: usize = 4096;
+const MOST_BYTES: usize = 65_535;
 
 /// The instructions that are no operation on the ports.
 const PART: u8 = 0;
@@ -39,6 +43,10 @@ const UNTIL_USED: u8 = 34;
 const TAKE: u8 = 35;
 const WAITING: u8 = 36;
 const LEFT: u8 = 37;
+const CONVERT_SET2: u8 = 40;
+
+/// What every place of an output holds before a call on lent bytes.
+const UNTOUCHED: u8 = 0xA5;
 
 /// What a taking leaves where there is no event, and where there is one.
 const NONE_TAKEN: u8 = 2;
@@ -101,22 +109,27 @@ fn operation(op: &Op) -> (u8, u8, u16) {
         Op::Mouse(M::ReadSignedPacket, id) => (38, id.unwrap_or(0), 0),
         Op::KeyboardInit => (28, 0, 0),
         Op::ToAscii(keycode, flags) => (TO_ASCII, keycode, flags),
+        Op::ConvertSet2 => (CONVERT_SET2, 0, 0),
         Op::Handle(..) | Op::Salvage(_) => unreachable!("it is packed by itself"),
     }
 }
 
 /// Puts the instructions of a call.
 pub fn put_call(call: &Call, out: &mut Vec<u8>) -> Result<(), String> {
-    if call.script.len() > LONGEST_SCRIPT {
-        return Err(format!("the port's program takes no script of {} bytes", call.script.len()));
+    let (input, longest, output, largest) = match call.op.takes_bytes() {
+        true => ("input", MOST_BYTES, "output", MOST_BYTES),
+        false => ("script", LONGEST_SCRIPT, "log", LARGEST_ROOM),
+    };
+    if call.script.len() > longest {
+        return Err(format!("the port's program takes no {input} of {} bytes", call.script.len()));
     }
-    if call.room > LARGEST_ROOM {
-        return Err(format!("the port's program has no log of {} bytes", call.room));
+    if call.room > largest {
+        return Err(format!("the port's program has no {output} of {} bytes", call.room));
     }
     if call.repeat > u32::MAX as u64 {
         return Err(format!("the port's program repeats no call {} times", call.repeat));
     }
-    if call.op.takes_script() {
+    if call.op.takes_script() || call.op.takes_bytes() {
         put_script(&call.script, out);
     }
     if call.repeat > 1 && matches!(call.op, Op::Handle(..) | Op::KeyboardInit) {
@@ -287,7 +300,8 @@ pub fn put_answer(op: &Op, answer: &Answer, out: &mut Vec<u8>) -> Result<(), Str
             }
             taken(WAITING, None).put(out);
         }
-        Answer::Salvaged(_) => return Err("no recorded call is a pass over a recording".to_string()),
+        // The port alone answers these, so no answer to one is recorded.
+        Answer::Bytes { .. } | Answer::Salvaged(_) => return Err(format!("an answer to {} is not packed", op.name())),
     }
     Ok(())
 }
@@ -337,8 +351,32 @@ pub fn read_answer(op: &Op, from: &mut impl Read) -> io::Result<Result<Answer, S
     match op {
         Op::Handle(passed, plan) => read_run(passed, plan, from),
         Op::Salvage(salvage) => salvage.read_answer(from),
+        Op::ConvertSet2 => read_bytes(op, from),
         _ => Ok(answer_of(op, Packed::read(from)?)),
     }
+}
+
+/// Reads the answer to a call on lent bytes: the operation and the refusal's number, the bytes used, the bytes written, the output's
+/// length, and all of the output. What was not written must be as it was.
+fn read_bytes(op: &Op, from: &mut impl Read) -> io::Result<Result<Answer, String>> {
+    let mut head = [0; 32];
+    from.read_exact(&mut head)?;
+    let [first, used, written, room] =
+        [0, 1, 2, 3].map(|i| u64::from_le_bytes(head[8 * i..8 * i + 8].try_into().unwrap()));
+    let (number, end) = (first as u8, (first >> 8) as u8);
+    if end == NO_CALL {
+        return Ok(Err("the port's program can't make this call".to_string()));
+    }
+    if number != operation(op).0 || first >> 16 != 0 || room > MOST_BYTES as u64 || written > room {
+        return Err(io::Error::other("what was read is no answer"));
+    }
+    let mut bytes = vec![0; room as usize];
+    from.read_exact(&mut bytes)?;
+    let rest = bytes.split_off(written as usize);
+    Ok(match rest.iter().position(|&byte| byte != UNTOUCHED) {
+        Some(at) => Err(format!("place {} of the output, which was not written, has changed", written as usize + at)),
+        None => Ok(Answer::Bytes { end, used: used as usize, bytes }),
+    })
 }
 
 fn answer_of(op: &Op, packed: Packed) -> Result<Answer, String> {

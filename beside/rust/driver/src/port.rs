@@ -2,14 +2,13 @@
 
 use crate::answer::{self, Answer};
 use crate::call::{self, Call, Op};
-use crate::packed::{put_answer, put_call, read_answer, Program};
+use crate::packed::{put_answer, put_call, read_answer, Program, PROGRAMS};
 use std::collections::BTreeSet;
 use std::io::{self, BufRead, BufReader, BufWriter, Write};
 use std::process::{Child, ChildStdin, ChildStdout, Command, ExitCode, Stdio};
 
-/// The paths of the programs that are compared with the Rust, and of all the port's programs, each at its `Program`'s number.
-pub type Paths<'a> = [&'a str; 2];
-pub type AllPaths<'a> = [&'a str; 3];
+/// The paths of the port's programs, each at its `Program`'s number.
+pub type Paths<'a> = [&'a str; PROGRAMS];
 
 /// One of the port's programs, running.
 pub struct Running {
@@ -37,9 +36,9 @@ impl Running {
 }
 
 /// Starts the port's programs.
-pub fn start(paths: Paths) -> io::Result<[Running; 2]> {
-    let [ports, keys] = paths.map(Running::start);
-    Ok([ports?, keys?])
+pub fn start(paths: Paths) -> io::Result<[Running; PROGRAMS]> {
+    let [ports, keys, bytes] = paths.map(Running::start);
+    Ok([ports?, keys?, bytes?])
 }
 
 /// Answers each call line of standard input. A bad line gets an error with its number, and the exit status 1.
@@ -65,12 +64,12 @@ pub fn answer_lines(mut answer: impl FnMut(&Call) -> Result<Answer, String>) -> 
 
 /// The port's programs, each started by the first call that it makes.
 struct Programs<'a> {
-    paths: AllPaths<'a>,
+    paths: Paths<'a>,
     running: [Option<Running>; 3],
 }
 
 impl<'a> Programs<'a> {
-    fn new(paths: AllPaths<'a>) -> Programs<'a> {
+    fn new(paths: Paths<'a>) -> Programs<'a> {
         Programs { paths, running: [None, None, None] }
     }
 
@@ -85,13 +84,13 @@ impl<'a> Programs<'a> {
 }
 
 /// Answers the call lines of standard input by the port's programs.
-pub fn replay(paths: AllPaths) -> io::Result<ExitCode> {
+pub fn replay(paths: Paths) -> io::Result<ExitCode> {
     let mut programs = Programs::new(paths);
     answer_lines(|call| programs.answer(call))
 }
 
 /// Holds the port's programs to the trace of standard input.
-pub fn held_port(paths: AllPaths, but: &BTreeSet<String>) -> io::Result<ExitCode> {
+pub fn held_port(paths: Paths, but: &BTreeSet<String>) -> io::Result<ExitCode> {
     let mut programs = Programs::new(paths);
     held(but, |call| programs.answer(call))
 }

@@ -1,0 +1,85 @@
+//! What the Rust of docs/src hasn't, as plain safe Rust: what the port's operations on lent bytes are measured against.
+
+use crate::answer::Answer;
+use crate::call::{Call, Op};
+use std::hint::black_box;
+
+/// Brouwer's translation of set 2 to set 1; 00 where there is no entry.
+#[rustfmt::skip]
+static SET1: [u8; 256] = {
+    let mut table = [0; 256];
+    let entries = [
+        0x00, 0x43, 0x41, 0x3F, 0x3D, 0x3B, 0x3C, 0x58, 0x64, 0x44, 0x42, 0x40, 0x3E, 0x0F, 0x29, 0x59,
+        0x65, 0x38, 0x2A, 0x70, 0x1D, 0x10, 0x02, 0x5A, 0x66, 0x71, 0x2C, 0x1F, 0x1E, 0x11, 0x03, 0x5B,
+        0x67, 0x2E, 0x2D, 0x20, 0x12, 0x05, 0x04, 0x5C, 0x68, 0x39, 0x2F, 0x21, 0x14, 0x13, 0x06, 0x5D,
+        0x69, 0x31, 0x30, 0x23, 0x22, 0x15, 0x07, 0x5E, 0x6A, 0x72, 0x32, 0x24, 0x16, 0x08, 0x09, 0x5F,
+        0x6B, 0x33, 0x25, 0x17, 0x18, 0x0B, 0x0A, 0x60, 0x6C, 0x34, 0x35, 0x26, 0x27, 0x19, 0x0C, 0x61,
+        0x6D, 0x73, 0x28, 0x74, 0x1A, 0x0D, 0x62, 0x6E, 0x3A, 0x36, 0x1C, 0x1B, 0x75, 0x2B, 0x63, 0x76,
+        0x55, 0x56, 0x77, 0x78, 0x79, 0x7A, 0x0E, 0x7B, 0x7C, 0x4F, 0x7D, 0x4B, 0x47, 0x7E, 0x7F, 0x6F,
+        0x52, 0x53, 0x50, 0x4C, 0x4D, 0x48, 0x01, 0x45, 0x57, 0x4E, 0x51, 0x4A, 0x37, 0x49, 0x46, 0x54,
+        0x00, 0x00, 0x00, 0x41, 0x54,
+    ];
+    let mut code = 0;
+    while code < entries.len() {
+        table[code] = entries[code];
+        code += 1;
+    }
+    table
+};
+
+/// The refusals of a conversion.
+#[derive(Clone, Copy)]
+enum Refused {
+    NoEntry = 22,
+    OutputFull = 23,
+    EndsAfterF0 = 24,
+}
+
+/// How a conversion ended, the bytes used and the bytes written.
+type Converted = (Result<(), Refused>, usize, usize);
+
+/// Converts a set 2 key stream to set 1.
+fn convert_set2(stream: &[u8], out: &mut [u8]) -> Converted {
+    let (mut used, mut written) = (0, 0);
+    while let Some(&code) = stream.get(used) {
+        let (byte, width) = match code {
+            0xF0 => match stream.get(used + 1) {
+                None => return (Err(Refused::EndsAfterF0), used, written),
+                Some(&code) => match SET1[code as usize] {
+                    0 => (0, 2),
+                    entry => (entry | 0x80, 2),
+                },
+            },
+            0xE0 | 0xE1 => (code, 1),
+            _ => (SET1[code as usize], 1),
+        };
+        if byte == 0 {
+            return (Err(Refused::NoEntry), used, written);
+        }
+        let Some(place) = out.get_mut(written) else {
+            return (Err(Refused::OutputFull), used, written);
+        };
+        *place = byte;
+        written += 1;
+        used += width;
+    }
+    (Ok(()), used, written)
+}
+
+pub fn answer(call: &Call) -> Answer {
+    let mut out = vec![0; call.room];
+    let (end, used, written) = match call.op {
+        Op::ConvertSet2 => convert_set2(&call.script, &mut out),
+        _ => unreachable!("{} takes no lent bytes", call.op.name()),
+    };
+    out.truncate(written);
+    Answer::Bytes { end: end.map_or_else(|refused| refused as u8, |()| 0), used, bytes: out }
+}
+
+/// Makes a call so many times for measuring.
+pub fn repeat(call: &Call, times: u64) {
+    let mut out = vec![0; call.room];
+    for _ in 0..times {
+        let _ = black_box(convert_set2(black_box(&call.script), black_box(&mut out)));
+    }
+}
