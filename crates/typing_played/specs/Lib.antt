@@ -1,0 +1,3 @@
+-- Typed text, read by the handler.
+pub mod Fed
+pub mod Played
