@@ -1,19 +1,20 @@
 -- How many bytes a text takes: two for each character, and two more for each that needs Shift.
 -- Assumes nothing.
-use mathlib.Core.Path.{_≡_, refl, ap, _∙_}
+use mathlib.Core.Path.{_≡_, refl, ap, subst⁻¹, _∙_}
 use mathlib.Core.Bool.{Bool, true, false, false≢true}
 use mathlib.Core.List.{List, [], _∷_}
 use mathlib.Core.Option.{Option, none, some}
 use Prim.Native.Nat.{ℕ, suc, _+_, _*_, _/_, _-_, _<_, _≤_}
 use native.Mathlib.Omega.{arith}
-use lib.ListN.{length, length-append}
+use lib.ListN.{length, drop, length-append}
 use borrow.Author.Tests.{le-leb, lt-leb}
-use Rattle.exchange.specs.Answer.{gives, refuses}
+use Rattle.exchange.specs.Answer.{Answer, gives, refuses}
+use Rattle.ps2_answers.specs.Refusals.{Success}
 use Rattle.keycodes_ascii.specs.declared.Keycode.{Keycode}
 use Rattle.typing.specs.declared.Counted.{Counted}
 use Rattle.typing.specs.declared.TypingAnswer.{TypingAnswer}
 use Rattle.typing.specs.Keys.{Key, keysOf}
-use Rattle.typing.specs.Typing.{strokesOf, scancodes, typed, Accepted, outcome, leaves, saidTyped}
+use Rattle.typing.specs.Typing.{strokesOf, scancodes, typed, Accepted, Outcome, outcome, leaves, saidTyped}
 use Rattle.typing.specs.Lengths.{width, widths, oneMore, withShift, countOf}
 use Rattle.typing.proofs.Texts.{keyed, keyed-length}
 
@@ -106,3 +107,13 @@ module _ {text : List ℕ} {shifted : ℕ} (k : Keys text shifted) (room : ℕ) 
 pub refused : (text out : List ℕ) (a : TypingAnswer) {written n : ℕ} → saidTyped a ≡ refuses n → written ≡ 0 → typed (length out) text ≡ refuses n
     → outcome (saidTyped a) written out ≡ leaves out (typed (length out) text)
 refused text out a e z t = rw (e, z, t)
+
+-- ---- what a call leaves
+
+leaves-le : (out : List ℕ) (a : Answer (List ℕ)) → leaves out a .count ≤ length (leaves out a .output)
+leaves-le out (gives codes) = omega (arith, length-append codes (drop (length codes) out))
+leaves-le out (refuses n) = omega arith
+
+-- no more bytes are counted than the output has
+pub written-le : (text out : List ℕ) {end : Answer Success} {written : ℕ} {left : List ℕ} → outcome end written left ≡ leaves out (typed (length out) text) → written ≤ length left
+written-le text out {end} {written} {left} e = subst⁻¹ (λ (o : Outcome). o .count ≤ length (o .output)) e (leaves-le out (typed (length out) text))
