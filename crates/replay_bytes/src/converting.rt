@@ -17,7 +17,7 @@ const UNTOUCHED: u8 = 0xA5;
 // The bytes of an answer before the output.
 const ANSWER_BYTES: usize = 32;
 
-fn fill(out: &mut [u8]) {
+pub fn fill(out: &mut [u8]) {
     let mut i = 0;
     while i < out.len() {
         out[i] = UNTOUCHED;
@@ -44,7 +44,7 @@ fn convert_times(stream: &[u8], out: &mut [u8], times: usize) -> Outcome {
 }
 
 // Writes an answer: its outcome and all of the output.
-fn write_output(op: u8, o: Outcome, out: &[u8]) {
+pub fn write_output(op: u8, o: Outcome, out: &[u8]) {
     let mut head = [0u8; ANSWER_BYTES];
     pack(&mut head, op, o);
     io::write_all(STDOUT_FILENO, &head);

@@ -1,6 +1,7 @@
 // Replays calls on lent bytes, without ports: reads packed calls from standard input and writes packed answers. tests/traces/README.md tells the format.
 mod converting;
 mod salvaging;
+mod type_texts;
 
 use converting::CONVERT_SET2;
 use converting::answer_conversion;
@@ -17,6 +18,8 @@ use packed_calls::within;
 use packed_calls::write_answer;
 use salvaging::SALVAGE;
 use salvaging::answer_salvage;
+use type_texts::TYPE_TEXT;
+use type_texts::answer_typing;
 
 // Room for the longest input.
 const INPUT_SPACE: usize = 1200000;
@@ -28,6 +31,7 @@ fn answer_with(i: Instruction, input: &[u8], out: &mut [u8]) {
         PART => {}
         END => {}
         CONVERT_SET2 => answer_conversion(i, input, out),
+        TYPE_TEXT => answer_typing(i, input, out),
         SALVAGE => answer_salvage(i, input, out),
         _ => {
             write_answer(op, ending(NO_CALL, 0, 0, 0), out);

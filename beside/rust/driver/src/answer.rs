@@ -21,10 +21,10 @@ pub enum Answer {
         left: Handler,
     },
     Salvaged(Salvaged),
-    /// Of an operation on lent bytes: the input's bytes used, and those written to the output.
+    /// Of an operation on lent bytes: the input's bytes used, where it counts them, and those written to the output.
     Bytes {
         end: u8,
-        used: usize,
+        used: Option<usize>,
         bytes: Vec<u8>,
     },
 }
@@ -181,7 +181,10 @@ impl fmt::Display for Answer {
             }
             Answer::Bytes { end, used, bytes } => {
                 write_end(f, *end)?;
-                write!(f, " used={used} wrote={} bytes={}", bytes.len(), Hex(bytes))
+                if let Some(used) = used {
+                    write!(f, " used={used}")?;
+                }
+                write!(f, " wrote={} bytes={}", bytes.len(), Hex(bytes))
             }
             Answer::Run { done, left } => {
                 let (used, pairs) = counts(done);
@@ -234,7 +237,7 @@ pub fn parse(op: &Op, line: &str) -> Result<Answer, String> {
         };
         Answer::Run { done, left: parse_handler(Some(field("rec")?))? }
     } else if op.takes_bytes() {
-        Answer::Bytes { end: end()?, used: used()?, bytes: parse_script(field("bytes")?)? }
+        Answer::Bytes { end: end()?, used: op.counts_used().then(used).transpose()?, bytes: parse_script(field("bytes")?)? }
     } else {
         Answer::Call {
             end: end()?,

@@ -216,6 +216,19 @@ fn conversion(count: usize) -> String {
     format!("convert_set2 in={} room={}", Hex(&stream), stream.len())
 }
 
+/// The typing of so many characters, with room for all: small letters and spaces, one in eight a capital.
+fn typing(count: usize) -> String {
+    let mut rng = Rng(1);
+    let text: Vec<u8> = (0..count)
+        .map(|_| match rng.below(8) {
+            0 => b'A' + rng.below(26) as u8,
+            1 => b' ',
+            _ => b'a' + rng.below(26) as u8,
+        })
+        .collect();
+    format!("type_text in={} room={}", Hex(&text), 4 * text.len())
+}
+
 /// Packed calls, for one of the port's programs.
 fn packed(calls: &[Call], times: u64) -> Result<Vec<u8>, String> {
     let mut out = Vec::new();
@@ -328,6 +341,13 @@ pub fn bench(port: Paths, tablekeys: &str, rounds: usize) -> io::Result<ExitCode
         ),
         ("`convert`, 600 bytes of set 2", one(&conversion(600)), "the same, shorter"),
         ("`convert`, 6 bytes of set 2", one(&conversion(6)), "the same, two keys: the table, which is put on the stack at each call, is most of it"),
+        (
+            "`type_text`, 16,000 characters",
+            one(&typing(16000)),
+            "small letters and spaces, one in eight a capital; the Rust is plain Rust for the same job (beside/rust/driver/src/plain.rs)",
+        ),
+        ("`type_text`, 160 characters", one(&typing(160)), "the same, shorter"),
+        ("`type_text`, 2 characters", one(&typing(2)), "the same: the table, which is put on the stack at each call, is most of it"),
     ];
     let mut oracle = Oracle::new();
     for (name, lines, contents) in rows {

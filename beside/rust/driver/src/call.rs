@@ -32,6 +32,7 @@ pub enum Op {
     Handle(Handler, Vec<Step>),
     ToAscii(u8, u16),
     ConvertSet2,
+    TypeText,
     Salvage(Salvage),
 }
 
@@ -234,6 +235,7 @@ fn parse_op(name: &str, args: &[&str], state: Option<&str>, plan: Option<&str>) 
             Ok(Op::ToAscii(keycode, parse_flags(args[1])?))
         }
         "convert_set2" => none(Op::ConvertSet2),
+        "type_text" => none(Op::TypeText),
         _ => return Err(format!("there is no operation '{name}'")),
     }?;
     if plan.is_some() && !matches!(op, Op::Handle(..)) {
@@ -488,6 +490,7 @@ impl Op {
             }
             Op::ToAscii(_, flags) => *flags > ALL_FLAGS,
             Op::ConvertSet2 => return Some("the Rust converts no set 2"),
+            Op::TypeText => return Some("the Rust types no text"),
             Op::Salvage(_) => return Some("the Rust salvages no recording"),
             _ => false,
         };
@@ -505,7 +508,12 @@ impl Op {
 
     /// Whether it is an operation on lent bytes: an input and an output, no ports.
     pub fn takes_bytes(&self) -> bool {
-        matches!(self, Op::ConvertSet2)
+        matches!(self, Op::ConvertSet2 | Op::TypeText)
+    }
+
+    /// Whether its answer counts the input's bytes that it used; others take all of it or none.
+    pub fn counts_used(&self) -> bool {
+        !matches!(self, Op::TypeText)
     }
 
     pub fn name(&self) -> &'static str {
@@ -546,6 +554,7 @@ impl Op {
             Op::Handle(..) => "handle",
             Op::ToAscii(..) => "to_ascii",
             Op::ConvertSet2 => "convert_set2",
+            Op::TypeText => "type_text",
             Op::Salvage(_) => salvage::NAME,
         }
     }

@@ -205,7 +205,7 @@ impl Oracle {
                 })
             }
             Op::ToAscii(keycode, flags) => drop(answer_to_ascii(keycode, flags, times)),
-            Op::ConvertSet2 => plain::repeat(call, times),
+            Op::ConvertSet2 | Op::TypeText => plain::repeat(call, times),
             _ => unreachable!("{} is not measured", call.op.name()),
         }
         assert_eq!(wire().lack, 0, "the script and the log suffice");
@@ -218,7 +218,7 @@ impl Oracle {
         match op {
             Op::Handle(handler, _) => self.set(handler),
             Op::KeyboardInit => self.set(&Handler::default()),
-            Op::ToAscii(..) | Op::ConvertSet2 => return (Vec::new(), 0),
+            Op::ToAscii(..) | Op::ConvertSet2 | Op::TypeText => return (Vec::new(), 0),
             _ => {}
         }
         wire().script.clear();
@@ -277,7 +277,7 @@ impl Oracle {
                 record = Record::NoHandler;
                 (end, Value::Nothing)
             }
-            Op::Handle(..) | Op::ToAscii(..) | Op::ConvertSet2 | Op::Salvage(_) => unreachable!(),
+            Op::Handle(..) | Op::ToAscii(..) | Op::ConvertSet2 | Op::TypeText | Op::Salvage(_) => unreachable!(),
         };
         (end, value, record)
     }

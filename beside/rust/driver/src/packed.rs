@@ -22,7 +22,7 @@ impl Program {
     pub fn of(op: &Op) -> Program {
         match op {
             Op::Handle(..) | Op::KeyboardInit | Op::ToAscii(..) => Program::Keys,
-            Op::ConvertSet2 | Op::Salvage(_) => Program::Bytes,
+            Op::ConvertSet2 | Op::TypeText | Op::Salvage(_) => Program::Bytes,
             _ => Program::Ports,
         }
     }
@@ -44,6 +44,7 @@ const TAKE: u8 = 35;
 const WAITING: u8 = 36;
 const LEFT: u8 = 37;
 const CONVERT_SET2: u8 = 40;
+const TYPE_TEXT: u8 = 41;
 
 /// What every place of an output holds before a call on lent bytes.
 const UNTOUCHED: u8 = 0xA5;
@@ -110,6 +111,7 @@ fn operation(op: &Op) -> (u8, u8, u16) {
         Op::KeyboardInit => (28, 0, 0),
         Op::ToAscii(keycode, flags) => (TO_ASCII, keycode, flags),
         Op::ConvertSet2 => (CONVERT_SET2, 0, 0),
+        Op::TypeText => (TYPE_TEXT, 0, 0),
         Op::Handle(..) | Op::Salvage(_) => unreachable!("it is packed by itself"),
     }
 }
@@ -351,7 +353,7 @@ pub fn read_answer(op: &Op, from: &mut impl Read) -> io::Result<Result<Answer, S
     match op {
         Op::Handle(passed, plan) => read_run(passed, plan, from),
         Op::Salvage(salvage) => salvage.read_answer(from),
-        Op::ConvertSet2 => read_bytes(op, from),
+        op if op.takes_bytes() => read_bytes(op, from),
         _ => Ok(answer_of(op, Packed::read(from)?)),
     }
 }
@@ -375,7 +377,7 @@ fn read_bytes(op: &Op, from: &mut impl Read) -> io::Result<Result<Answer, String
     let rest = bytes.split_off(written as usize);
     Ok(match rest.iter().position(|&byte| byte != UNTOUCHED) {
         Some(at) => Err(format!("place {} of the output, which was not written, has changed", written as usize + at)),
-        None => Ok(Answer::Bytes { end, used: used as usize, bytes }),
+        None => Ok(Answer::Bytes { end, used: op.counts_used().then_some(used as usize), bytes }),
     })
 }
 

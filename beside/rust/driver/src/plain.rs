@@ -66,20 +66,104 @@ fn convert_set2(stream: &[u8], out: &mut [u8]) -> Converted {
     (Ok(()), used, written)
 }
 
+/// The keys of a US keyboard: from a code on, the characters without Shift and with it. Where a character stands twice in one column,
+/// the lower code is meant.
+const LAYOUT: [(u8, &[u8], &[u8]); 11] = [
+    (0x01, b"\x1B", b"\x1B"),
+    (0x02, b"1234567890-=", b"!@#$%^&*()_+"),
+    (0x0E, b"\x08\t", b"\x08\t"),
+    (0x10, b"qwertyuiop[]", b"QWERTYUIOP{}"),
+    (0x1C, b"\n", b"\n"),
+    (0x1E, b"asdfghjkl;'`", b"ASDFGHJKL:\"~"),
+    (0x2B, b"\\zxcvbnm,./", b"|ZXCVBNM<>?"),
+    (0x37, b"*", b"*"),
+    (0x39, b" ", b" "),
+    (0x4A, b"-", b"-"),
+    (0x4E, b"+", b"+"),
+];
+
+/// The key of each character, with the top bit where it needs Shift; 00 where there is none. From the highest code down, so that the
+/// lowest stays, and with Shift before without.
+static KEYS: [u8; 256] = {
+    let mut keys = [0; 256];
+    let mut shift = 2;
+    while shift > 0 {
+        shift -= 1;
+        let mut row = LAYOUT.len();
+        while row > 0 {
+            row -= 1;
+            let (code, plain, shifted) = LAYOUT[row];
+            let characters = if shift == 1 { shifted } else { plain };
+            let mut i = characters.len();
+            while i > 0 {
+                i -= 1;
+                keys[characters[i] as usize] = code + i as u8 + 0x80 * shift;
+            }
+        }
+    }
+    keys
+};
+
+/// The refusals of a typing.
+#[derive(Clone, Copy)]
+enum NotTyped {
+    NoKey = 25,
+    OutputShort = 26,
+}
+
+/// Writes the scancodes of a text, and tells how many bytes they are.
+fn type_text(text: &[u8], out: &mut [u8]) -> Result<usize, NotTyped> {
+    let mut needed = 0;
+    for &character in text {
+        match KEYS[character as usize] {
+            0 => return Err(NotTyped::NoKey),
+            0x01..=0x7F => needed += 2,
+            0x80..=0xFF => needed += 4,
+        }
+    }
+    let mut out = out.get_mut(..needed).ok_or(NotTyped::OutputShort)?;
+    for &character in text {
+        let key = KEYS[character as usize];
+        if key < 0x80 {
+            let (strokes, rest) = out.split_at_mut(2);
+            strokes.copy_from_slice(&[key, key | 0x80]);
+            out = rest;
+        } else {
+            let (strokes, rest) = out.split_at_mut(4);
+            strokes.copy_from_slice(&[0x2A, key & 0x7F, key, 0xAA]);
+            out = rest;
+        }
+    }
+    Ok(needed)
+}
+
 pub fn answer(call: &Call) -> Answer {
     let mut out = vec![0; call.room];
     let (end, used, written) = match call.op {
-        Op::ConvertSet2 => convert_set2(&call.script, &mut out),
+        Op::ConvertSet2 => {
+            let (end, used, written) = convert_set2(&call.script, &mut out);
+            (end.map_or_else(|refused| refused as u8, |()| 0), Some(used), written)
+        }
+        Op::TypeText => match type_text(&call.script, &mut out) {
+            Ok(written) => (0, None, written),
+            Err(refused) => (refused as u8, None, 0),
+        },
         _ => unreachable!("{} takes no lent bytes", call.op.name()),
     };
     out.truncate(written);
-    Answer::Bytes { end: end.map_or_else(|refused| refused as u8, |()| 0), used, bytes: out }
+    Answer::Bytes { end, used, bytes: out }
 }
 
 /// Makes a call so many times for measuring.
 pub fn repeat(call: &Call, times: u64) {
     let mut out = vec![0; call.room];
-    for _ in 0..times {
-        let _ = black_box(convert_set2(black_box(&call.script), black_box(&mut out)));
+    match call.op {
+        Op::ConvertSet2 => (0..times).for_each(|_| {
+            let _ = black_box(convert_set2(black_box(&call.script), black_box(&mut out)));
+        }),
+        Op::TypeText => (0..times).for_each(|_| {
+            let _ = black_box(type_text(black_box(&call.script), black_box(&mut out)));
+        }),
+        _ => unreachable!("{} takes no lent bytes", call.op.name()),
     }
 }
