@@ -37,7 +37,23 @@ answered room text = by (keysOf text) refl
     by none e = subst⁻¹ (Answered room text) (typed-no-key text room e) (a-25 (keyless text e))
     by (some keys) e = fits keys e (decLt room (widths keys))
 
--- the keys of a text that is accepted
+-- ---- and each answer is given for nothing else
+
+before-none : (o : Option Key) → before o none ≡ none
+before-none none = refl
+before-none (some k) = refl
+
+keyless-none : {text : List ℕ} → Keyless text → keysOf text ≡ none
+unfolding keysOf
+keyless-none (first e) = rw e
+keyless-none (later {c = c} h) = rw (keyless-none h) (before-none (keyOf c))
+
+pub answered-typed : {room : ℕ} {text : List ℕ} {a : Answer (List ℕ)} → Answered room text a → typed room text ≡ a
+answered-typed {room} {text} (a-25 h) = typed-no-key text room (keyless-none h)
+answered-typed {room} {text} (a-26 keys e l) = typed-short text e room (rw (scancodes-widths keys) l)
+answered-typed {room} {text} (done keys e l) = typed-fits text e room (rw (scancodes-widths keys) l)
+
+-- ---- the keys of a text that is accepted
 
 abbrev codesOf : Answer (List ℕ) → List ℕ
 codesOf (gives codes) = codes

@@ -16,7 +16,7 @@ pub data Keyless : List ℕ → Type 0 where
   first : {c : ℕ} {text : List ℕ} → keyOf c ≡ none → Keyless (c ∷ text)
   later : {c : ℕ} {text : List ℕ} → Keyless text → Keyless (c ∷ text)
 
--- "25 if a character has no key; 26 if the output is too short; 25 is asked first." No two of the three can be.
+-- "25 if a character has no key; 26 if the output is too short; 25 is asked first."
 pub data Answered (room : ℕ) (text : List ℕ) : Answer (List ℕ) → Type 0 where
   a-25 : Keyless text → Answered room text (refuses 25)
   a-26 : (keys : List Key) → keysOf text ≡ some keys → room < widths keys → Answered room text (refuses 26)
