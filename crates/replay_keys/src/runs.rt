@@ -281,16 +281,29 @@ fn completion_number(answer: Completion) -> u8 {
     }
 }
 
-// The character, asked for so many times, for measuring.
+// The character, asked for so many times, for measuring. Keycode and flags are read from a row of events, and each character is held to
+// the first, so that the compiler takes no call out of the loop.
 fn ascii_times(keycode: Keycode, modifiers: KeyboardModifiers, times: usize) -> Character {
-    let mut character = keycode.to_ascii(modifiers);
+    let event = KeyEvent {
+        keycode,
+        action: KeyAction::Pressed,
+        modifiers,
+    };
+    let events = [event; 64];
+    let first = keycode.to_ascii(modifiers);
+    let number = character_number(first);
     let mut i = 1;
     while i < times {
-        let again = keycode.to_ascii(modifiers);
-        character = again;
+        let at = i % 64;
+        let again = events[at];
+        let key = again.keycode;
+        let flags = again.modifiers;
+        if character_number(key.to_ascii(flags)) != number {
+            return Character::Absent;
+        }
         i += 1;
     }
-    character
+    first
 }
 
 // A character's number, or 256.
