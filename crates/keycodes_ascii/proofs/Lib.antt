@@ -1,3 +1,4 @@
--- Laws of keycodes and characters.
+-- Laws of keycodes, characters and their table.
 pub mod Codes
 pub mod Chars
+pub mod CharacterTable

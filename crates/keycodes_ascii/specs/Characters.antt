@@ -153,11 +153,3 @@ characterOfFound Unknown m = Absent
 
 unfoldable pub scancodeCharacter : KeyboardModifiers → ℕ → Character
 scancodeCharacter m b = characterOfFound (keycodeOf b) m
-
--- The character of the key that has a number, with Shift or without, where Caps Lock is off; none where no key has it.
-abbrev pub characterFound : Bool → FoundKeycode → Character
-characterFound shift (Found k) = character (writes k) shift false
-characterFound shift Unknown = Absent
-
-unfoldable pub characterAt : Bool → ℕ → Character
-characterAt shift n = characterFound shift (keycodeOf n)

@@ -1,9 +1,13 @@
 // Keycodes, key events and characters: Theseus's `keycodes_ascii`.
 ghost use mathlib.Core.Path.{_≡_};
-ghost use mathlib.Core.Bool.{true, false};
 ghost use Rattle.keycodes_ascii.specs.Keycode.{numberOf, keycodeOf};
-ghost use Rattle.keycodes_ascii.specs.Characters.{writes, isLetter, character, characterOf, characterAt, scancodeCharacter};
+ghost use Rattle.keycodes_ascii.specs.Characters.{writes, isLetter, characterOf, scancodeCharacter};
+ghost use Rattle.keycodes_ascii.specs.CharacterTable.{entryCharacter, columnOf, Agrees};
 use keyboard_modifiers::KeyboardModifiers;
+use layout::CHARACTERS;
+use layout::KEYCODES;
+
+mod layout;
 
 // Whether a key was pressed or released.
 pub enum KeyAction {
@@ -37,6 +41,18 @@ pub const KEY_RELEASED_OFFSET: u8 = 128;
 pub enum Character {
     Ascii(u8),
     Absent,
+}
+
+impl Character {
+    // The character that an entry of the table stands for.
+    fn of_entry(entry: u8) -> Character
+        ensures { λ r. ⌜ r ≡ entryCharacter entry ⌝ }
+    {
+        if entry == 0 {
+            return Character::Absent;
+        }
+        Character::Ascii(entry)
+    }
 }
 
 // The character of a raw scancode under the given modifiers.
@@ -159,132 +175,20 @@ pub enum FoundKeycode {
     Unknown,
 }
 
-// The character of the key that has the number `code`, without Shift.
-fn unshifted(code: u8) -> Character
-    ensures { λ r. ⌜ r ≡ characterAt false code ⌝ }
+// The column of the table with Shift or without, with Caps Lock or without.
+fn column(shift: bool, caps_lock: bool) -> usize
+    ensures { λ r. ⌜ r ≡ columnOf shift «caps_lock» ⌝ }
 {
-    match code {
-        0x01 => Character::Ascii(0x1B),
-        0x02 => Character::Ascii(b'1'),
-        0x03 => Character::Ascii(b'2'),
-        0x04 => Character::Ascii(b'3'),
-        0x05 => Character::Ascii(b'4'),
-        0x06 => Character::Ascii(b'5'),
-        0x07 => Character::Ascii(b'6'),
-        0x08 => Character::Ascii(b'7'),
-        0x09 => Character::Ascii(b'8'),
-        0x0A => Character::Ascii(b'9'),
-        0x0B => Character::Ascii(b'0'),
-        0x0C => Character::Ascii(b'-'),
-        0x0D => Character::Ascii(b'='),
-        0x0E => Character::Ascii(0x08),
-        0x0F => Character::Ascii(b'\t'),
-        0x10 => Character::Ascii(b'q'),
-        0x11 => Character::Ascii(b'w'),
-        0x12 => Character::Ascii(b'e'),
-        0x13 => Character::Ascii(b'r'),
-        0x14 => Character::Ascii(b't'),
-        0x15 => Character::Ascii(b'y'),
-        0x16 => Character::Ascii(b'u'),
-        0x17 => Character::Ascii(b'i'),
-        0x18 => Character::Ascii(b'o'),
-        0x19 => Character::Ascii(b'p'),
-        0x1A => Character::Ascii(b'['),
-        0x1B => Character::Ascii(b']'),
-        0x1C => Character::Ascii(b'\n'),
-        0x1E => Character::Ascii(b'a'),
-        0x1F => Character::Ascii(b's'),
-        0x20 => Character::Ascii(b'd'),
-        0x21 => Character::Ascii(b'f'),
-        0x22 => Character::Ascii(b'g'),
-        0x23 => Character::Ascii(b'h'),
-        0x24 => Character::Ascii(b'j'),
-        0x25 => Character::Ascii(b'k'),
-        0x26 => Character::Ascii(b'l'),
-        0x27 => Character::Ascii(b';'),
-        0x28 => Character::Ascii(b'\''),
-        0x29 => Character::Ascii(b'`'),
-        0x2B => Character::Ascii(b'\\'),
-        0x2C => Character::Ascii(b'z'),
-        0x2D => Character::Ascii(b'x'),
-        0x2E => Character::Ascii(b'c'),
-        0x2F => Character::Ascii(b'v'),
-        0x30 => Character::Ascii(b'b'),
-        0x31 => Character::Ascii(b'n'),
-        0x32 => Character::Ascii(b'm'),
-        0x33 => Character::Ascii(b','),
-        0x34 => Character::Ascii(b'.'),
-        0x35 => Character::Ascii(b'/'),
-        0x37 => Character::Ascii(b'*'),
-        0x39 => Character::Ascii(b' '),
-        0x4A => Character::Ascii(b'-'),
-        0x4E => Character::Ascii(b'+'),
-        _ => Character::Absent,
+    if shift {
+        if caps_lock {
+            return 3;
+        }
+        return 1;
     }
-}
-
-// The character of the key that has the number `code`, with Shift.
-fn shifted(code: u8) -> Character
-    ensures { λ r. ⌜ r ≡ characterAt true code ⌝ }
-{
-    match code {
-        0x01 => Character::Ascii(0x1B),
-        0x02 => Character::Ascii(b'!'),
-        0x03 => Character::Ascii(b'@'),
-        0x04 => Character::Ascii(b'#'),
-        0x05 => Character::Ascii(b'$'),
-        0x06 => Character::Ascii(b'%'),
-        0x07 => Character::Ascii(b'^'),
-        0x08 => Character::Ascii(b'&'),
-        0x09 => Character::Ascii(b'*'),
-        0x0A => Character::Ascii(b'('),
-        0x0B => Character::Ascii(b')'),
-        0x0C => Character::Ascii(b'_'),
-        0x0D => Character::Ascii(b'+'),
-        0x0E => Character::Ascii(0x08),
-        0x0F => Character::Ascii(b'\t'),
-        0x10 => Character::Ascii(b'Q'),
-        0x11 => Character::Ascii(b'W'),
-        0x12 => Character::Ascii(b'E'),
-        0x13 => Character::Ascii(b'R'),
-        0x14 => Character::Ascii(b'T'),
-        0x15 => Character::Ascii(b'Y'),
-        0x16 => Character::Ascii(b'U'),
-        0x17 => Character::Ascii(b'I'),
-        0x18 => Character::Ascii(b'O'),
-        0x19 => Character::Ascii(b'P'),
-        0x1A => Character::Ascii(b'{'),
-        0x1B => Character::Ascii(b'}'),
-        0x1C => Character::Ascii(b'\n'),
-        0x1E => Character::Ascii(b'A'),
-        0x1F => Character::Ascii(b'S'),
-        0x20 => Character::Ascii(b'D'),
-        0x21 => Character::Ascii(b'F'),
-        0x22 => Character::Ascii(b'G'),
-        0x23 => Character::Ascii(b'H'),
-        0x24 => Character::Ascii(b'J'),
-        0x25 => Character::Ascii(b'K'),
-        0x26 => Character::Ascii(b'L'),
-        0x27 => Character::Ascii(b':'),
-        0x28 => Character::Ascii(b'"'),
-        0x29 => Character::Ascii(b'~'),
-        0x2B => Character::Ascii(b'|'),
-        0x2C => Character::Ascii(b'Z'),
-        0x2D => Character::Ascii(b'X'),
-        0x2E => Character::Ascii(b'C'),
-        0x2F => Character::Ascii(b'V'),
-        0x30 => Character::Ascii(b'B'),
-        0x31 => Character::Ascii(b'N'),
-        0x32 => Character::Ascii(b'M'),
-        0x33 => Character::Ascii(b'<'),
-        0x34 => Character::Ascii(b'>'),
-        0x35 => Character::Ascii(b'?'),
-        0x37 => Character::Ascii(b'*'),
-        0x39 => Character::Ascii(b' '),
-        0x4A => Character::Ascii(b'-'),
-        0x4E => Character::Ascii(b'+'),
-        _ => Character::Absent,
+    if caps_lock {
+        return 2;
     }
+    0
 }
 
 impl Keycode {
@@ -506,25 +410,24 @@ impl Keycode {
         }
     }
 
-    // The character of this key under the given modifiers.
+    // The character of this key under the given modifiers: the table's entry.
     pub fn to_ascii(self, modifiers: KeyboardModifiers) -> Character
         ensures { λ r. ⌜ r ≡ characterOf self modifiers ⌝ }
     {
-        if modifiers.is_shift() {
-            // Shift and Caps Lock together give a small letter
-            if modifiers.is_caps_lock() {
-                if self.is_letter() {
-                    return self.as_ascii();
-                }
-            }
-            return self.as_ascii_shifted();
+        self.character_in(CHARACTERS, modifiers)
+    }
+
+    // The character of this key in a table that agrees with the rule. The release codes have no row, and no character.
+    fn character_in(self, table: [[u8; 4]; KEYCODES], modifiers: KeyboardModifiers) -> Character
+        requires { ⌜ Agrees table ⌝ }
+        ensures { λ r. ⌜ r ≡ characterOf self modifiers ⌝ }
+    {
+        let code = self.to_byte() as usize;
+        let at = column(modifiers.is_shift(), modifiers.is_caps_lock());
+        if code < KEYCODES {
+            return Character::of_entry(table[code][at]);
         }
-        if modifiers.is_caps_lock() {
-            if self.is_letter() {
-                return self.as_ascii_shifted();
-            }
-        }
-        self.as_ascii()
+        Character::Absent
     }
 
     // Whether this is a letter from A to Z.
@@ -560,19 +463,5 @@ impl Keycode {
             | Keycode::M => true,
             _ => false,
         }
-    }
-
-    // The character of this key without Shift.
-    fn as_ascii(self) -> Character
-        ensures { λ r. ⌜ r ≡ character (writes self) false false ⌝ }
-    {
-        unshifted(self.to_byte())
-    }
-
-    // The character of this key with Shift, which is the same where Shift changes nothing.
-    fn as_ascii_shifted(self) -> Character
-        ensures { λ r. ⌜ r ≡ character (writes self) true false ⌝ }
-    {
-        shifted(self.to_byte())
     }
 }
