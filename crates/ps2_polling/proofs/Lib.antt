@@ -1,5 +1,6 @@
 -- Laws of polling.
 pub mod Polls
+pub mod Receiving
 pub mod Bounds
 pub mod Attained
 pub mod Refuses
