@@ -74,12 +74,7 @@ fn verdict(response: DeviceToHostResponse) -> Attempt
 }
 
 // One attempt: sends the byte, and reads the response. What is thrown away comes behind the bytes kept before, here and below.
-fn attempt_once(
-    script: &[u8],
-    log: &mut [u8],
-    value: HostToDevice,
-    before: KeptBytes,
-) -> Attempted
+fn attempt_once(script: &[u8], log: &mut [u8], value: HostToDevice, before: KeptBytes) -> Attempted
     ensures { λ r. ⌜ PlaysKept (keepingOnto before (attemptRule value)) (now (script .entry)) (now (log .entry)) (saidAttempt (r .attempt)) (r .used) (r .pairs) (now (log .exit)) (r .kept) ⌝ }
 {
     let s = polling_send_receive_onto(script, log, value, before);
@@ -100,12 +95,7 @@ fn attempt_once(
 }
 
 // A command to the device of the first port, or to whichever the controller was told to send the next byte to.
-fn command_onto(
-    script: &[u8],
-    log: &mut [u8],
-    value: HostToDevice,
-    before: KeptBytes,
-) -> Commanded
+fn command_onto(script: &[u8], log: &mut [u8], value: HostToDevice, before: KeptBytes) -> Commanded
     ensures { λ r. ⌜ PlaysKept (keepingOnto before (commandRule value)) (now (script .entry)) (now (log .entry)) (saidDone (r .answer)) (r .used) (r .pairs) (now (log .exit)) (r .kept) ⌝ }
 {
     let mut used: usize = 0;
