@@ -2,6 +2,7 @@
 //! and read from one.
 
 use crate::call::*;
+use crate::kept::Kept;
 use crate::salvage::Salvaged;
 use std::fmt;
 
@@ -21,6 +22,7 @@ pub enum Answer {
         left: Handler,
     },
     Salvaged(Salvaged),
+    Kept(Kept),
 }
 
 /// What a call answers beside its end.
@@ -177,6 +179,7 @@ impl fmt::Display for Answer {
                 write!(f, "{} rec={left}", if done.is_empty() { "-" } else { "" })
             }
             Answer::Salvaged(salvaged) => write!(f, "{salvaged}"),
+            Answer::Kept(kept) => write!(f, "{kept}"),
         }
     }
 }

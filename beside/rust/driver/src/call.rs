@@ -1,5 +1,6 @@
 //! A call line of the trace format (tests/traces/README.md), read and written.
 
+use crate::kept;
 use crate::salvage::{self, Salvage};
 use std::fmt::{self, Write};
 
@@ -31,6 +32,8 @@ pub enum Op {
     Handle(Handler, Vec<Step>),
     ToAscii(u8, u16),
     Salvage(Salvage),
+    /// A call whose line ends in `show=kept`.
+    Kept(Box<Op>),
 }
 
 #[derive(Clone, Copy, Debug, PartialEq)]
@@ -122,7 +125,7 @@ pub fn parse(line: &str) -> Result<Call, String> {
     while let Some(word) = words.next_if(|word| !word.contains('=')) {
         args.push(word);
     }
-    let (mut script, mut room, mut state, mut plan, mut repeat) = (None, None, None, None, None);
+    let (mut script, mut room, mut state, mut plan, mut repeat, mut show) = (None, None, None, None, None, None);
     for word in words {
         let (key, value) = word.split_once('=').ok_or_else(|| format!("'{word}' is not key=value"))?;
         let field = match key {
@@ -131,13 +134,18 @@ pub fn parse(line: &str) -> Result<Call, String> {
             "state" => &mut state,
             "plan" => &mut plan,
             "repeat" => &mut repeat,
+            "show" => &mut show,
             _ => return Err(format!("there is no field '{key}='")),
         };
         if field.replace(value).is_some() {
             return Err(format!("the field '{key}=' comes twice"));
         }
     }
-    let op = parse_op(name, &args, state, plan)?;
+    let op = match (parse_op(name, &args, state, plan)?, show) {
+        (op, None) => op,
+        (op, Some("kept")) if kept::keeps(&op) => Op::Kept(Box::new(op)),
+        (_, Some(value)) => return Err(format!("{name} has no '{value}' to show")),
+    };
     for (key, value, takes) in [("script", script, op.takes_script()), ("log", room, op.takes_log())] {
         match (value, takes) {
             (None, true) => return Err(format!("the field '{key}=' is missing")),
@@ -475,9 +483,18 @@ impl Op {
             }
             Op::ToAscii(_, flags) => *flags > ALL_FLAGS,
             Op::Salvage(_) => return Some("the Rust salvages no recording"),
+            Op::Kept(_) => return Some("the Rust hands back no bytes that it threw away"),
             _ => false,
         };
         has_other_flags.then_some("the Rust has no flag above bit 9")
+    }
+
+    /// The operation, whether or not its call shows the bytes that it threw away.
+    fn without_show(&self) -> &Op {
+        match self {
+            Op::Kept(op) => op,
+            op => op,
+        }
     }
 
     /// Whether a call's line has a script, and whether it has a log's room.
@@ -527,6 +544,7 @@ impl Op {
             Op::Handle(..) => "handle",
             Op::ToAscii(..) => "to_ascii",
             Op::Salvage(_) => salvage::NAME,
+            Op::Kept(op) => op.name(),
         }
     }
 
@@ -535,6 +553,7 @@ impl Op {
         use KeyboardOp as K;
         use MouseOp as M;
         match *self {
+            Op::Kept(ref op) => op.push_args(out),
             Op::WriteConfig(byte) | Op::Keyboard(K::Command(byte)) | Op::Mouse(M::Command(byte), _) => {
                 write!(out, " {byte:02X}").unwrap()
             }
@@ -559,7 +578,7 @@ impl Call {
             return out;
         }
         self.op.push_args(&mut out);
-        match &self.op {
+        match self.op.without_show() {
             Op::Init(controller) if *controller != Controller::default() => write!(out, " state={controller}").unwrap(),
             Op::Mouse(_, Some(id)) => write!(out, " state=id:{id}").unwrap(),
             Op::Handle(handler, _) if *handler != Handler::default() => push_handler(&mut out, handler),
@@ -577,6 +596,9 @@ impl Call {
         }
         if self.repeat != 1 {
             write!(out, " repeat={}", self.repeat).unwrap();
+        }
+        if let Op::Kept(_) = self.op {
+            out += " show=kept";
         }
         out
     }

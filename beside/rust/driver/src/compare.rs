@@ -81,6 +81,7 @@ fn count_answers(answers: &mut BTreeMap<String, u64>, answer: &Answer) {
     match answer {
         Answer::Call { end, .. } => count(*end),
         Answer::Salvaged(salvaged) => count(salvaged.end),
+        Answer::Kept(kept) => count_answers(answers, &kept.answer),
         Answer::Run { done, .. } => {
             for d in done {
                 if let Done::Handled { end, lamps_failed, .. } = d {

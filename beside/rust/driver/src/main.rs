@@ -6,6 +6,7 @@ mod call;
 mod compare;
 mod device;
 mod generate;
+mod kept;
 mod oracle;
 mod packed;
 mod port;

@@ -274,7 +274,7 @@ impl Oracle {
                 record = Record::NoHandler;
                 (end, Value::Nothing)
             }
-            Op::Handle(..) | Op::ToAscii(..) | Op::Salvage(_) => unreachable!(),
+            Op::Handle(..) | Op::ToAscii(..) | Op::Salvage(_) | Op::Kept(_) => unreachable!(),
         };
         (end, value, record)
     }

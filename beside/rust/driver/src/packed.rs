@@ -3,6 +3,7 @@
 
 use crate::answer::*;
 use crate::call::*;
+use crate::kept;
 use std::io::{self, Read};
 
 /// The port's programs: crates/replay makes the calls on the ports, crates/replay_keys those on keys, crates/replay_bytes those on lent
@@ -67,7 +68,7 @@ impl Instruction {
 }
 
 /// The number of an operation on the ports, or of one that has no run, its argument and its state.
-fn operation(op: &Op) -> (u8, u8, u16) {
+pub fn operation(op: &Op) -> (u8, u8, u16) {
     use KeyboardOp as K;
     use MouseOp as M;
     match *op {
@@ -101,7 +102,7 @@ fn operation(op: &Op) -> (u8, u8, u16) {
         Op::Mouse(M::ReadSignedPacket, id) => (38, id.unwrap_or(0), 0),
         Op::KeyboardInit => (28, 0, 0),
         Op::ToAscii(keycode, flags) => (TO_ASCII, keycode, flags),
-        Op::Handle(..) | Op::Salvage(_) => unreachable!("it is packed by itself"),
+        Op::Handle(..) | Op::Salvage(_) | Op::Kept(_) => unreachable!("it is packed by itself"),
     }
 }
 
@@ -126,6 +127,8 @@ pub fn put_call(call: &Call, out: &mut Vec<u8>) -> Result<(), String> {
         put_run(call, handler, plan, out);
     } else if let Op::Salvage(salvage) = &call.op {
         return salvage.put_call(call, out);
+    } else if let Op::Kept(op) = &call.op {
+        return kept::put_call(op, call, out);
     } else {
         let (op, argument, state) = operation(&call.op);
         Instruction { op, argument, state, room: call.room, times: call.repeat as usize }.put(out);
@@ -288,6 +291,7 @@ pub fn put_answer(op: &Op, answer: &Answer, out: &mut Vec<u8>) -> Result<(), Str
             taken(WAITING, None).put(out);
         }
         Answer::Salvaged(_) => return Err("no recorded call is a pass over a recording".to_string()),
+        Answer::Kept(_) => return Err("no recorded call shows the bytes that it threw away".to_string()),
     }
     Ok(())
 }
@@ -337,11 +341,12 @@ pub fn read_answer(op: &Op, from: &mut impl Read) -> io::Result<Result<Answer, S
     match op {
         Op::Handle(passed, plan) => read_run(passed, plan, from),
         Op::Salvage(salvage) => salvage.read_answer(from),
+        Op::Kept(op) => kept::read_answer(op, from),
         _ => Ok(answer_of(op, Packed::read(from)?)),
     }
 }
 
-fn answer_of(op: &Op, packed: Packed) -> Result<Answer, String> {
+pub fn answer_of(op: &Op, packed: Packed) -> Result<Answer, String> {
     let (number, ..) = operation(op);
     let bad = |packed: Packed| Err(format!("no answer to {}: {packed:?}", op.name()));
     if packed.number == NO_CALL {
