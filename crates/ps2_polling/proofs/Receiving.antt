@@ -51,7 +51,7 @@ module _ {S A : Type 0} (note : S → ℕ → S) (worth : ℕ → Turn (Answer A
 
 -- ---- a byte that is a response, and one that is thrown away
 
-abbrev isUnlisted : ResponseByte → Bool
+abbrev pub isUnlisted : ResponseByte → Bool
 isUnlisted (ResponseByte.Listed r) = false
 isUnlisted ResponseByte.Unlisted = true
 
