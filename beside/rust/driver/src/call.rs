@@ -483,7 +483,6 @@ impl Op {
             }
             Op::ToAscii(_, flags) => *flags > ALL_FLAGS,
             Op::Salvage(_) => return Some("the Rust salvages no recording"),
-            Op::Kept(_) => return Some("the Rust hands back no bytes that it threw away"),
             _ => false,
         };
         has_other_flags.then_some("the Rust has no flag above bit 9")

@@ -5,6 +5,7 @@ use crate::call;
 use crate::call::{Call, Op};
 use crate::device::Rng;
 use crate::generate::{by_chance, kind_by_chance, names, sweep, sweep_lengths, Enough, KINDS};
+use crate::kept;
 use crate::oracle::Oracle;
 use crate::packed::{put_call, read_answer, Program};
 use crate::port::{self, Running};
@@ -48,7 +49,7 @@ impl Sender {
     fn send(&mut self, oracle: &mut Oracle, call: Call, from: Source) -> Result<(), Enough> {
         const BATCH: usize = 256;
         // Both sides are called by what the line says.
-        let line = call.line();
+        let line = kept::shown(call).line();
         let call = call::parse(&line).expect("a good line");
         put_call(&call, &mut self.packed[Program::of(&call.op) as usize]).expect("a call within the program's space");
         self.calls += 1;

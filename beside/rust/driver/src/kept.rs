@@ -1,4 +1,5 @@
-//! A call with the bytes that it threw away, `show=kept`: its answer, and both packed. The Rust hands back no such bytes.
+//! A call with the bytes that it threw away, `show=kept`: its answer, and both packed. The Rust hands back no such bytes, but what it
+//! read tells them.
 
 use crate::answer::Answer;
 use crate::call::{Call, Hex, KeyboardOp, MouseOp, Op};
@@ -10,7 +11,7 @@ use std::io::{self, Read};
 const KEEPING: u8 = 39;
 
 /// The most bytes that are handed back.
-const KEPT_LIMIT: u64 = 16;
+const KEPT_LIMIT: usize = 16;
 
 #[derive(Clone, Debug, PartialEq)]
 pub struct Kept {
@@ -30,6 +31,21 @@ pub fn keeps(op: &Op) -> bool {
             | Op::Keyboard(K::Command(_) | K::DataSet(_) | K::DataLed(_) | K::SetLed(_))
             | Op::Mouse(M::Command(_) | M::DataRate(_) | M::DataResolution(_), _)
     )
+}
+
+/// The call with its bytes shown, where it hands back some and is made once.
+pub fn shown(mut call: Call) -> Call {
+    if call.repeat == 1 && keeps(&call.op) {
+        call.op = Op::Kept(Box::new(call.op));
+    }
+    call
+}
+
+/// The earliest of the bytes that were thrown away, and the number of the others.
+pub fn keeping(mut thrown: Vec<u8>) -> (Vec<u8>, usize) {
+    let others = thrown.len().saturating_sub(KEPT_LIMIT);
+    thrown.truncate(KEPT_LIMIT);
+    (thrown, others)
 }
 
 /// Puts the call of an operation; the operation's number goes as the state.
@@ -53,7 +69,7 @@ pub fn read_answer(op: &Op, from: &mut impl Read) -> io::Result<Result<Answer, S
         Err(why) => return Ok(Err(why)),
     };
     let Packed { used: others, value: count, mut log, .. } = Packed::read(from)?;
-    if count > KEPT_LIMIT || log.len() as u64 != count + count % 2 {
+    if count > KEPT_LIMIT as u64 || log.len() as u64 != count + count % 2 {
         return Ok(Err(format!("no bytes of {}: {count} of {log:?}", op.name())));
     }
     log.truncate(count as usize);

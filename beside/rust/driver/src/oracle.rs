@@ -3,12 +3,15 @@
 
 use crate::answer::*;
 use crate::call::*;
+use crate::kept::{keeping, Kept};
 use event_types::Event;
 use keycodes_ascii::{KeyAction, KeyboardModifiers as Flags, Keycode};
 use port_io::{wire, Device, Lack};
 use ps2::*;
+use std::cell::RefCell;
 use std::hint::black_box;
 use std::panic::{catch_unwind, resume_unwind, AssertUnwindSafe};
+use std::rc::Rc;
 
 /// Document 01's number for each text with which the Rust fails.
 const NUMBERS: [(&str, u8); 23] = [
@@ -87,6 +90,24 @@ impl KeyEvent {
     }
 }
 
+/// Gives a script byte by byte, and notes the bytes that reads of the data port were given.
+struct Noting {
+    script: std::vec::IntoIter<u8>,
+    data: Rc<RefCell<Vec<u8>>>,
+}
+
+impl Device for Noting {
+    fn read(&mut self, port: u16, script: &mut Vec<u8>) {
+        let byte = self.script.next();
+        script.extend(byte);
+        if port == 0x60 {
+            self.data.borrow_mut().extend(byte);
+        }
+    }
+
+    fn write(&mut self, _port: u16, _value: u8) {}
+}
+
 /// How a call of the Rust ended: 0, or the number of its refusal.
 pub type End = u8;
 
@@ -161,6 +182,7 @@ impl Oracle {
         match &call.op {
             Op::Handle(handler, plan) => return self.answer_handle(call, handler, plan),
             Op::ToAscii(keycode, flags) => return answer_to_ascii(*keycode, *flags, call.repeat),
+            Op::Kept(op) => return self.answer_kept(op, call),
             _ => {}
         }
         if call.op == Op::KeyboardInit {
@@ -175,6 +197,22 @@ impl Oracle {
         let (used, log) = (wire().at, wire().log.clone());
         let record = if call.op == Op::KeyboardInit && end == 0 { Record::Handler(self.left()) } else { record };
         Answer::Call { end, used, log, value, record }
+    }
+
+    /// A call with the bytes that it threw away. The Rust hands none back; those that it read from the data port and that are no
+    /// response are told here.
+    fn answer_kept(&mut self, op: &Op, call: &Call) -> Answer {
+        let data = Rc::new(RefCell::new(Vec::new()));
+        wire().script.clear();
+        wire().device = Some(Box::new(Noting { script: call.script.clone().into_iter(), data: data.clone() }));
+        let (end, value, record) = self.port_operation(op, call.room);
+        wire().device = None;
+        let (used, log) = (wire().at, wire().log.clone());
+        let unlisted = data.take().into_iter().filter(|&byte| DeviceToHostResponse::try_from(byte).is_err());
+        // After 2 and 3 nothing is handed back.
+        let thrown = if matches!(end, 2 | 3) { Vec::new() } else { unlisted.collect() };
+        let (bytes, others) = keeping(thrown);
+        Answer::Kept(Kept { answer: Box::new(Answer::Call { end, used, log, value, record }), bytes, others })
     }
 
     /// Makes a call so many times for measuring, with nothing between two calls but what sets state, script and log again. The
