@@ -25,3 +25,4 @@ pub mod ReadingThen
 pub mod Keeping
 pub mod NoData
 pub mod KeepingRepeat
+pub mod KeepingBounds
