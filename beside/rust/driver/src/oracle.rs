@@ -317,6 +317,38 @@ impl Oracle {
         (end, value, record)
     }
 
+    /// The run as far as its calls begin with none waiting in the port, where bytes come to wait: up to the first call whose lamp
+    /// exchange threw some away.
+    pub fn before_waiting(&mut self, call: &Call, answer: &Answer) -> Option<Call> {
+        let (Op::Handle(handler, _), Answer::Run { done, .. }) = (&call.op, answer) else { return None };
+        let mut at = 0;
+        let caught = done.iter().position(|d| match d {
+            Done::Handled { used, log, .. } if !log.is_empty() => {
+                let exchange = &call.script[at + 1..at + used];
+                at += used;
+                self.throws_away(exchange, call.room)
+            }
+            Done::Handled { used, .. } => {
+                at += used;
+                false
+            }
+            _ => false,
+        })?;
+        let plan = done[..=caught].iter().map(|d| match d {
+            Done::Handled { .. } => Step::Handle(1),
+            _ => Step::Take(1),
+        });
+        let op = Op::Handle(handler.clone(), plan.collect());
+        Some(Call { op, script: call.script.clone(), ..*call })
+    }
+
+    /// Whether a lamp exchange on this script throws bytes away: whichever lamps are set.
+    fn throws_away(&mut self, script: &[u8], room: usize) -> bool {
+        let op = Op::Keyboard(KeyboardOp::SetLed(0));
+        let call = Call { op: op.clone(), script: script.to_vec(), room, repeat: 1 };
+        matches!(self.answer_kept(&op, &call), Answer::Kept(Kept { bytes, .. }) if !bytes.is_empty())
+    }
+
     fn answer_handle(&mut self, call: &Call, handler: &Handler, plan: &[Step]) -> Answer {
         let mut done = Vec::new();
         for _ in 0..call.repeat.max(1) {
@@ -362,7 +394,7 @@ impl Oracle {
     /// A handler call on the script from a place on.
     pub fn handle(&mut self, at: usize, room: usize) -> Done {
         let (end, lamps_failed) = self.enter(at, room);
-        Done::Handled { used: wire().at - at, log: wire().log.clone(), end, lamps_failed }
+        Done::Handled { used: wire().at - at, log: wire().log.clone(), end, lamps_failed, dropped: 0 }
     }
 
     /// Enters the handler: how the call ended, and whether a lamp exchange failed.
@@ -419,7 +451,7 @@ impl Oracle {
         *keyboard::reach::modifiers() = Flags::new();
         self.feed(0x1D);
         let ext = keyboard::reach::modifiers().intersects(Flags::CONTROL_RIGHT);
-        Handler { ext, flags, queue }
+        Handler { ext, flags, queue, ..Handler::default() }
     }
 
     /// A handler call on one byte.

@@ -40,6 +40,9 @@ const UNTIL_USED: u8 = 34;
 const TAKE: u8 = 35;
 const WAITING: u8 = 36;
 const LEFT: u8 = 37;
+const BYTE: u8 = 32;
+const BYTES_LEFT: u8 = 42;
+const WAITS: u8 = 43;
 
 /// What a taking leaves where there is no event, and where there is one.
 const NONE_TAKEN: u8 = 2;
@@ -164,10 +167,18 @@ fn put_run(call: &Call, handler: &Handler, plan: &[Step], out: &mut Vec<u8>) {
         let KeyEvent { keycode, released, flags } = alike[0];
         put(EVENT, keycode, flags, released as usize, alike.len());
     }
+    for alike in handler.kept.chunk_by(|a, b| a == b) {
+        put(BYTE, alike[0], 0, 0, alike.len());
+    }
+    if let Some(waits) = handler.waits {
+        put(WAITS, waits, 0, 0, 1);
+    }
+    // Each byte that waits at first, or that is of the script, is taken by one call at most.
+    let most = bytes + handler.kept.len();
     for step in plan {
         match *step {
-            Step::Auto => put(UNTIL_USED, 0, 0, 0, bytes),
-            Step::Each => (0..bytes).for_each(|_| {
+            Step::Auto => put(UNTIL_USED, 0, 0, 0, most),
+            Step::Each => (0..most).for_each(|_| {
                 put(UNTIL_USED, 0, 0, 0, 1);
                 put(TAKE, 0, 0, 0, 1);
             }),
@@ -178,6 +189,8 @@ fn put_run(call: &Call, handler: &Handler, plan: &[Step], out: &mut Vec<u8>) {
         }
     }
     put(LEFT, 0, 0, 0, 1);
+    put(BYTES_LEFT, 0, 0, 0, 1);
+    put(BYTES_LEFT, 1, 0, 0, 1);
     // The last of these takings finds none, which ends the run.
     put(WAITING, 0, 0, 0, QUEUE_PLACES + 1);
 }
@@ -247,16 +260,33 @@ fn event_number(event: &KeyEvent) -> u64 {
     event.keycode as u64 | (event.released as u64) << 8 | (event.flags as u64) << 9
 }
 
-/// A record's prefix, flags and number of waiting events.
+/// A record's prefix, flags and numbers of waiting events and of waiting bytes.
 fn record_number(handler: &Handler) -> u64 {
-    handler.ext as u64 | (handler.flags as u64) << 1 | (handler.queue.len() as u64) << 17
+    let events = handler.queue.len() as u64;
+    handler.ext as u64 | (handler.flags as u64) << 1 | events << 17 | (handler.waiting() as u64) << 33
 }
 
-fn handler_of(number: u64, queue: Vec<KeyEvent>) -> Result<Handler, String> {
-    if number >> 17 != queue.len() as u64 {
-        return Err(format!("{} events wait, and {} were told", number >> 17, queue.len()));
+/// The bytes that wait as two numbers, low byte first; 0 stands where none waits.
+fn byte_numbers(handler: &Handler) -> [u64; 2] {
+    let mut bytes = handler.kept.clone();
+    bytes.resize(WAITING_PLACES, 0);
+    [0, 8].map(|at| u64::from_le_bytes(bytes[at..at + 8].try_into().unwrap()))
+}
+
+/// A record by its number, its events and its bytes that wait.
+fn handler_of(number: u64, queue: Vec<KeyEvent>, bytes: [u64; 2]) -> Result<Handler, String> {
+    let (events, waits) = (number >> 17 & 0xFFFF, (number >> 33) as u8);
+    if events != queue.len() as u64 {
+        return Err(format!("{events} events wait, and {} were told", queue.len()));
     }
-    Ok(Handler { ext: number & 1 == 1, flags: (number >> 1) as u16, queue })
+    let mut kept = bytes.map(u64::to_le_bytes).concat();
+    kept.truncate(waits as usize);
+    let waits = (waits as usize > WAITING_PLACES).then_some(waits);
+    let handler = Handler { ext: number & 1 == 1, flags: (number >> 1) as u16, queue, kept, waits };
+    match record_number(&handler) == number && byte_numbers(&handler) == bytes {
+        true => Ok(handler),
+        false => Err(format!("{number} is no record's number, or a byte was told that does not wait")),
+    }
 }
 
 /// Puts an answer as the port's program would. Only the answers to calls that it can make have a packed form.
@@ -280,6 +310,9 @@ pub fn put_answer(op: &Op, answer: &Answer, out: &mut Vec<u8>) -> Result<(), Str
                 put_done(handle_of(plan), d, out);
             }
             Packed { op: LEFT, value: record_number(left), ..Default::default() }.put(out);
+            for value in byte_numbers(left) {
+                Packed { op: BYTES_LEFT, value, ..Default::default() }.put(out);
+            }
             if left.is_malformed() {
                 // Nothing can be taken from it.
                 not_taken(WAITING, MALFORMED).put(out);
@@ -318,8 +351,9 @@ fn handle_of(plan: &[Step]) -> u8 {
 
 fn put_done(handle: u8, done: &Done, out: &mut Vec<u8>) {
     let packed = match done {
-        Done::Handled { used, log, end, lamps_failed } => {
-            Packed { op: handle, number: *end, left: *lamps_failed as u8, used: *used, value: 0, log: log.clone() }
+        Done::Handled { used, log, end, lamps_failed, dropped } => {
+            let (left, value) = (*lamps_failed as u8, *dropped as u64);
+            Packed { op: handle, number: *end, left, used: *used, value, log: log.clone() }
         }
         Done::Taken(event) => taken(TAKE, event.as_ref()),
         Done::NotTaken(number) => not_taken(TAKE, *number),
@@ -374,7 +408,7 @@ pub fn answer_of(op: &Op, packed: Packed) -> Result<Answer, String> {
         Op::Init(_) => {
             record = Record::Controller(Controller { init: left & 1 != 0, kbd: left & 2 != 0, mouse: left & 4 != 0 })
         }
-        Op::KeyboardInit if end == 0 => record = Record::Handler(handler_of(value, Vec::new())?),
+        Op::KeyboardInit if end == 0 => record = Record::Handler(handler_of(value, Vec::new(), [0, 0])?),
         Op::KeyboardInit => record = Record::NoHandler,
         Op::Mouse(MouseOp::SetId, _) => record = Record::Mouse(left),
         // The others can't change the mouse's record: they are not given it, or don't give it back.
@@ -395,23 +429,25 @@ pub fn answer_of(op: &Op, packed: Packed) -> Result<Answer, String> {
 
 fn read_run(passed: &Handler, plan: &[Step], from: &mut impl Read) -> io::Result<Result<Answer, String>> {
     let handle = handle_of(plan);
-    let (mut done, mut queue, mut record) = (Vec::new(), Vec::new(), None);
+    let (mut done, mut queue, mut record, mut bytes) = (Vec::new(), Vec::new(), None, Vec::new());
     loop {
         let packed = Packed::read(from)?;
         let empty = packed.used == 0 && packed.log.is_empty();
         let plain = packed.number == 0 && empty;
         let malformed = packed.number == MALFORMED && empty;
         match (packed.op, packed.left, packed.value) {
-            (op, 0 | 1, 0) if op == handle && packed.number != NO_CALL => done.push(Done::Handled {
+            (op, 0 | 1, dropped) if op == handle && packed.number != NO_CALL => done.push(Done::Handled {
                 used: packed.used,
                 log: packed.log,
                 end: packed.number,
                 lamps_failed: packed.left == 1,
+                dropped: dropped as u32,
             }),
             (TAKE, NONE_TAKEN, 0) if plain => done.push(Done::Taken(None)),
             (TAKE, NONE_TAKEN, 0) if malformed => done.push(Done::NotTaken(MALFORMED)),
             (TAKE, TAKEN, event) if plain => done.push(Done::Taken(Some(event_of(event)))),
             (LEFT, 0, left) if plain => record = Some(left),
+            (BYTES_LEFT, 0, eight) if plain => bytes.push(eight),
             (WAITING, TAKEN, event) if plain => queue.push(event_of(event)),
             (WAITING, NONE_TAKEN, 0) if plain => break,
             // Nothing can be taken from a malformed record: of its events only the number is told, and they are shown as passed in.
@@ -422,6 +458,6 @@ fn read_run(passed: &Handler, plan: &[Step], from: &mut impl Read) -> io::Result
             _ => return Ok(Err(format!("no answer to a call of a run: {packed:?}"))),
         }
     }
-    let record = record.ok_or_else(|| "the run tells no record".to_string());
-    Ok(record.and_then(|number| handler_of(number, queue)).map(|left| Answer::Run { done, left }))
+    let record = record.zip(bytes.try_into().ok()).ok_or_else(|| "the run tells no record".to_string());
+    Ok(record.and_then(|(number, bytes)| handler_of(number, queue, bytes)).map(|left| Answer::Run { done, left }))
 }
