@@ -9,7 +9,7 @@ use Prim.Native.Nat.{ℕ, zero, suc, _+_, _-_, _<_, _≤_}
 use native.Mathlib.Nat.{le-refl}
 use native.Mathlib.Omega.{arith}
 use lib.Dec.{eqb}
-use lib.ListN.{length, drop, replicate, length-append, length-take, length-drop}
+use lib.ListN.{length, drop, length-append, length-take, length-drop}
 use lib.Seq.{drop-drop}
 use borrow.Author.Tests.{eq-eqb, ne-eqb, eqb-true, eqb-false}
 use Rattle.exchange.specs.Parts.{part}
@@ -39,14 +39,14 @@ use Rattle.keyboard.proofs.Waiting.{waits-left}
 use Rattle.buffer.specs.Buffer.{Place, put}
 use Rattle.buffer.proofs.Buffer.{put-append}
 use Rattle.key_listing.specs.Lines.{takenLine, refusalLine}
-use Rattle.key_listing.specs.Listing.{callOn, callText, recordAfter, bytesLeft, callsText, listingFrom}
+use Rattle.key_listing.specs.Listing.{freeLog, callOn, callText, recordAfter, bytesLeft, callsText, listingFrom}
 use Rattle.key_listing.proofs.Used.{same-took, usedBehind, behind-le, left-behind, caught-le}
 
 -- ---- the bytes that a call uses and leaves
 
 pub call-used-le : (h : KeyboardHandler) (s : List ℕ) → callOn h s .used ≤ length s
 unfolding handled effects
-call-used-le h s = used-le (handle keyboardLamps (h .state)) s (replicate 16 0)
+call-used-le h s = used-le (handle keyboardLamps (h .state)) s freeLog
 
 -- a taking from the queue changes nothing of the keyboard
 taken-keyboard : (h : KeyboardHandler) → taken h .now .state .keyboard ≡ h .state .keyboard
@@ -73,7 +73,7 @@ module _ (h : KeyboardHandler) (s : List ℕ) where
   ws = waitingBytes (h .state .keyboard .waiting)
 
   abbrev log : List ℕ
-  log = replicate 16 0
+  log = freeLog
 
   -- a call that another follows takes a byte, which is counted
   took-by : Course keyboardLamps (h .state) s log → ends2-3-21 (answerEnd (endOf keyboardLamps (h .state) s log)) ≡ false

@@ -8,7 +8,7 @@ use Prim.Native.Nat.{ℕ, zero, suc, _+_, _*_, _<_, _≤_}
 use native.Mathlib.Nat.{zero-add}
 use native.Mathlib.Omega.{arith}
 use lib.Dec.{eqb, ltb}
-use lib.ListN.{length, take, drop, replicate, length-append, length-take, length-drop}
+use lib.ListN.{length, take, drop, length-append, length-take, length-drop}
 use Rattle.keycodes_ascii.specs.declared.Character.{Character}
 use Rattle.keycodes_ascii.specs.declared.KeyAction.{KeyAction}
 use Rattle.keycodes_ascii.specs.declared.KeyEvent.{KeyEvent}
@@ -29,7 +29,7 @@ use Rattle.keyboard_record.specs.Taking.{taken}
 use Rattle.keyboard_history.proofs.AsSaid.{As, as-fresh, as-bytes}
 use Rattle.key_listing.specs.Text.{ascii, digits, decimal}
 use Rattle.key_listing.specs.Lines.{actionText, characterText, eventLine, takenLine, refusalLine}
-use Rattle.key_listing.specs.Listing.{scriptLimit, callOn, recordAfter, bytesLeft, callsText, listing}
+use Rattle.key_listing.specs.Listing.{scriptLimit, freeLog, callOn, recordAfter, bytesLeft, callsText, listing}
 use Rattle.key_listing.specs.Listed.{waitsThen, After, Listed, used-up, an-event, no-event, a-19, a-2}
 use Rattle.key_listing.proofs.Calls.{took-length, script-behind, count-behind, call-text, calls-over, calls-last, calls-more}
 use Rattle.key_listing.proofs.Used.{usedBehind, behind-le, plain-used}
@@ -60,9 +60,9 @@ module _ (n : ℕ) {h : KeyboardHandler} {bytes : Past ℕ} {ws : List ℕ} (a :
   after-byte : ends2-3-21 (callOn h s .end) ≡ false → As (recordAfter h s) (bytes ▸ t .byte) (waitsThen bytes ws s) [] → After t (waitsThen bytes ws s) left
   after-byte e r =
       record {
-        read = usedBehind keyboardLamps (h .state) t (replicate 16 0);
-        locks-only = plain-used keyboardLamps (h .state) t (replicate 16 0);
-        in-script = behind-le keyboardLamps (h .state) t (replicate 16 0);
+        read = usedBehind keyboardLamps (h .state) t freeLog;
+        locks-only = plain-used keyboardLamps (h .state) t freeLog;
+        in-script = behind-le keyboardLamps (h .state) t freeLog;
         is-left = script-behind h s e t took-so;
         few-new = omega (arith, as-bytes r, count-behind h s e t took-so);
       }

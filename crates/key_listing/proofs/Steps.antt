@@ -6,7 +6,6 @@ use mathlib.Core.List.{List, [], _∷_}
 use mathlib.Core.Option.{Option, none, some}
 use Prim.Native.Nat.{ℕ}
 use native.Mathlib.Omega.{arith}
-use lib.ListN.{replicate}
 use Rattle.exchange.specs.Exchange.{Port, noScript, noLog, End, yields, lacks, play}
 use Rattle.exchange.specs.Answer.{Answer, gives, refuses}
 use Rattle.ps2_answers.specs.Refusals.{Success, success}
@@ -37,7 +36,7 @@ use Rattle.keyboard_history.proofs.Row.{given-none, given-one}
 use Rattle.keyboard_scancodes.proofs.Silent.{silent-gives, key-gives}
 use Rattle.keyboard.proofs.Ways.{Queued, is-unknown, is-full, is-queued, waitsAfter, Course, malformed, lacking, at-silent, at-key, endOf}
 use Rattle.keyboard.proofs.Counted.{answerEnd}
-use Rattle.key_listing.specs.Listing.{callOn, recordAfter}
+use Rattle.key_listing.specs.Listing.{freeLog, callOn, recordAfter}
 use Rattle.key_listing.specs.Listed.{waitsThen}
 use Rattle.key_listing.proofs.Used.{same-took}
 
@@ -67,7 +66,7 @@ all-join (e ∷ es) = ap (λ (l : List KeyEvent). e ∷ l) (all-join es)
 
 module _ {h : KeyboardHandler} {bytes : Past ℕ} {ws : List ℕ} (a : As h bytes ws []) (s : List ℕ) (t : Took) (g : takes ws s ≡ some t) where
   abbrev log : List ℕ
-  log = replicate 16 0
+  log = freeLog
 
   abbrev b : ℕ
   b = t .byte

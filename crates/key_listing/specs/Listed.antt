@@ -5,7 +5,7 @@ use mathlib.Core.List.{List, [], _++_}
 use mathlib.Core.Option.{some}
 use mathlib.Core.Path.{_≡_}
 use Prim.Native.Nat.{ℕ, _+_, _≤_}
-use lib.ListN.{length, drop, replicate}
+use lib.ListN.{length, drop}
 use Rattle.keyboard_scancodes.specs.Events.{eventOf, givesEvent}
 use Rattle.keyboard_scancodes.specs.FlagTable.{isLockPress}
 use Rattle.keyboard_scancodes.specs.Strokes.{isSilent}
@@ -13,13 +13,13 @@ use Rattle.keyboard.specs.KeyboardLamps.{keyboardLamps}
 use Rattle.keyboard.specs.Scancode.{Took, takes}
 use Rattle.keyboard_history.specs.Past.{Past, _▸_}
 use Rattle.keyboard_history.specs.Said.{flagsSaid}
-use Rattle.keyboard_history.specs.Counted.{behindAfter, joinedAfter}
+use Rattle.keyboard_history.specs.Counted.{waitingAfter}
 use Rattle.key_listing.specs.Lines.{eventLine, refusalLine}
+use Rattle.key_listing.specs.Listing.{freeLog}
 
--- The bytes that wait after a call with this script and a 16-byte log, by the rule.
+-- The bytes that wait after a call with this script, by the rule.
 abbrev pub waitsThen : Past ℕ → List ℕ → List ℕ → List ℕ
-waitsThen bytes waiting script =
-    behindAfter keyboardLamps bytes waiting script (replicate 16 0) ++ joinedAfter keyboardLamps bytes waiting script (replicate 16 0)
+waitsThen bytes waiting script = waitingAfter keyboardLamps bytes waiting script freeLog
 
 -- What is left of a script behind a byte that was taken: all of it, but for the bytes that the lamp exchange of a lock read, of whose number nothing is said here. Those that wait behind the byte are no more than waited before and were read.
 pub record After (t : Took) (waits left : List ℕ) : Type 0 where

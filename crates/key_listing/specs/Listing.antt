@@ -19,8 +19,11 @@ abbrev pub scriptLimit : ℕ
 scriptLimit = 65536
 
 -- A handler call "with a 16-byte log each time".
+abbrev pub freeLog : List ℕ
+freeLog = replicate 16 0
+
 abbrev pub callOn : KeyboardHandler → List ℕ → Called
-callOn h script = handled keyboardLamps h script (replicate 16 0)
+callOn h script = handled keyboardLamps h script freeLog
 
 -- What one call prints: its refusal, if it is refused, and the event that is taken "at once".
 unfoldable pub callText : KeyboardHandler → List ℕ → List ℕ

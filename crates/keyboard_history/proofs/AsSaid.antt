@@ -46,7 +46,7 @@ use Rattle.keyboard.proofs.Refused.{left-as-passed}
 use Rattle.keyboard.proofs.Waiting.{waits-left}
 use Rattle.keyboard_history.specs.Past.{Past, nothing, _▸_}
 use Rattle.keyboard_history.specs.Said.{prefixSaid, flagsSaid, eventGiven}
-use Rattle.keyboard_history.specs.Counted.{count, behind, room, scancodeAfter, thrownBy, thrownAfter, behindAfter, joinedAfter, droppedAfter}
+use Rattle.keyboard_history.specs.Counted.{count, behind, room, scancodeAfter, thrownBy, thrownAfter, behindAfter, joinedAfter, droppedAfter, waitingAfter}
 use Rattle.keyboard_history.specs.Row.{lessMet, anyMet, givenTo, eventOfCall, first, rest, newly}
 use Rattle.keyboard_history.proofs.Row.{given-none, given-one, less-room, less-full, met-room, met-full, less-none, met-none}
 use Rattle.keyboard_history.proofs.Waited.{take-joins, length-dropped, few-behind, few-joined, behind-took, none-takes}
@@ -299,14 +299,14 @@ module _ {h : KeyboardHandler} {bytes : Past ℕ} {ws : List ℕ} {row : List Ke
         subst (λ (sc : Option ℕ). Stepped sc (answerEnd (endOf lamps (h .state) s l)) (endOutcome (h .state) (endOf lamps (h .state) s l))) (scanned-said s l)
         (by-course (course lamps (h .state) s l))
 
-    few-wait : (s l : List ℕ) → length (behindAfter lamps bytes ws s l ++ joinedAfter lamps bytes ws s l) ≤ 16
+    few-wait : (s l : List ℕ) → length (waitingAfter lamps bytes ws s l) ≤ 16
     unfolding behindAfter joinedAfter
     few-wait s l = few-joined (behindAfter lamps bytes ws s l) (thrownAfter lamps bytes ws s l) (few-behind (scancodeAfter lamps bytes ws s l) ws (a .few))
 
     pub as-handled : (s l : List ℕ)
-        → As (handled lamps h s l .handler) (count bytes (scancodeAfter lamps bytes ws s l)) (behindAfter lamps bytes ws s l ++ joinedAfter lamps bytes ws s l) (row ++ lessMet (newly lamps bytes ws row s l))
+        → As (handled lamps h s l .handler) (count bytes (scancodeAfter lamps bytes ws s l)) (waitingAfter lamps bytes ws s l) (row ++ lessMet (newly lamps bytes ws row s l))
     unfolding handled effects newly joinedAfter
-    as-handled s l = stepped s l .0 (behindAfter lamps bytes ws s l ++ joinedAfter lamps bytes ws s l) (waited s l .0) (few-wait s l)
+    as-handled s l = stepped s l .0 (waitingAfter lamps bytes ws s l) (waited s l .0) (few-wait s l)
 
     pub as-20 : (s l : List ℕ) → ends20 (handled lamps h s l .end) ≡ anyMet (newly lamps bytes ws row s l)
     unfolding handled effects newly

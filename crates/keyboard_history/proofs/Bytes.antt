@@ -15,7 +15,7 @@ use Rattle.keyboard_scancodes.specs.Lamps.{lampsLit}
 use Rattle.keyboard.specs.Scancode.{Took, took, takes, thrownAt, lampsRanOut, caught, scancode}
 use Rattle.keyboard_history.specs.Past.{Past, nothing, _▸_}
 use Rattle.keyboard_history.specs.Said.{flagsSaid}
-use Rattle.keyboard_history.specs.Counted.{Call, handling, taking, count, behind, room, scancodeAfter, thrownBy, thrownAfter, behindAfter, joinedAfter, counted, waits}
+use Rattle.keyboard_history.specs.Counted.{Call, handling, taking, count, behind, room, scancodeAfter, thrownBy, thrownAfter, behindAfter, joinedAfter, waitingAfter, counted, waits}
 use Rattle.keyboard_history.specs.Bytes.{AllBytes, no-bytes, one-more, ByteCalls, no-calls, one-handling, one-taking}
 
 -- ---- lists of bytes
@@ -82,7 +82,7 @@ module _ {A : Type 0} (lamps : ℕ → Exchange (Answer A)) where
     by-scancode (some c) [] (b ∷ s) h = caught-bytes (λ b. flagsSaid (bytes ▸ b)) (took b [] s) l (h .1)
     by-scancode (some c) (b ∷ ws) s h = caught-bytes (λ b. flagsSaid (bytes ▸ b)) (took b ws s) l h
 
-    waited-bytes : (ws s : List ℕ) → Bytes ws → Bytes s → Bytes (behindAfter lamps bytes ws s l ++ joinedAfter lamps bytes ws s l)
+    waited-bytes : (ws s : List ℕ) → Bytes ws → Bytes s → Bytes (waitingAfter lamps bytes ws s l)
     unfolding behindAfter joinedAfter thrownAfter
     waited-bytes ws s hw hs =
         let sc = scancodeAfter lamps bytes ws s l in

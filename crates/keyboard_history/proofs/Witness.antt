@@ -26,7 +26,7 @@ use Rattle.keyboard_scancodes.specs.FlagTable.{flagTable, flagLimit, isOf, pres
 use Rattle.keyboard_scancodes.specs.Lamps.{lampsLit}
 use Rattle.keyboard_scancodes.specs.Waiting.{bytesFrom}
 use Rattle.keyboard_scancodes.specs.Events.{keycodeAt, eventOf}
-use Rattle.keyboard_history.specs.Counted.{Call, handling, taking, count, scancodeAfter, thrownAfter, behindAfter, joinedAfter, counted, waits}
+use Rattle.keyboard_history.specs.Counted.{Call, handling, taking, count, scancodeAfter, thrownAfter, behindAfter, joinedAfter, waitingAfter, counted, waits}
 use Rattle.keyboard.specs.Scancode.{caught, scancode}
 use Rattle.keyboard_history.specs.Row.{Given, eventOfCall, lessMet, anyMet, givenTo, first, rest, newly, row, given, meets, removed}
 use Rattle.keyboard_record.specs.Record.{fresh, wellFormed}
@@ -64,7 +64,7 @@ module _ {A : Type 0} (lamps : ℕ → Exchange (Answer A)) where
   unfolding scancodeAfter scancode flagTable isOf pressesLock
   counts-letter bytes = refl
 
-  none-caught : (bytes : Past ℕ) → behindAfter lamps bytes [] (0x1E ∷ []) [] ++ joinedAfter lamps bytes [] (0x1E ∷ []) [] ≡ []
+  none-caught : (bytes : Past ℕ) → waitingAfter lamps bytes [] (0x1E ∷ []) [] ≡ []
   unfolding behindAfter joinedAfter thrownAfter caught scancodeAfter scancode flagTable isOf pressesLock
   none-caught bytes = refl
 

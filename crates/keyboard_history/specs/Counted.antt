@@ -58,6 +58,10 @@ module _ {A : Type 0} (lamps : ℕ → Exchange (Answer A)) where
   unfoldable pub droppedAfter : Past ℕ → List ℕ → List ℕ → List ℕ → List ℕ
   droppedAfter bytes waiting script log = drop (room (behindAfter bytes waiting script log)) (thrownAfter bytes waiting script log)
 
+  -- The bytes that wait after it: "new ones wait behind old ones".
+  abbrev pub waitingAfter : Past ℕ → List ℕ → List ℕ → List ℕ → List ℕ
+  waitingAfter bytes waiting script log = behindAfter bytes waiting script log ++ joinedAfter bytes waiting script log
+
   -- ---- a list of calls
 
   unfoldable mutual
@@ -67,10 +71,10 @@ module _ {A : Type 0} (lamps : ℕ → Exchange (Answer A)) where
     counted (past ▸ handling script log) = count (counted past) (scancodeAfter (counted past) (waits past) script log)
     counted (past ▸ taking) = counted past
 
-    -- The bytes that wait after it, the oldest first: "a fresh record has none", and "new ones wait behind old ones".
+    -- The bytes that wait after it, the oldest first: "a fresh record has none".
     pub waits : Past Call → List ℕ
     waits nothing = []
-    waits (past ▸ handling script log) = behindAfter (counted past) (waits past) script log ++ joinedAfter (counted past) (waits past) script log
+    waits (past ▸ handling script log) = waitingAfter (counted past) (waits past) script log
     waits (past ▸ taking) = waits past
 
   -- Of each handler call of the list, whether it counts a scancode.
