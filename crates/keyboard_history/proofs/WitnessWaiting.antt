@@ -78,18 +78,18 @@ first-reported = history patientLamps lockFirstOf16 .drops ∙ rw (first-said .1
 
 -- ---- a call that ends in 2 inside the exchange of a lock that waited leaves it waiting, and drops nothing; the next call takes it
 
-cut-said :
+lock-cut-said :
     (counts patientLamps waitingCut ≡ nothing ▸ true ▸ false) × (waits patientLamps waitingCut ≡ 0x45 ∷ [])
     × (counted patientLamps waitingLit ≡ nothing ▸ 0x3A ▸ 0x45) × (waits patientLamps waitingLit ≡ [])
 unfolding counts counted waits behindAfter joinedAfter thrownAfter caught scancodeAfter scancode keeping decode play untilFA flagTable isOf pressesLock
-cut-said = (refl, refl, refl, refl)
+lock-cut-said = (refl, refl, refl, refl)
 
-pub cut-ends : each ends2-3-21 (answers patientLamps waitingCut) ≡ nothing ▸ false ▸ true
+pub lock-cut-ends : each ends2-3-21 (answers patientLamps waitingCut) ≡ nothing ▸ false ▸ true
 unfolding each
-cut-ends = history patientLamps waitingCut .left-out ∙ rw (cut-said .0)
+lock-cut-ends = history patientLamps waitingCut .left-out ∙ rw (lock-cut-said .0)
 
-pub cut-waits : waitingBytes (after patientLamps waitingCut .state .keyboard .waiting) ≡ 0x45 ∷ []
-cut-waits = history patientLamps waitingCut .waiting-bytes ∙ cut-said .1
+pub lock-cut-waits : waitingBytes (after patientLamps waitingCut .state .keyboard .waiting) ≡ 0x45 ∷ []
+lock-cut-waits = history patientLamps waitingCut .waiting-bytes ∙ lock-cut-said .1
 
-pub lit-waits : waitingBytes (after patientLamps waitingLit .state .keyboard .waiting) ≡ []
-lit-waits = history patientLamps waitingLit .waiting-bytes ∙ cut-said .3
+pub lock-lit-waits : waitingBytes (after patientLamps waitingLit .state .keyboard .waiting) ≡ []
+lock-lit-waits = history patientLamps waitingLit .waiting-bytes ∙ lock-cut-said .3

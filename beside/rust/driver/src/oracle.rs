@@ -108,6 +108,11 @@ impl Device for Noting {
     fn write(&mut self, _port: u16, _value: u8) {}
 }
 
+/// Those bytes that receiving throws away.
+fn unlisted(data: impl IntoIterator<Item = u8>) -> Vec<u8> {
+    data.into_iter().filter(|&byte| DeviceToHostResponse::try_from(byte).is_err()).collect()
+}
+
 /// How a call of the Rust ended: 0, or the number of its refusal.
 pub type End = u8;
 
@@ -208,9 +213,8 @@ impl Oracle {
         let (end, value, record) = self.port_operation(op, call.room);
         wire().device = None;
         let (used, log) = (wire().at, wire().log.clone());
-        let unlisted = data.take().into_iter().filter(|&byte| DeviceToHostResponse::try_from(byte).is_err());
         // After 2 and 3 nothing is handed back.
-        let thrown = if matches!(end, 2 | 3) { Vec::new() } else { unlisted.collect() };
+        let thrown = if matches!(end, 2 | 3) { Vec::new() } else { unlisted(data.take()) };
         let (bytes, others) = keeping(thrown);
         Answer::Kept(Kept { answer: Box::new(Answer::Call { end, used, log, value, record }), bytes, others })
     }
@@ -414,6 +418,16 @@ impl Oracle {
             (end, lamps_failed) = (wire().lack, false);
         }
         (end, lamps_failed)
+    }
+
+    /// The same on a script, with the bytes that the lamp exchange threw away: those behind the scancode.
+    pub fn enter_noting(&mut self, script: Vec<u8>, room: usize) -> (End, Vec<u8>) {
+        let data = Rc::new(RefCell::new(Vec::new()));
+        wire().script.clear();
+        wire().device = Some(Box::new(Noting { script: script.into_iter(), data: data.clone() }));
+        let (end, _) = self.enter(0, room);
+        wire().device = None;
+        (end, unlisted(data.take().into_iter().skip(1)))
     }
 
     /// A taking from the queue.
