@@ -27,7 +27,7 @@ use Rattle.keyboard_scancodes.proofs.Silent.{silent-lock}
 use Rattle.keyboard_scancodes.proofs.Tests.{which}
 use Rattle.keyboard_record.specs.declared.HandlerState.{HandlerState}
 use Rattle.keyboard_record.specs.Record.{wellFormed}
-use Rattle.keyboard.specs.Scancode.{Took, took, takes, thrownAt, caught}
+use Rattle.keyboard.specs.Scancode.{Took, takes, thrownAt, caught}
 use Rattle.keyboard.specs.Handler.{shown, takeByte, lampExchange, onByte, handle}
 use Rattle.keyboard.proofs.Courses.{handle-well}
 

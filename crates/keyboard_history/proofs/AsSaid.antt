@@ -49,7 +49,7 @@ use Rattle.keyboard_history.specs.Said.{prefixSaid, flagsSaid, eventGive
 use Rattle.keyboard_history.specs.Counted.{count, behind, room, scancodeAfter, thrownBy, thrownAfter, behindAfter, joinedAfter, droppedAfter, waitingAfter}
 use Rattle.keyboard_history.specs.Row.{lessMet, anyMet, givenTo, eventOfCall, first, rest, newly}
 use Rattle.keyboard_history.proofs.Row.{given-none, given-one, less-room, less-full, met-room, met-full, less-none, met-none}
-use Rattle.keyboard_history.proofs.Waited.{take-joins, length-dropped, few-behind, few-joined, behind-took, none-takes}
+use Rattle.keyboard_history.proofs.Waited.{take-joins, length-dropped, few-behind, few-joined, behind-took, none-takes, uncounted-caught}
 use Rattle.keyboard_history.proofs.Flags.{flags-none, flags-more, flags-lt}
 
 -- a record whose flags and prefix are what the bytes say, in which these bytes wait, and in whose queue the events of a row
@@ -278,8 +278,9 @@ module _ {h : KeyboardHandler} {bytes : Past ℕ} {ws : List ℕ} {row : List Ke
         )
 
     by-scancode : (s l : List ℕ) (sc : Option ℕ) (o : Option Took) → scancodeAfter lamps bytes ws s l ≡ sc → takes ws s ≡ o
-        → Waited s l (behind sc ws) (thrownBy lamps (λ b. flagsSaid (bytes ▸ b)) sc o l)
-    by-scancode s l none o n g = none-waited s l (as-left-out s l ∙ rw n)
+        → Waited s l (behind sc ws) (thrownBy lamps (λ b. flagsSaid (bytes ▸ b)) o l)
+    by-scancode s l none none n g = none-waited s l (as-left-out s l ∙ rw n)
+    by-scancode s l none (some t) n g = rw (uncounted-caught lamps bytes ws s l t g n) (none-waited s l (as-left-out s l ∙ rw n))
     by-scancode s l (some b) none n g = absurd (none-takes lamps bytes ws s l g n)
     by-scancode s l (some b) (some t) n g = some-waited s l t n g
 

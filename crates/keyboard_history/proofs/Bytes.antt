@@ -4,7 +4,7 @@ use mathlib.Core.Bool.{Bool, true, false, not, cond}
 use mathlib.Core.List.{List, [], _∷_, _++_}
 use mathlib.Core.Option.{Option, none, some}
 use Prim.Native.Nat.{ℕ, zero, suc, _<_}
-use lib.ListN.{take, drop, getD}
+use lib.ListN.{take, getD}
 use Rattle.exchange.specs.Exchange.{p60, p64, Exchange, done, read, write, play}
 use Rattle.exchange.specs.Answer.{Answer}
 use Rattle.exchange.specs.Attains.{Bytes}
@@ -13,9 +13,9 @@ use Rattle.ps2_kept.specs.Thrown.{unlisted, thrown}
 use Rattle.keyboard_scancodes.specs.FlagTable.{isLockPress}
 use Rattle.keyboard_scancodes.specs.Lamps.{lampsLit}
 use Rattle.keyboard.specs.Scancode.{Took, took, takes, thrownAt, lampsRanOut, caught, scancode}
-use Rattle.keyboard_history.specs.Past.{Past, nothing, _▸_}
+use Rattle.keyboard_history.specs.Past.{Past, _▸_}
 use Rattle.keyboard_history.specs.Said.{flagsSaid}
-use Rattle.keyboard_history.specs.Counted.{Call, handling, taking, count, behind, room, scancodeAfter, thrownBy, thrownAfter, behindAfter, joinedAfter, waitingAfter, counted, waits}
+use Rattle.keyboard_history.specs.Counted.{Call, count, behind, room, scancodeAfter, thrownBy, thrownAfter, behindAfter, joinedAfter, waitingAfter, counted, waits}
 use Rattle.keyboard_history.specs.Bytes.{AllBytes, no-bytes, one-more, ByteCalls, no-calls, one-handling, one-taking}
 
 -- ---- lists of bytes
@@ -76,18 +76,17 @@ module _ {A : Type 0} (lamps : ℕ → Exchange (Answer A)) where
     scanned-bytes [] (b ∷ s) all hw hs = count-bytes (not (lampsRanOut lamps (λ b. flagsSaid (bytes ▸ b)) (took b [] s) l)) b all (hs .0)
     scanned-bytes (b ∷ ws) s all hw hs = count-bytes (not (lampsRanOut lamps (λ b. flagsSaid (bytes ▸ b)) (took b ws s) l)) b all (hw .0)
 
-    by-scancode : (sc : Option ℕ) (ws s : List ℕ) → Bytes s → Bytes (thrownBy lamps (λ b. flagsSaid (bytes ▸ b)) sc (takes ws s) l)
-    by-scancode none ws s h = tt
-    by-scancode (some c) [] [] h = tt
-    by-scancode (some c) [] (b ∷ s) h = caught-bytes (λ b. flagsSaid (bytes ▸ b)) (took b [] s) l (h .1)
-    by-scancode (some c) (b ∷ ws) s h = caught-bytes (λ b. flagsSaid (bytes ▸ b)) (took b ws s) l h
+    by-took : (ws s : List ℕ) → Bytes s → Bytes (thrownBy lamps (λ b. flagsSaid (bytes ▸ b)) (takes ws s) l)
+    by-took [] [] h = tt
+    by-took [] (b ∷ s) h = caught-bytes (λ b. flagsSaid (bytes ▸ b)) (took b [] s) l (h .1)
+    by-took (b ∷ ws) s h = caught-bytes (λ b. flagsSaid (bytes ▸ b)) (took b ws s) l h
 
     waited-bytes : (ws s : List ℕ) → Bytes ws → Bytes s → Bytes (waitingAfter lamps bytes ws s l)
     unfolding behindAfter joinedAfter thrownAfter
     waited-bytes ws s hw hs =
         let sc = scancodeAfter lamps bytes ws s l in
         bytes-append (behind sc ws) (joinedAfter lamps bytes ws s l) (bytes-behind sc ws hw)
-        (bytes-take (room (behind sc ws)) (thrownAfter lamps bytes ws s l) (by-scancode sc ws s hs))
+        (bytes-take (room (behind sc ws)) (thrownAfter lamps bytes ws s l) (by-took ws s hs))
 
   -- ---- so do all calls of a list
 

@@ -1,16 +1,20 @@
 -- The bytes that wait: how those of one call join those behind its byte, and what the lists of calls say of them.
 -- Assumes nothing.
-use mathlib.Core.Path.{_≡_, refl, ap, _∙_}
-use mathlib.Core.Bool.{Bool, true, false, not, cond}
+use mathlib.Core.Path.{_≡_, refl, ap, sym, _∙_}
+use mathlib.Core.Bool.{Bool, true, false, not, cond, and-eq-true-iff, false≢true}
 use mathlib.Core.List.{List, [], _∷_, _++_}
 use mathlib.Core.Option.{Option, none, some}
 use Prim.Native.Nat.{ℕ, _+_, _-_, _≤_}
 use native.Mathlib.Omega.{arith}
 use lib.ListN.{length, take, drop, length-append, length-take, length-drop}
-use lib.Seq.{take-append-add, drop-nil}
-use Rattle.exchange.specs.Exchange.{Exchange}
+use lib.Seq.{take-append-add}
+use Rattle.exchange.specs.Exchange.{p60, p64, Exchange, done, read, write, play}
 use Rattle.exchange.specs.Answer.{Answer}
-use Rattle.keyboard.specs.Scancode.{Took, took, takes, lampsRanOut, scancode}
+use Rattle.exchange.specs.Keeping.{keeping}
+use Rattle.ps2_kept.specs.Thrown.{thrown}
+use Rattle.keyboard_scancodes.specs.FlagTable.{isLockPress}
+use Rattle.keyboard_scancodes.specs.Lamps.{lampsLit}
+use Rattle.keyboard.specs.Scancode.{Took, took, takes, ranOut, thrownAt, lampsRanOut, caught, scancode}
 use Rattle.keyboard_history.specs.Past.{Past, _▸_}
 use Rattle.keyboard_history.specs.Said.{flagsSaid}
 use Rattle.keyboard_history.specs.Counted.{behind, room, scancodeAfter}
@@ -52,7 +56,39 @@ pub none-takes : {A : Type 0} (lamps : ℕ → Exchange (Answer A)) (bytes : Pas
 unfolding scancodeAfter scancode
 none-takes lamps bytes ws s l g n = none-some (rw g at n)
 
--- the scancode that a call takes from the waiting bytes is the oldest of them
+-- ---- a call whose byte is not counted throws nothing away
+
+-- an operation that runs out yields no bytes that it threw away
+thrown-out : {A : Type 0} (t : Exchange A) (m s l : List ℕ) → ranOut (play t s l .end) ≡ true → thrownAt (play (keeping thrown m t) s l .end) ≡ []
+unfolding keeping play
+thrown-out (done a) m s l r = absurd (false≢true r)
+thrown-out (read p f) m [] l r = refl
+thrown-out (read p60 f) m (b ∷ s) l r = thrown-out (f b) (thrown m b) s l r
+thrown-out (read p64 f) m (b ∷ s) l r = thrown-out (f b) m s l r
+thrown-out (write p v t) m s [] r = refl
+thrown-out (write p v t) m s (x ∷ []) r = refl
+thrown-out (write p v t) m s (x ∷ y ∷ l) r = thrown-out t m s l r
+
+module _ {A : Type 0} (lamps : ℕ → Exchange (Answer A)) (bytes : Past ℕ) (ws s l : List ℕ) (t : Took) (g : takes ws s ≡ some t) where
+  abbrev flags : ℕ → ℕ
+  flags b = flagsSaid (bytes ▸ b)
+
+  not-counted : (c : Bool) → cond (not c) (some (t .byte)) none ≡ none → c ≡ true
+  not-counted true e = refl
+  not-counted false e = absurd (none-some (sym e))
+
+  ran-out : scancodeAfter lamps bytes ws s l ≡ none → lampsRanOut lamps flags t l ≡ true
+  unfolding scancodeAfter scancode
+  ran-out n = not-counted (lampsRanOut lamps flags t l) (rw g at n)
+
+  pub uncounted-caught : scancodeAfter lamps bytes ws s l ≡ none → caught lamps flags t l ≡ []
+  unfolding caught
+  uncounted-caught n =
+      let r = and-eq-true-iff (isLockPress (t .byte)) (ranOut (play (lamps (lampsLit (flags (t .byte)))) (t .script) l .end)) .0 (ran-out n) in
+      rw (r .0) (thrown-out (lamps (lampsLit (flags (t .byte)))) [] (t .script) l (r .1))
+
+-- ---- the scancode that a call takes from the waiting bytes is the oldest of them
+
 module _ {A : Type 0} (lamps : ℕ → Exchange (Answer A)) (bytes : Past ℕ) (ws s l : List ℕ) where
   by-cond : (c : Bool) (x : ℕ) (w : List ℕ) → fromWaiting (cond c (some x) none) (x ∷ w) ++ behind (cond c (some x) none) (x ∷ w) ≡ x ∷ w
   by-cond true x w = refl

@@ -2,8 +2,7 @@
 -- Assumes nothing.
 use mathlib.Core.Path.{_≡_, refl, _∙_}
 use mathlib.Core.Bool.{true, false}
-use mathlib.Core.List.{List, [], _∷_}
-use Prim.Native.Nat.{ℕ}
+use mathlib.Core.List.{[], _∷_}
 use Rattle.bits.specs.Bits.{odd, bit, putBit}
 use Rattle.bits.specs.Table.{decode}
 use Rattle.exchange.specs.Exchange.{play}

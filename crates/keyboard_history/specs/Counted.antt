@@ -38,15 +38,13 @@ module _ {A : Type 0} (lamps : ℕ → Exchange (Answer A)) where
   unfoldable pub scancodeAfter : Past ℕ → List ℕ → List ℕ → List ℕ → Option ℕ
   scancodeAfter bytes waiting script log = scancode lamps true (λ b. flagsSaid (bytes ▸ b)) waiting script log
 
-  -- The bytes that its lamp exchange throws away, where it counts a scancode.
-  abbrev pub thrownBy : (ℕ → ℕ) → Option ℕ → Option Took → List ℕ → List ℕ
-  thrownBy flags none took log = []
-  thrownBy flags (some b) none log = []
-  thrownBy flags (some b) (some t) log = caught lamps flags t log
+  -- The bytes that the lamp exchange of the byte that it takes throws away; where the exchange runs out of script or log, so that the byte is not counted, none.
+  abbrev pub thrownBy : (ℕ → ℕ) → Option Took → List ℕ → List ℕ
+  thrownBy flags none log = []
+  thrownBy flags (some t) log = caught lamps flags t log
 
   unfoldable pub thrownAfter : Past ℕ → List ℕ → List ℕ → List ℕ → List ℕ
-  thrownAfter bytes waiting script log =
-      thrownBy (λ b. flagsSaid (bytes ▸ b)) (scancodeAfter bytes waiting script log) (takes waiting script) log
+  thrownAfter bytes waiting script log = thrownBy (λ b. flagsSaid (bytes ▸ b)) (takes waiting script) log
 
   -- Those that wait behind its byte; of those thrown away "the earliest", which find room with them; and the others, which are dropped.
   unfoldable pub behindAfter : Past ℕ → List ℕ → List ℕ → List ℕ → List ℕ

@@ -3,7 +3,7 @@
 use borrow.Author.Needs.{needs}
 use native.Mathlib.Omega.{arith}
 use mathlib.Core.Path.{_≡_, refl, sym, _∙_}
-use Prim.Native.Nat.{_+_, _<_, _≤_}
+use Prim.Native.Nat.{_<_, _≤_}
 use lib.ListN.{length, drop}
 use Rattle.keyboard_record.specs.Record.{fresh}
 use Rattle.buffer.specs.Buffer.{place, put}
