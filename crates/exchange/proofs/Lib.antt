@@ -22,3 +22,7 @@ pub mod Search
 pub mod RepeatThen
 pub mod Grouping
 pub mod ReadingThen
+pub mod Keeping
+pub mod NoData
+pub mod KeepingRepeat
+pub mod KeepingBounds

@@ -2,8 +2,8 @@
 -- Assumes nothing.
 use Prim.Native.Nat.{ℕ}
 use mathlib.Core.List.{List, [], _∷_}
-use mathlib.Core.Path.{_≡_, subst}
-use Rattle.exchange.specs.Exchange.{Exchange, bind, yields, play}
+use mathlib.Core.Path.{_≡_, ap, subst, fun-ext}
+use Rattle.exchange.specs.Exchange.{Exchange, read, write, bind, yields, play}
 use Rattle.exchange.specs.Only.{Only, only-done, only-read, only-write}
 use Rattle.exchange.proofs.Steps.{lacks-yields}
 
@@ -12,6 +12,13 @@ unfolding bind
 only-bind (only-done {a = a} h) k = k a h
 only-bind (only-read f) k = only-read (λ b. only-bind (f b) k)
 only-bind (only-write x) k = only-write (only-bind x k)
+
+-- what follows matters only for what it can yield
+pub bind-only : {A B : Type 0} {P : A → Type 0} {t : Exchange A} (g h : A → Exchange B) → Only P t → ((a : A) → P a → g a ≡ h a) → bind t g ≡ bind t h
+unfolding bind
+bind-only g h (only-done {a = a} x) k = k a x
+bind-only g h (only-read {p = p} f) k = ap (read p) (fun-ext (λ b. bind-only g h (f b) k))
+bind-only g h (only-write {p = p} {v = v} x) k = ap (write p v) (bind-only g h x k)
 
 pub only-play : {A : Type 0} {P : A → Type 0} {t : Exchange A} → Only P t → (s l : List ℕ) (a : A) → play t s l .end ≡ yields a → P a
 unfolding play

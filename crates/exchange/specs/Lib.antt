@@ -13,4 +13,5 @@ pub mod Refuses
 pub mod Left
 pub mod Attains
 pub mod Sends
+pub mod Keeping
 pub mod Search

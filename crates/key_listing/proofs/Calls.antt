@@ -1,74 +1,142 @@
--- The calls of a listing, one after another: each that another follows uses a byte.
+-- The calls of a listing, one after another: for each that another follows one byte fewer is left, of the script or waiting.
 -- Assumes nothing.
-use mathlib.Core.Path.{_≡_, refl, ap, ap₂, sym, _∙_}
+use mathlib.Core.Path.{_≡_, refl, ap, ap₂, sym, subst, _∙_}
 use mathlib.Core.Bool.{true, false, true≢false}
 use mathlib.Core.List.{List, [], _∷_, _++_, append-nil}
 use mathlib.Core.Logic.{⊎-elim}
-use mathlib.Core.Option.{Option}
+use mathlib.Core.Option.{Option, some}
 use Prim.Native.Nat.{ℕ, zero, suc, _+_, _-_, _<_, _≤_}
 use native.Mathlib.Nat.{le-refl}
 use native.Mathlib.Omega.{arith}
-use lib.ListN.{length, drop, replicate, length-drop}
+use lib.Dec.{eqb}
+use lib.ListN.{length, drop, length-append, length-take, length-drop}
 use lib.Seq.{drop-drop}
-use Rattle.exchange.specs.Exchange.{bind, play}
+use borrow.Author.Tests.{eq-eqb, ne-eqb, eqb-true, eqb-false}
 use Rattle.exchange.specs.Parts.{part}
 use Rattle.exchange.proofs.Kept.{used-le}
 use Rattle.exchange.proofs.Parts.{part-drop}
 use Rattle.exchange.specs.Answer.{Answer, numberEnded}
 use Rattle.keycodes_ascii.specs.declared.KeyEvent.{KeyEvent}
+use Rattle.keyboard_scancodes.specs.declared.KeyboardState.{KeyboardState}
+use Rattle.keyboard_scancodes.specs.FlagsAfter.{flagsThen}
+use Rattle.keyboard_scancodes.specs.Waiting.{waitingBytes}
+use Rattle.keyboard_scancodes.proofs.Tests.{which}
+use Rattle.keyboard_scancodes.proofs.Waiting.{length-bytes}
 use Rattle.keyboard_record.specs.declared.KeyboardHandler.{KeyboardHandler}
-use Rattle.keyboard.specs.Answers.{ends2-3-21}
-use Rattle.keyboard_scancodes.specs.FlagTable.{isLockPress}
-use Rattle.keyboard_scancodes.specs.Strokes.{isSilent}
-use Rattle.keyboard.specs.Handler.{lampExchange, onByte, handle, effects, handled}
-use Rattle.keyboard.specs.KeyboardLamps.{keyboardLamps}
 use Rattle.keyboard_record.specs.Record.{wellFormed}
 use Rattle.keyboard_record.specs.Taking.{taken}
+use Rattle.keyboard_record.proofs.Taking.{taken-malformed, taken-none, taken-one}
+use Rattle.keyboard_record.proofs.WellFormed.{well-is}
+use Rattle.keyboard.specs.Answers.{ends2-3-21}
+use Rattle.keyboard.specs.Scancode.{Took, takes, caught}
+use Rattle.keyboard.specs.Handler.{handle, effects, handled}
+use Rattle.keyboard.specs.KeyboardLamps.{keyboardLamps}
+use Rattle.keyboard.proofs.Ways.{endOf, scanned, waitsAfter, Course, malformed, lacking, at-silent, at-key}
+use Rattle.keyboard.proofs.Courses.{course}
+use Rattle.keyboard.proofs.Counted.{answerEnd, lack-ends}
 use Rattle.keyboard.proofs.Refused.{malformed-handled}
-use Rattle.keyboard_scancodes.proofs.Tests.{which}
+use Rattle.keyboard.proofs.Waiting.{waits-left}
 use Rattle.buffer.specs.Buffer.{Place, put}
-use Rattle.key_listing.specs.Lines.{takenLine, refusalLine}
-use Rattle.key_listing.specs.Listing.{callOn, callText, recordAfter, callsText, listingFrom}
 use Rattle.buffer.proofs.Buffer.{put-append}
+use Rattle.key_listing.specs.Lines.{takenLine, refusalLine}
+use Rattle.key_listing.specs.Listing.{freeLog, callOn, callText, recordAfter, bytesLeft, callsText, listingFrom}
+use Rattle.key_listing.proofs.Used.{same-took, usedBehind, behind-le, left-behind, caught-le}
 
--- ---- the bytes that a call uses
+-- ---- the bytes that a call uses and leaves
 
 pub call-used-le : (h : KeyboardHandler) (s : List ℕ) → callOn h s .used ≤ length s
 unfolding handled effects
-call-used-le h s = used-le (handle keyboardLamps (h .state)) s (replicate 16 0)
+call-used-le h s = used-le (handle keyboardLamps (h .state)) s freeLog
 
-module _ (h : KeyboardHandler) (b : ℕ) (s : List ℕ) where
-  used-silent : wellFormed (h .state) ≡ true → isSilent b ≡ true → callOn h (b ∷ s) .used ≡ 1
-  unfolding handled effects handle onByte play
-  used-silent w q = rw (w, handle, onByte, q)
+-- a taking from the queue changes nothing of the keyboard
+taken-keyboard : (h : KeyboardHandler) → taken h .now .state .keyboard ≡ h .state .keyboard
+taken-keyboard h =
+    ⊎-elim
+    (λ w. ⊎-elim (λ e. rw (taken-none h w e)) (λ e. rw (taken-one h w e)) (which (eqb (h .state .count) 0)))
+    (λ w. rw (taken-malformed h w))
+    (which (wellFormed (h .state)))
 
-  used-key : wellFormed (h .state) ≡ true → isLockPress b ≡ false → isSilent b ≡ false → callOn h (b ∷ s) .used ≡ 1
-  unfolding handled effects handle onByte lampExchange bind play
-  used-key w k q = rw (w, handle, onByte, q, lampExchange, k)
+-- a byte leaves the bytes that wait and those of the script
+pub took-length : (ws s : List ℕ) {t : Took} → takes ws s ≡ some t → suc (length (t .waiting) + length (t .script)) ≡ length ws + length s
+took-length [] [] q = let z : _≡_ {A = ℕ} 0 1 = cc in absurd (omega arith)
+took-length [] (b ∷ s) {t} q =
+    let x : t .waiting ≡ [] = cc in
+    let y : t .script ≡ s = cc in
+    rw (x, y) (omega arith)
+took-length (b ∷ ws) s {t} q =
+    let x : t .waiting ≡ ws = cc in
+    let y : t .script ≡ s = cc in
+    rw (x, y) (omega arith)
 
-  well-used : wellFormed (h .state) ≡ true → 0 < callOn h (b ∷ s) .used
-  unfolding handled effects handle play
-  well-used w = rw (w, handle) (omega arith)
+module _ (h : KeyboardHandler) (s : List ℕ) where
+  abbrev ws : List ℕ
+  ws = waitingBytes (h .state .keyboard .waiting)
 
-  -- a byte that has no lamp exchange is the only one read
-  pub used-one : wellFormed (h .state) ≡ true → isLockPress b ≡ false → callOn h (b ∷ s) .used ≡ 1
-  used-one w k = ⊎-elim (used-silent w) (used-key w k) (which (isSilent b))
+  abbrev log : List ℕ
+  log = freeLog
 
-  malformed-ends : wellFormed (h .state) ≡ false → ends2-3-21 (callOn h (b ∷ s) .end) ≡ true
-  malformed-ends w = rw (malformed-handled keyboardLamps h (b ∷ s) (replicate 16 0) w)
+  -- a call that another follows takes a byte, which is counted
+  took-by : Course keyboardLamps (h .state) s log → ends2-3-21 (answerEnd (endOf keyboardLamps (h .state) s log)) ≡ false
+      → (t : Took) × (takes ws s ≡ some t) × (scanned keyboardLamps (h .state) s log ≡ some (t .byte))
+  took-by (malformed w e n) f = absurd (true≢false (rw e at f))
+  took-by (lacking x e n) f = absurd (true≢false (sym (lack-ends x) ∙ (rw e at f)))
+  took-by (at-silent t q g e n) f = (t, g, n)
+  took-by (at-key t lit q g e n) f = (t, g, n)
 
-  pub used-byte : ends2-3-21 (callOn h (b ∷ s) .end) ≡ false → 0 < callOn h (b ∷ s) .used
-  used-byte e =
-      ⊎-elim well-used (λ w. absurd (true≢false (sym (malformed-ends w) ∙ e))) (which (wellFormed (h .state)))
+  module _ (f : ends2-3-21 (callOn h s .end) ≡ false) where
+    call-took : (t : Took) × (takes ws s ≡ some t) × (scanned keyboardLamps (h .state) s log ≡ some (t .byte))
+    unfolding handled effects
+    call-took = took-by (course keyboardLamps (h .state) s log) f
 
-pub call-used : (h : KeyboardHandler) (s : List ℕ) → 0 < length s → ends2-3-21 (callOn h s .end) ≡ false → 0 < callOn h s .used
-call-used h [] n e = absurd (omega arith)
-call-used h (b ∷ s) n e = used-byte h b s e
+    call-well : wellFormed (h .state) ≡ true
+    call-well =
+        ⊎-elim (λ w. w) (λ w. absurd (true≢false (rw (malformed-handled keyboardLamps h s log w) at f))) (which (wellFormed (h .state)))
 
--- fewer bytes are left for the call that follows
-pub fewer-left : (h : KeyboardHandler) (b : ℕ) (s : List ℕ) → ends2-3-21 (callOn h (b ∷ s) .end) ≡ false
-    → length (drop (callOn h (b ∷ s) .used) (b ∷ s)) ≤ length s
-fewer-left h b s e = omega (arith, used-byte h b s e, call-used-le h (b ∷ s), length-drop (callOn h (b ∷ s) .used) (b ∷ s))
+    -- what is left behind the byte t
+    module _ (t : Took) (g : takes ws s ≡ some t) where
+      abbrev used : ℕ
+      used = usedBehind keyboardLamps (h .state) t log
+
+      pub script-behind : drop (callOn h s .used) s ≡ drop used (t .script)
+      unfolding handled effects
+      script-behind = left-behind keyboardLamps (h .state) call-well s log t g
+
+      counted-byte : scanned keyboardLamps (h .state) s log ≡ some (t .byte)
+      counted-byte =
+          let c = call-took in
+          subst (λ (u : Took). scanned keyboardLamps (h .state) s log ≡ some (u .byte)) (same-took (sym (c .1) ∙ g)) (c .2)
+
+      pub count-behind : recordAfter h s .state .keyboard .waiting .count ≤ length (t .waiting) + used
+      unfolding handled recordAfter
+      count-behind =
+          let after = callOn h s .handler .state .keyboard .waiting in
+          let all = waitsAfter keyboardLamps (h .state) t log in
+          let x = waits-left keyboardLamps (h .state) (well-is (h .state) call-well) s log t g counted-byte in
+          omega (
+            arith,
+            ap (λ (k : KeyboardState). k .waiting .count) (taken-keyboard (callOn h s .handler)),
+            length-bytes (after .bytes) 0 (after .count),
+            ap length (x .0),
+            length-take 16 all,
+            length-append (t .waiting) (caught keyboardLamps (flagsThen (h .state .keyboard)) t log),
+            caught-le keyboardLamps (h .state) t log,
+          )
+
+      bytes-behind : bytesLeft (recordAfter h s) (drop (callOn h s .used) s) < bytesLeft h s
+      bytes-behind =
+          omega (
+            arith,
+            count-behind,
+            ap length script-behind,
+            length-drop used (t .script),
+            behind-le keyboardLamps (h .state) t log,
+            took-length ws s g,
+            length-bytes (h .state .keyboard .waiting .bytes) 0 (h .state .keyboard .waiting .count),
+          )
+
+    -- so fewer are left for the call that follows
+    pub fewer-left : bytesLeft (recordAfter h s) (drop (callOn h s .used) s) < bytesLeft h s
+    fewer-left = bytes-behind (call-took .0) (call-took .1)
 
 -- ---- the text of a call, and of those that follow it
 
@@ -77,77 +145,94 @@ pub call-text : (h : KeyboardHandler) (s : List ℕ) {n : ℕ} {t : Answer (Opti
 unfolding callText
 call-text h s e f = ap₂ {C = List ℕ} (λ (x : ℕ) (y : Answer (Option KeyEvent)). refusalLine x ++ takenLine y) e f
 
-pub calls-over : (n : ℕ) (h : KeyboardHandler) → callsText n h [] ≡ []
+pub calls-over : (n : ℕ) (h : KeyboardHandler) (s : List ℕ) → bytesLeft h s ≡ 0 → callsText n h s ≡ []
 unfolding callsText
-calls-over zero h = refl
-calls-over (suc n) h = refl
+calls-over zero h s z = refl
+calls-over (suc n) h s z = rw (eq-eqb (bytesLeft h s) 0 z)
 
-module _ (n : ℕ) (h : KeyboardHandler) (b : ℕ) (s : List ℕ) where
+module _ (n : ℕ) (h : KeyboardHandler) (s : List ℕ) (i : 0 < bytesLeft h s) where
   -- no call follows
-  pub calls-last : ends2-3-21 (callOn h (b ∷ s) .end) ≡ true → callsText (suc n) h (b ∷ s) ≡ callText h (b ∷ s)
+  pub calls-last : ends2-3-21 (callOn h s .end) ≡ true → callsText (suc n) h s ≡ callText h s
   unfolding callsText
-  calls-last e = rw (e, append-nil)
+  calls-last e = rw (ne-eqb (bytesLeft h s) 0 (λ z. omega arith), e, append-nil)
 
   -- another follows on what is left
-  pub calls-more : ends2-3-21 (callOn h (b ∷ s) .end) ≡ false
-      → callsText (suc n) h (b ∷ s) ≡ callText h (b ∷ s) ++ callsText n (recordAfter h (b ∷ s)) (drop (callOn h (b ∷ s) .used) (b ∷ s))
+  pub calls-more : ends2-3-21 (callOn h s .end) ≡ false
+      → callsText (suc n) h s ≡ callText h s ++ callsText n (recordAfter h s) (drop (callOn h s .used) s)
   unfolding callsText
-  calls-more e = rw e
+  calls-more e = rw (ne-eqb (bytesLeft h s) 0 (λ z. omega arith), e)
 
 -- ---- more calls than bytes change nothing
 
-none-left : (n : ℕ) (h : KeyboardHandler) (s : List ℕ) → length s ≤ 0 → callsText n h s ≡ []
-none-left n h [] i = calls-over n h
-none-left n h (b ∷ s) i = absurd (omega arith)
-
-pub calls-enough : (n m : ℕ) (h : KeyboardHandler) (s : List ℕ) → length s ≤ n → length s ≤ m → callsText n h s ≡ callsText m h s
-calls-enough zero m h s i j = none-left zero h s i ∙ sym (none-left m h s i)
-calls-enough (suc n) zero h s i j = none-left (suc n) h s j ∙ sym (none-left zero h s j)
-calls-enough (suc n) (suc m) h [] i j = calls-over (suc n) h ∙ sym (calls-over (suc m) h)
-calls-enough (suc n) (suc m) h (b ∷ s) i j =
-    ⊎-elim (λ e. calls-last n h b s e ∙ sym (calls-last m h b s e))
-    (λ e. let l = fewer-left h b s e in
-    calls-more n h b s e
-    ∙ ap (λ (t : List ℕ). callText h (b ∷ s) ++ t) (calls-enough n m (recordAfter h (b ∷ s)) (drop (callOn h (b ∷ s) .used) (b ∷ s)) (omega arith) (omega arith))
-    ∙ sym (calls-more m h b s e))
-    (which (ends2-3-21 (callOn h (b ∷ s) .end)))
+pub calls-enough : (n m : ℕ) (h : KeyboardHandler) (s : List ℕ) → bytesLeft h s ≤ n → bytesLeft h s ≤ m → callsText n h s ≡ callsText m h s
+calls-enough zero m h s i j = calls-over zero h s (omega arith) ∙ sym (calls-over m h s (omega arith))
+calls-enough (suc n) zero h s i j = calls-over (suc n) h s (omega arith) ∙ sym (calls-over zero h s (omega arith))
+calls-enough (suc n) (suc m) h s i j =
+    ⊎-elim
+    (λ z. let e = eqb-true (bytesLeft h s) 0 z in calls-over (suc n) h s e ∙ sym (calls-over (suc m) h s e))
+    (λ z. let p : 0 < bytesLeft h s = omega (arith, eqb-false (bytesLeft h s) 0 z) in
+    ⊎-elim (λ e. calls-last n h s p e ∙ sym (calls-last m h s p e))
+    (λ e. let l = fewer-left h s e in
+    calls-more n h s p e
+    ∙ ap (λ (t : List ℕ). callText h s ++ t) (calls-enough n m (recordAfter h s) (drop (callOn h s .used) s) (omega arith) (omega arith))
+    ∙ sym (calls-more m h s p e))
+    (which (ends2-3-21 (callOn h s .end))))
+    (which (eqb (bytesLeft h s) 0))
 
 -- ---- so the listing of a script is that of its first call, then the listing of what is left, unless that call is the last
 
-pub listing-last : (h : KeyboardHandler) (s : List ℕ) → 0 < length s → ends2-3-21 (callOn h s .end) ≡ true → listingFrom h s ≡ callText h s
-listing-last h [] i e = absurd (omega arith)
-listing-last h (b ∷ s) i e = calls-last (length s) h b s e
+one-less : (n : ℕ) → 0 < n → n ≡ suc (n - 1)
+one-less n i = omega arith
 
-pub listing-more : (h : KeyboardHandler) (s : List ℕ) → 0 < length s → ends2-3-21 (callOn h s .end) ≡ false
-    → listingFrom h s ≡ callText h s ++ listingFrom (recordAfter h s) (drop (callOn h s .used) s)
-listing-more h [] i e = absurd (omega arith)
-listing-more h (b ∷ s) i e =
-    let rest = drop (callOn h (b ∷ s) .used) (b ∷ s) in
-    calls-more (length s) h b s e
-    ∙ ap (λ (t : List ℕ). callText h (b ∷ s) ++ t)
-    (calls-enough (length s) (length rest) (recordAfter h (b ∷ s)) rest (omega (arith, fewer-left h b s e)) (le-refl (length rest)))
+module _ (h : KeyboardHandler) (s : List ℕ) (i : 0 < bytesLeft h s) where
+  abbrev fewer : ℕ
+  fewer = bytesLeft h s - 1
+
+  first-of : listingFrom h s ≡ callsText (suc fewer) h s
+  first-of = ap (λ (n : ℕ). callsText n h s) (one-less (bytesLeft h s) i)
+
+  pub listing-last : ends2-3-21 (callOn h s .end) ≡ true → listingFrom h s ≡ callText h s
+  listing-last e = first-of ∙ calls-last fewer h s i e
+
+  pub listing-more : ends2-3-21 (callOn h s .end) ≡ false
+      → listingFrom h s ≡ callText h s ++ listingFrom (recordAfter h s) (drop (callOn h s .used) s)
+  listing-more e =
+      let rest = drop (callOn h s .used) s in
+      let l = fewer-left h s e in
+      first-of ∙ calls-more fewer h s i e
+      ∙ ap (λ (t : List ℕ). callText h s ++ t)
+      (calls-enough fewer (bytesLeft (recordAfter h s) rest) (recordAfter h s) rest (omega arith) (le-refl (bytesLeft (recordAfter h s) rest)))
 
 -- ---- a turn of the code's loop: a call on what is left of the script, at the next place of a buffer
 
-module _ (s : List ℕ) (h : KeyboardHandler) (u : ℕ) (i : u < length s) where
+module _ (s : List ℕ) (h : KeyboardHandler) (u : ℕ) (i : 0 < bytesLeft h (drop u s)) where
   abbrev left : List ℕ
   left = part u s
 
-  left-length : length left ≡ length s - u
-  left-length = ap length (part-drop u s) ∙ length-drop u s
+  some-left : 0 < bytesLeft h left
+  some-left = rw (part-drop u s) i
 
-  pub turn-used : ends2-3-21 (callOn h left .end) ≡ false → (0 < callOn h left .used) × (u + callOn h left .used ≤ length s)
-  turn-used e = (call-used h left (omega (arith, left-length)) e, omega (arith, left-length, call-used-le h left))
+  pub turn-used : u ≤ length s → u + callOn h left .used ≤ length s
+  turn-used l = omega (arith, ap length (part-drop u s), length-drop u s, call-used-le h left)
+
+  drop-left : drop (callOn h left .used) left ≡ drop (u + callOn h left .used) s
+  drop-left = ap (drop (callOn h left .used)) (part-drop u s) ∙ drop-drop (callOn h left .used) u s
+
+  pub turn-fewer : ends2-3-21 (callOn h left .end) ≡ false → bytesLeft (recordAfter h left) (drop (callOn h left .used) left) < bytesLeft h (drop u s)
+  turn-fewer e =
+      subst (λ (x : List ℕ). bytesLeft (recordAfter h left) (drop (callOn h left .used) left) < bytesLeft h x) (part-drop u s) (fewer-left h left e)
+
+  pub turn-left : bytesLeft (recordAfter h left) (drop (callOn h left .used) left) ≡ bytesLeft (recordAfter h left) (drop (u + callOn h left .used) s)
+  turn-left = ap (bytesLeft (recordAfter h left)) drop-left
 
   module _ (p : Place) {q : Place} (e : q ≡ put (callText h left) p) where
     pub turn-last : ends2-3-21 (callOn h left .end) ≡ true → put (listingFrom h (drop u s)) p ≡ q
-    turn-last l = rw (← part-drop u s, listing-last h left (omega (arith, left-length)) l) (sym e)
+    turn-last l = rw (← part-drop u s, listing-last h left some-left l) (sym e)
 
     pub turn-more : ends2-3-21 (callOn h left .end) ≡ false
         → put (listingFrom h (drop u s)) p ≡ put (listingFrom (recordAfter h left) (drop (u + callOn h left .used) s)) q
     turn-more l =
         let next = listingFrom (recordAfter h left) (drop (callOn h left .used) left) in
-        let d : drop (callOn h left .used) left ≡ drop (u + callOn h left .used) s = ap (drop (callOn h left .used)) (part-drop u s) ∙ drop-drop (callOn h left .used) u s in
         ap (λ (t : List ℕ). put (listingFrom h t) p) (sym (part-drop u s))
-        ∙ ap (λ (t : List ℕ). put t p) (listing-more h left (omega (arith, left-length)) l) ∙ put-append (callText h left) next p ∙ ap (put next) (sym e)
-        ∙ ap (λ (t : List ℕ). put (listingFrom (recordAfter h left) t) q) d
+        ∙ ap (λ (t : List ℕ). put t p) (listing-more h left some-left l) ∙ put-append (callText h left) next p ∙ ap (put next) (sym e)
+        ∙ ap (λ (t : List ℕ). put (listingFrom (recordAfter h left) t) q) drop-left

@@ -1,4 +1,5 @@
 -- Laws of the listing.
+pub mod Used
 pub mod Calls
 pub mod Steps
 pub mod Listing

@@ -1,11 +1,11 @@
--- A listing is what the history rule's words say byte by byte; 3, 20 and 21 never occur. So it has a line at most for each script byte, and 13 bytes for each hold it.
+-- A listing is what the history rule's words say byte by byte; 3, 20 and 21 never occur. So it has a line at most for each script byte, since a byte that waited was one, and 13 bytes for each hold it.
 -- Assumes nothing.
 use mathlib.Core.Path.{_≡_, refl, ap, _∙_}
 use mathlib.Core.Bool.{Bool, true, false, cond}
 use mathlib.Core.List.{List, [], _∷_, _++_, append-nil}
 use mathlib.Core.Option.{Option, none, some}
-use Prim.Native.Nat.{ℕ, zero, suc, _*_, _-_, _≤_}
-use native.Mathlib.Nat.{le-refl}
+use Prim.Native.Nat.{ℕ, zero, suc, _+_, _*_, _<_, _≤_}
+use native.Mathlib.Nat.{zero-add}
 use native.Mathlib.Omega.{arith}
 use lib.Dec.{eqb, ltb}
 use lib.ListN.{length, take, drop, length-append, length-take, length-drop}
@@ -18,16 +18,21 @@ use Rattle.exchange.specs.Answer.{Answer, gives, numberEnded}
 use Rattle.ps2_answers.specs.Refusals.{Success}
 use Rattle.keyboard_record.specs.declared.KeyboardHandler.{KeyboardHandler}
 use Rattle.keyboard.specs.Answers.{ends2-3-21}
+use Rattle.keyboard.specs.KeyboardLamps.{keyboardLamps}
+use Rattle.keyboard.specs.Scancode.{Took, took, takes}
 use Rattle.keyboard_scancodes.specs.Events.{eventOf}
+use Rattle.keyboard_scancodes.specs.Waiting.{waitingBytes}
 use Rattle.keyboard_history.specs.Past.{Past, nothing, _▸_}
 use Rattle.keyboard_history.specs.Said.{flagsSaid}
+use Rattle.keyboard_record.specs.Record.{fresh}
 use Rattle.keyboard_record.specs.Taking.{taken}
-use Rattle.keyboard_history.proofs.AsSaid.{As, as-fresh, as-well}
+use Rattle.keyboard_history.proofs.AsSaid.{As, as-fresh, as-bytes}
 use Rattle.key_listing.specs.Text.{ascii, digits, decimal}
 use Rattle.key_listing.specs.Lines.{actionText, characterText, eventLine, takenLine, refusalLine}
-use Rattle.key_listing.specs.Listing.{scriptLimit, callOn, recordAfter, callsText, listing}
-use Rattle.key_listing.specs.Listed.{After, Listed, used-up, an-event, no-event, a-19, a-2}
-use Rattle.key_listing.proofs.Calls.{used-byte, used-one, call-text, calls-over, calls-last, calls-more}
+use Rattle.key_listing.specs.Listing.{scriptLimit, freeLog, callOn, recordAfter, bytesLeft, callsText, listing}
+use Rattle.key_listing.specs.Listed.{waitsThen, After, Listed, used-up, an-event, no-event, a-19, a-2}
+use Rattle.key_listing.proofs.Calls.{took-length, script-behind, count-behind, call-text, calls-over, calls-last, calls-more}
+use Rattle.key_listing.proofs.Used.{usedBehind, behind-le, plain-used}
 use Rattle.key_listing.proofs.Steps.{Step, step-2, step-19, step-silent, step-event, step}
 
 -- ---- the lines
@@ -41,49 +46,65 @@ event-line : (e : KeyEvent) → refusalLine 0 ++ takenLine (gives (some e)) ≡ 
 unfolding refusalLine
 event-line e = refl
 
-module _ (n : ℕ) {h : KeyboardHandler} {bytes : Past ℕ} (a : As h bytes []) (b : ℕ) (s : List ℕ) where
+module _ (n : ℕ) {h : KeyboardHandler} {bytes : Past ℕ} {ws : List ℕ} (a : As h bytes ws []) (s : List ℕ) (t : Took) (g : takes ws s ≡ some t) where
   abbrev left : List ℕ
-  left = drop (callOn h (b ∷ s) .used) (b ∷ s)
+  left = drop (callOn h s .used) s
 
-  after-byte : ends2-3-21 (callOn h (b ∷ s) .end) ≡ false → After b s left
-  after-byte e =
-      let u = used-byte h b s e in
-      let k : callOn h (b ∷ s) .used ≡ suc (callOn h (b ∷ s) .used - 1) = omega arith in
+  -- the byte that the call takes
+  took-so : takes (waitingBytes (h .state .keyboard .waiting)) s ≡ some t
+  took-so = ap (λ (w : List ℕ). takes w s) (a .bytes-wait) ∙ g
+
+  some-left : 0 < bytesLeft h s
+  some-left = omega (arith, took-length ws s g, as-bytes a)
+
+  after-byte : ends2-3-21 (callOn h s .end) ≡ false → As (recordAfter h s) (bytes ▸ t .byte) (waitsThen bytes ws s) [] → After t (waitsThen bytes ws s) left
+  after-byte e r =
       record {
-        read = callOn h (b ∷ s) .used - 1;
-        locks-only = λ f. omega (arith, used-one h b s (as-well a) f);
-        is-left = ap (λ (m : ℕ). drop m (b ∷ s)) k;
+        read = usedBehind keyboardLamps (h .state) t freeLog;
+        locks-only = plain-used keyboardLamps (h .state) t freeLog;
+        in-script = behind-le keyboardLamps (h .state) t freeLog;
+        is-left = script-behind h s e t took-so;
+        few-new = omega (arith, as-bytes r, count-behind h s e t took-so);
       }
 
   -- a call that another follows: its line, and the text of what is left
-  goes-on : {x : End (Answer Success)} {t : Answer (Option KeyEvent)} {line : List ℕ} → callOn h (b ∷ s) .end ≡ x → taken (callOn h (b ∷ s) .handler) .answer ≡ t
-      → ends2-3-21 x ≡ false → refusalLine (numberEnded x) ++ takenLine t ≡ line
-      → (After b s left → Listed bytes (b ∷ s) (line ++ callsText n (recordAfter h (b ∷ s)) left)) → Listed bytes (b ∷ s) (callsText (suc n) h (b ∷ s))
-  goes-on x t e l more =
-      let g = ap ends2-3-21 x ∙ e in
-      rw (calls-more n h b s g, call-text h (b ∷ s) (ap numberEnded x) t ∙ l) (more (after-byte g))
+  goes-on : {x : End (Answer Success)} {y : Answer (Option KeyEvent)} {line : List ℕ} → callOn h s .end ≡ x → taken (callOn h s .handler) .answer ≡ y
+      → As (recordAfter h s) (bytes ▸ t .byte) (waitsThen bytes ws s) [] → ends2-3-21 x ≡ false → refusalLine (numberEnded x) ++ takenLine y ≡ line
+      → (After t (waitsThen bytes ws s) left → Listed bytes ws s (line ++ callsText n (recordAfter h s) left)) → Listed bytes ws s (callsText (suc n) h s)
+  goes-on x y r e l more =
+      let f = ap ends2-3-21 x ∙ e in
+      rw (calls-more n h s some-left f, call-text h s (ap numberEnded x) y ∙ l) (more (after-byte f r))
 
-  by-step : (As (recordAfter h (b ∷ s)) (bytes ▸ b) [] → After b s left → Listed (bytes ▸ b) left (callsText n (recordAfter h (b ∷ s)) left))
-      → Step h bytes b s → Listed bytes (b ∷ s) (callsText (suc n) h (b ∷ s))
-  by-step ih (step-2 p k x t) =
-      rw (calls-last n h b s (ap ends2-3-21 x), call-text h (b ∷ s) (ap numberEnded x) t, append-nil (refusalLine 2)) (a-2 b k)
-  by-step ih (step-19 q g x t r) = goes-on x t refl (append-nil (refusalLine 19)) (λ f. a-19 b q g f (ih r f))
-  by-step ih (step-silent q x t r) = goes-on x t refl silent-line (λ f. no-event b q f (ih r f))
-  by-step ih (step-event g x t r) = goes-on x t refl (event-line (eventOf b (flagsSaid (bytes ▸ b)))) (λ f. an-event b g f (ih r f))
+  by-step : (As (recordAfter h s) (bytes ▸ t .byte) (waitsThen bytes ws s) [] → After t (waitsThen bytes ws s) left → Listed (bytes ▸ t .byte) (waitsThen bytes ws s) left (callsText n (recordAfter h s) left))
+      → Step h bytes ws s t → Listed bytes ws s (callsText (suc n) h s)
+  by-step ih (step-2 p k x y) =
+      rw (calls-last n h s some-left (ap ends2-3-21 x), call-text h s (ap numberEnded x) y, append-nil (refusalLine 2)) (a-2 g k)
+  by-step ih (step-19 q v x y r) = goes-on x y r refl (append-nil (refusalLine 19)) (λ f. a-19 g q v f (ih r f))
+  by-step ih (step-silent q x y r) = goes-on x y r refl silent-line (λ f. no-event g q f (ih r f))
+  by-step ih (step-event v x y r) = goes-on x y r refl (event-line (eventOf (t .byte) (flagsSaid (bytes ▸ t .byte)))) (λ f. an-event g v f (ih r f))
 
-left-le : {b : ℕ} {s left : List ℕ} → After b s left → length left ≤ length s
-left-le {s = s} f = omega (arith, ap length (f .is-left), length-drop (f .read) s)
+-- for each byte that is taken one fewer is left
+left-le : (ws s : List ℕ) {waits left : List ℕ} {t : Took} → takes ws s ≡ some t → After t waits left → length waits + length left < length ws + length s
+left-le ws s {t = t} g f =
+    omega (arith, took-length ws s g, f .few-new, f .in-script, ap length (f .is-left), length-drop (f .read) (t .script))
 
-calls-listed : (n : ℕ) {h : KeyboardHandler} {bytes : Past ℕ} (s : List ℕ) → length s ≤ n → As h bytes [] → Listed bytes s (callsText n h s)
-calls-listed zero {h} [] i a = rw (calls-over zero h) used-up
-calls-listed zero (b ∷ s) i a = absurd (omega arith)
-calls-listed (suc n) {h} [] i a = rw (calls-over (suc n) h) used-up
-calls-listed (suc n) {h} (b ∷ s) i a =
-    by-step n a b s (λ r f. calls-listed n (drop (callOn h (b ∷ s) .used) (b ∷ s)) (omega (arith, left-le f)) r) (step a b s)
+one-listed : (n : ℕ) {h : KeyboardHandler} {bytes : Past ℕ} {ws : List ℕ} (s : List ℕ) (t : Took) → length ws + length s ≤ suc n → As h bytes ws [] → takes ws s ≡ some t
+    → ((h : KeyboardHandler) (bytes : Past ℕ) (ws s : List ℕ) → length ws + length s ≤ n → As h bytes ws [] → Listed bytes ws s (callsText n h s))
+    → Listed bytes ws s (callsText (suc n) h s)
+one-listed n {h} {bytes} {ws} s t i a g next =
+    by-step n a s t g (λ r f. next (recordAfter h s) (bytes ▸ t .byte) (waitsThen bytes ws s) (drop (callOn h s .used) s) (omega (arith, left-le ws s g f)) r) (step a s t g)
 
-pub listing-listed : (script : List ℕ) → Listed nothing (take scriptLimit script) (listing script)
+calls-listed : (n : ℕ) {h : KeyboardHandler} {bytes : Past ℕ} (ws s : List ℕ) → length ws + length s ≤ n → As h bytes ws [] → Listed bytes ws s (callsText n h s)
+calls-listed zero {h} [] [] i a = rw (calls-over zero h [] (omega (arith, as-bytes a))) used-up
+calls-listed zero [] (b ∷ s) i a = absurd (omega arith)
+calls-listed zero (b ∷ ws) s i a = absurd (omega arith)
+calls-listed (suc n) {h} [] [] i a = rw (calls-over (suc n) h [] (omega (arith, as-bytes a))) used-up
+calls-listed (suc n) [] (b ∷ s) i a = one-listed n (b ∷ s) (took b [] s) i a refl (λ h bytes ws s l r. calls-listed n ws s l r)
+calls-listed (suc n) (b ∷ ws) s i a = one-listed n s (took b ws s) i a refl (λ h bytes ws s l r. calls-listed n ws s l r)
+
+pub listing-listed : (script : List ℕ) → Listed nothing [] (take scriptLimit script) (listing script)
 unfolding listing
-listing-listed script = calls-listed (length (take scriptLimit script)) (take scriptLimit script) (le-refl (length (take scriptLimit script))) as-fresh
+listing-listed script = calls-listed (bytesLeft fresh (take scriptLimit script)) [] (take scriptLimit script) (omega arith) as-fresh
 
 -- ---- the bytes
 
@@ -118,18 +139,18 @@ refusal-length : (n : ℕ) → length (refusalLine n) ≤ 13
 unfolding refusalLine
 refusal-length n = by-number n (eqb n 0)
 
-listed-length : {bytes : Past ℕ} {s text : List ℕ} → Listed bytes s text → length text ≤ 13 * length s
+listed-length : {bytes : Past ℕ} {ws s text : List ℕ} → Listed bytes ws s text → length text ≤ 13 * (length ws + length s)
 listed-length used-up = omega arith
-listed-length (an-event {bytes = bytes} {text = text} b g f t) =
-    let e = eventOf b (flagsSaid (bytes ▸ b)) in
-    omega (arith, length-append (eventLine e) text, event-length e, left-le f, listed-length t)
-listed-length (no-event b q f t) = omega (arith, left-le f, listed-length t)
-listed-length (a-19 {text = text} b q g f t) =
-    omega (arith, length-append (refusalLine 19) text, refusal-length 19, left-le f, listed-length t)
-listed-length (a-2 b k) = omega (arith, refusal-length 2)
+listed-length (an-event {bytes = bytes} {waiting = ws} {script = s} {text = text} {t = t} g v f l) =
+    let e = eventOf (t .byte) (flagsSaid (bytes ▸ t .byte)) in
+    omega (arith, length-append (eventLine e) text, event-length e, left-le ws s g f, listed-length l)
+listed-length (no-event {waiting = ws} {script = s} g q f l) = omega (arith, left-le ws s g f, listed-length l)
+listed-length (a-19 {waiting = ws} {script = s} {text = text} g q v f l) =
+    omega (arith, length-append (refusalLine 19) text, refusal-length 19, left-le ws s g f, listed-length l)
+listed-length (a-2 {waiting = ws} {script = s} g k) = omega (arith, refusal-length 2, took-length ws s g)
 
 pub listing-length : (script : List ℕ) → length (listing script) ≤ 13 * length (take scriptLimit script)
-listing-length script = listed-length (listing-listed script)
+listing-length script = rw zero-add at (listed-length (listing-listed script))
 
 -- the buffer of the program is long enough
 pub listing-fits : (script : List ℕ) → length (listing script) ≤ 851968

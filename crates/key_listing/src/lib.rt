@@ -1,14 +1,15 @@
-// The listing of key events that the program tablekeys prints: the handler is called on a script until it is used, and each event is taken at once.
+// The listing of key events that the program tablekeys prints: the handler is called on a script until it is used and no byte waits, and each event is taken at once.
 ghost use mathlib.Core.Path.{_≡_};
 ghost use mathlib.Core.List.{[], _∷_};
 ghost use Prim.Native.Nat.{_<_};
+ghost use lib.ListN.{drop};
 ghost use Rattle.exchange.specs.Answer.{numberEnded};
 ghost use Rattle.keyboard.specs.Answers.{saidCall, ends2-3-21};
 ghost use Rattle.keyboard_record.specs.Record.{fresh};
 ghost use Rattle.keyboard_record.specs.Taking.{saidTaken};
 ghost use Rattle.key_listing.specs.Text.{digit as Text·digit, digits, decimal};
 ghost use Rattle.key_listing.specs.Lines.{actionText, characterText, eventLine, takenLine, refusalLine};
-ghost use Rattle.key_listing.specs.Listing.{callOn, callText, recordAfter, listingFrom, listing};
+ghost use Rattle.key_listing.specs.Listing.{callOn, callText, recordAfter, bytesLeft, listingFrom, listing};
 ghost use Rattle.buffer.specs.Buffer.{Holds, place, put};
 use buffer::put_byte;
 use buffer::put_text;
@@ -24,10 +25,11 @@ use keycodes_ascii::KeyEvent;
 // The most script bytes that are read.
 const SCRIPT_LIMIT: usize = 65536;
 
-// What one handler call leaves: whether it is the last one, the script bytes used, the next place of the listing, and the record.
+// What one handler call leaves: whether it is the last one, the script bytes used, the bytes that are left for the calls after it, the next place of the listing, and the record.
 struct Called {
     is_last: bool,
     used: usize,
+    left: usize,
     at: usize,
     handler: KeyboardHandler,
 }
@@ -42,21 +44,23 @@ pub fn list_keys(script: &[u8], out: &mut [u8]) -> usize
     list_calls(script, out)
 }
 
-// The same of a script that is used to its end.
+// The same of a script that is used to its end. The bytes that are left are those of the script and those that wait.
 fn list_calls(script: &[u8], out: &mut [u8]) -> usize
     ensures { λ r. ⌜ place r (now (out .exit)) ≡ put (listingFrom fresh (now (script .entry))) (place 0 (now (out .entry))) ⌝ }
 {
     let mut handler = KeyboardHandler::fresh();
     let mut used: usize = 0;
+    let mut left = script.len();
     let mut at: usize = 0;
-    while used < script.len() {
+    while 0 < left {
         let call = call_once(handler, &script[used..], out, at);
         at = call.at;
         if call.is_last {
             return at;
         }
-        let left = call.handler;
-        handler = left;
+        let next = call.handler;
+        handler = next;
+        left = call.left;
         used += call.used;
     }
     at
@@ -64,7 +68,7 @@ fn list_calls(script: &[u8], out: &mut [u8]) -> usize
 
 // One handler call on what is left of the script, and the taking after it. What they print is put into `out` from `at` on.
 fn call_once(handler: KeyboardHandler, script: &[u8], out: &mut [u8], at: usize) -> Called
-    ensures { λ r. ⌜ (r .«is_last» ≡ ends2-3-21 (callOn handler (now (script .entry)) .end)) × (r .used ≡ callOn handler (now (script .entry)) .used) × (r .handler ≡ recordAfter handler (now (script .entry))) × (place (r .at) (now (out .exit)) ≡ put (callText handler (now (script .entry))) (place at (now (out .entry)))) ⌝ }
+    ensures { λ r. ⌜ (r .«is_last» ≡ ends2-3-21 (callOn handler (now (script .entry)) .end)) × (r .used ≡ callOn handler (now (script .entry)) .used) × (r .left ≡ bytesLeft (recordAfter handler (now (script .entry))) (drop (callOn handler (now (script .entry)) .used) (now (script .entry)))) × (r .handler ≡ recordAfter handler (now (script .entry))) × (place (r .at) (now (out .exit)) ≡ put (callText handler (now (script .entry))) (place at (now (out .entry)))) ⌝ }
 {
     let mut log = [0u8; 16];
     let call = handle(handler, script, &mut log);
@@ -74,12 +78,15 @@ fn call_once(handler: KeyboardHandler, script: &[u8], out: &mut [u8], at: usize)
     let taken = take_event(left);
     let event = taken.event;
     let next = taken.handler;
+    let waiting = next.state.keyboard.waiting.count as usize;
+    let bytes_left = script.len() - used + waiting;
     let refused = put_refusal(out, at, answer);
     let listed = put_taken(out, refused, event);
     let last = is_last(answer);
     Called {
         is_last: last,
         used,
+        left: bytes_left,
         at: listed,
         handler: next,
     }

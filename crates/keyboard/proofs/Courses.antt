@@ -1,26 +1,31 @@
 -- The courses that a handler call can take, on any state, script and log: how its play ends, and which scancode it counts.
 -- Assumes nothing.
-use mathlib.Core.Path.{_≡_, refl, ap, _∙_}
-use mathlib.Core.Bool.{Bool, true, false, _&&_}
-use mathlib.Core.List.{List, [], _∷_}
+use mathlib.Core.Path.{_≡_, refl, sym, ap, _∙_}
+use mathlib.Core.Bool.{true, false}
+use mathlib.Core.List.{List, [], _∷_, _++_}
 use mathlib.Core.Logic.{⊎-elim}
-use mathlib.Core.Option.{none, some}
+use mathlib.Core.Option.{Option, none, some}
 use Prim.Native.Nat.{ℕ}
 use Rattle.exchange.specs.Exchange.{p60, noScript, Exchange, done, read, bind, End, yields, lacks, toldEnd, Played, play}
 use Rattle.exchange.specs.Answer.{Answer, gives, refuses}
 use Rattle.exchange.specs.Sequence.{follow}
+use Rattle.exchange.specs.Keeping.{Kept, kept, keeping}
+use Rattle.exchange.proofs.Keeping.{keeping-forgets, keeping-bind}
 use Rattle.exchange.proofs.Sequence.{play-bind}
 use Rattle.ps2_answers.specs.Refusals.{Success, success}
+use Rattle.ps2_kept.specs.Thrown.{thrown}
+use Rattle.ps2_kept.specs.Kept.{keptOf}
 use Rattle.keyboard_scancodes.specs.Strokes.{isPrefix, isSilent}
 use Rattle.keyboard_scancodes.specs.FlagTable.{isLockPress}
 use Rattle.keyboard_scancodes.specs.FlagsAfter.{flagsThen}
 use Rattle.keyboard_scancodes.specs.Lamps.{lampsLit}
+use Rattle.keyboard_scancodes.specs.Waiting.{bytesFrom, waitingBytes, waitingOf}
 use Rattle.keyboard_scancodes.proofs.Tests.{which}
 use Rattle.keyboard_scancodes.proofs.Silent.{silent-lock}
 use Rattle.keyboard_record.specs.declared.HandlerState.{HandlerState}
 use Rattle.keyboard_record.specs.Record.{withKeys, wellFormed}
-use Rattle.keyboard.specs.Scancode.{ranOut, scancode}
-use Rattle.keyboard.specs.Handler.{Outcome, outcome, queued, shown, lampExchange, onByte, handle}
+use Rattle.keyboard.specs.Scancode.{Took, took, takes, thrownAt, lampsRanOut, caught, countedOf, scancode}
+use Rattle.keyboard.specs.Handler.{Outcome, outcome, queued, shown, takeByte, lampExchange, onByte, handle}
 use Rattle.keyboard.proofs.Ways.{endOf, scanned, Course, malformed, lacking, at-silent, at-key}
 
 -- ---- an operation, then what is made of its value
@@ -37,104 +42,165 @@ end-done {B} {C} f t s l =
 
 module _ {A : Type 0} (lamps : ℕ → Exchange (Answer A)) where
   module _ (h : HandlerState) where
-    -- the flags just after a byte
+    -- the flags just after a byte, and the bytes that wait
     abbrev after : ℕ → ℕ
     after b = flagsThen (h .keyboard) b
 
-    pub handle-malformed : wellFormed h ≡ false → handle lamps h ≡ done (outcome (refuses 21) (gives success) h none)
+    abbrev waits : List ℕ
+    waits = waitingBytes (h .keyboard .waiting)
+
+    pub no-bytes : h .keyboard .waiting .count ≡ 0 → waits ≡ []
+    unfolding bytesFrom
+    no-bytes q = rw q
+
+    pub handle-malformed : wellFormed h ≡ false → handle lamps h ≡ done (outcome (refuses 21) (gives success) h none 0)
     unfolding handle
     handle-malformed w = rw w
 
-    malformed-end : (s l : List ℕ) → wellFormed h ≡ false → endOf lamps h s l ≡ yields (outcome (refuses 21) (gives success) h none)
+    malformed-end : (s l : List ℕ) → wellFormed h ≡ false → endOf lamps h s l ≡ yields (outcome (refuses 21) (gives success) h none 0)
     unfolding play
     malformed-end s l w = ap (λ (t : Exchange Outcome). play t s l .end) (handle-malformed w)
 
     malformed-none : (s l : List ℕ) → wellFormed h ≡ false → scanned lamps h s l ≡ none
     unfolding scancode
-    malformed-none [] l w = refl
-    malformed-none (b ∷ s) l w = rw w
+    malformed-none s l w = on (takes waits s)
+      where
+        on : (o : Option Took) → countedOf lamps (wellFormed h) after o l ≡ none
+        on none = refl
+        on (some t) = rw w
 
     module _ (w : wellFormed h ≡ true) where
-      handle-well : handle lamps h ≡ read p60 (onByte lamps h)
+      pub handle-well : handle lamps h ≡ takeByte waits (onByte lamps h)
       unfolding handle
       handle-well = rw w
 
-      empty-end : (l : List ℕ) → endOf lamps h [] l ≡ lacks (noScript p60)
-      unfolding play
-      empty-end l = ap (λ (t : Exchange Outcome). play t [] l .end) handle-well
+      -- a byte was taken: the rest of the call is left
+      module _ (t : Took) (s l : List ℕ) (g : takes waits s ≡ some t)
+          (p : endOf lamps h s l ≡ play (onByte lamps h (t .waiting) (t .byte)) (t .script) l .end) where
+        abbrev b : ℕ
+        b = t .byte
 
-      empty-none : (l : List ℕ) → scanned lamps h [] l ≡ none
-      unfolding scancode
-      empty-none l = refl
-
-      module _ (b : ℕ) (s l : List ℕ) where
-        -- the lamp exchange of the press of a lock, by itself
-        abbrev lampEnd : End (Answer A)
-        lampEnd = play (lamps (lampsLit (after b))) s l .end
-
-        byte-end : endOf lamps h (b ∷ s) l ≡ play (onByte lamps h b) s l .end
-        unfolding play
-        byte-end = ap (λ (t : Exchange Outcome). play t (b ∷ s) l .end) handle-well
-
-        byte-some : (isLockPress b && ranOut lampEnd) ≡ false → scanned lamps h (b ∷ s) l ≡ some b
+        byte-some : lampsRanOut lamps after t l ≡ false → scanned lamps h s l ≡ some b
         unfolding scancode
-        byte-some e = rw (w, e)
+        byte-some e = rw (g, w, e)
 
-        byte-none : (isLockPress b && ranOut lampEnd) ≡ true → scanned lamps h (b ∷ s) l ≡ none
+        byte-none : lampsRanOut lamps after t l ≡ true → scanned lamps h s l ≡ none
         unfolding scancode
-        byte-none e = rw (w, e)
+        byte-none e = rw (g, w, e)
 
         silent-end : isSilent b ≡ true
-            → play (onByte lamps h b) s l .end ≡ yields (outcome (gives success) (gives success) (withKeys (isPrefix b) (h .keyboard .modifiers .bits) h) none)
+            → play (onByte lamps h (t .waiting) b) (t .script) l .end
+            ≡ yields (outcome (gives success) (gives success) (withKeys (isPrefix b) (h .keyboard .modifiers .bits) (waitingOf (t .waiting)) h) none 0)
         unfolding onByte play
         silent-end q = rw (q, onByte)
 
-        is-silent : isSilent b ≡ true → Course lamps h (b ∷ s) l
-        is-silent q = at-silent b q (byte-end ∙ silent-end q) (byte-some (rw (silent-lock b q)))
+        is-silent : isSilent b ≡ true → Course lamps h s l
+        is-silent q = at-silent t q g (p ∙ silent-end q) (byte-some (rw (silent-lock b q)))
+
+        -- the lamp exchange of the press of a lock by itself, with the bytes that it threw away
+        abbrev lampsAlone : Exchange (Answer A)
+        lampsAlone = lamps (lampsLit (after b))
+
+        abbrev lampEnd : End (Kept (List ℕ) (Answer A))
+        lampEnd = play (keeping thrown [] lampsAlone) (t .script) l .end
+
+        -- what the lamp exchange and its bytes make of the call
+        abbrev byLamps : Kept (List ℕ) (Answer Success) → Outcome
+        byLamps lit = queued h b (after b) (keptOf (t .waiting ++ lit .bytes)) (lit .value)
 
         module _ (q : isSilent b ≡ false) where
-          key-bind : play (onByte lamps h b) s l .end
-              ≡ play (bind (lampExchange lamps b (after b)) (λ lit. done (queued h b (after b) lit))) s l .end
+          key-bind : play (onByte lamps h (t .waiting) b) (t .script) l .end
+              ≡ play (bind (keeping thrown [] (lampExchange lamps b (after b))) (λ lit. done (byLamps lit))) (t .script) l .end
           unfolding onByte
           key-bind = rw (q, onByte)
 
           -- a key's end, by that of its lamp exchange
-          key-end : {e : End (Answer Success)} → play (lampExchange lamps b (after b)) s l .end ≡ e
-              → endOf lamps h (b ∷ s) l ≡ toldEnd (queued h b (after b)) e
+          key-end : {e : End (Kept (List ℕ) (Answer Success))} → play (keeping thrown [] (lampExchange lamps b (after b))) (t .script) l .end ≡ e
+              → endOf lamps h s l ≡ toldEnd byLamps e
           key-end e =
-              byte-end ∙ key-bind ∙ end-done (queued h b (after b)) (lampExchange lamps b (after b)) s l
-              ∙ ap (toldEnd (queued h b (after b))) e
+              p ∙ key-bind ∙ end-done byLamps (keeping thrown [] (lampExchange lamps b (after b))) (t .script) l ∙ ap (toldEnd byLamps) e
 
-          other-end : isLockPress b ≡ false → play (lampExchange lamps b (after b)) s l .end ≡ yields (gives success)
-          unfolding lampExchange play
+          other-end : isLockPress b ≡ false → play (keeping thrown [] (lampExchange lamps b (after b))) (t .script) l .end ≡ yields (kept (gives success) [])
+          unfolding lampExchange keeping play
           other-end k = rw (k, lampExchange)
 
-          lock-bind : isLockPress b ≡ true
-              → play (lampExchange lamps b (after b)) s l .end ≡ play (bind (lamps (lampsLit (after b))) (λ a. done (shown a))) s l .end
+          none-caught : isLockPress b ≡ false → caught lamps after t l ≡ []
+          unfolding caught
+          none-caught k = rw k
+
+          lock-tree : isLockPress b ≡ true → lampExchange lamps b (after b) ≡ bind lampsAlone (λ a. done (shown a))
           unfolding lampExchange
-          lock-bind k = rw (k, lampExchange)
+          lock-tree k = rw k
 
-          lock-end : {e : End (Answer A)} → isLockPress b ≡ true → lampEnd ≡ e
-              → play (lampExchange lamps b (after b)) s l .end ≡ toldEnd shown e
-          lock-end k e = lock-bind k ∙ end-done shown (lamps (lampsLit (after b))) s l ∙ ap (toldEnd shown) e
+          lock-bind : isLockPress b ≡ true → keeping thrown [] (lampExchange lamps b (after b)) ≡ bind (keeping thrown [] lampsAlone) (λ k. done (kept (shown (k .value)) (k .bytes)))
+          unfolding keeping
+          lock-bind k = rw (lock-tree k) (keeping-bind thrown (λ a. done (shown a)) [] lampsAlone)
 
-          is-lock : isLockPress b ≡ true → (e : End (Answer A)) → lampEnd ≡ e → Course lamps h (b ∷ s) l
-          is-lock k (yields a) e = at-key b (shown a) q (key-end (lock-end k e)) (byte-some (rw (k, e)))
-          is-lock k (lacks x) e = lacking x (key-end (lock-end k e)) (byte-none (rw (k, e)))
+          lock-end : {e : End (Kept (List ℕ) (Answer A))} → isLockPress b ≡ true → lampEnd ≡ e
+              → play (keeping thrown [] (lampExchange lamps b (after b))) (t .script) l .end ≡ toldEnd (λ k. kept (shown (k .value)) (k .bytes)) e
+          lock-end k e =
+              ap (λ (x : Exchange (Kept (List ℕ) (Answer Success))). play x (t .script) l .end) (lock-bind k)
+              ∙ end-done (λ k. kept (shown (k .value)) (k .bytes)) (keeping thrown [] lampsAlone) (t .script) l
+              ∙ ap (toldEnd (λ k. kept (shown (k .value)) (k .bytes))) e
 
-          is-other : isLockPress b ≡ false → Course lamps h (b ∷ s) l
-          is-other k = at-key b (gives success) q (key-end (other-end k)) (byte-some (rw k))
+          lock-caught : {e : End (Kept (List ℕ) (Answer A))} → isLockPress b ≡ true → lampEnd ≡ e → caught lamps after t l ≡ thrownAt e
+          unfolding caught
+          lock-caught k e = rw (k, e)
 
-          is-key : Course lamps h (b ∷ s) l
+          -- the same exchange without its bytes
+          plain-end : {e : End (Kept (List ℕ) (Answer A))} → lampEnd ≡ e → play lampsAlone (t .script) l .end ≡ toldEnd (λ k. k .value) e
+          plain-end e =
+              ap (λ (x : Exchange (Answer A)). play x (t .script) l .end) (sym (keeping-forgets thrown [] lampsAlone))
+              ∙ end-done (λ k. k .value) (keeping thrown [] lampsAlone) (t .script) l ∙ ap (toldEnd (λ k. k .value)) e
+
+          is-lock : isLockPress b ≡ true → (e : End (Kept (List ℕ) (Answer A))) → lampEnd ≡ e → Course lamps h s l
+          is-lock k (yields a) e =
+              at-key t (shown (a .value)) q g (rw (lock-caught k e) (key-end (lock-end k e))) (byte-some (rw (k, plain-end e)))
+          is-lock k (lacks x) e = lacking x (key-end (lock-end k e)) (byte-none (rw (k, plain-end e)))
+
+          is-other : isLockPress b ≡ false → Course lamps h s l
+          is-other k = at-key t (gives success) q g (rw (none-caught k) (key-end (other-end k))) (byte-some (rw k))
+
+          is-key : Course lamps h s l
           is-key = ⊎-elim (λ k. is-lock k lampEnd refl) is-other (which (isLockPress b))
 
-        has-byte : Course lamps h (b ∷ s) l
+        has-byte : Course lamps h s l
         has-byte = ⊎-elim is-silent is-key (which (isSilent b))
 
-      is-well : (s l : List ℕ) → Course lamps h s l
-      is-well [] l = lacking (noScript p60) (empty-end l) (empty-none l)
-      is-well (b ∷ s) l = has-byte b s l
+      -- none waits: the byte is the script's
+      module _ (q : waits ≡ []) where
+        pub none-well : handle lamps h ≡ read p60 (onByte lamps h [])
+        none-well = handle-well ∙ ap (λ (x : List ℕ). takeByte x (onByte lamps h)) q
+
+        empty-end : (l : List ℕ) → endOf lamps h [] l ≡ lacks (noScript p60)
+        unfolding play
+        empty-end l = ap (λ (t : Exchange Outcome). play t [] l .end) none-well
+
+        empty-none : (l : List ℕ) → scanned lamps h [] l ≡ none
+        unfolding scancode
+        empty-none l = rw q
+
+        read-end : (b : ℕ) (s l : List ℕ) → endOf lamps h (b ∷ s) l ≡ play (onByte lamps h [] b) s l .end
+        unfolding play
+        read-end b s l = ap (λ (t : Exchange Outcome). play t (b ∷ s) l .end) none-well
+
+        of-script : (s l : List ℕ) → Course lamps h s l
+        of-script [] l = lacking (noScript p60) (empty-end l) (empty-none l)
+        of-script (b ∷ s) l = has-byte (took b [] s) (b ∷ s) l (ap (λ (x : List ℕ). takes x (b ∷ s)) q) (read-end b s l)
+
+      -- one waits: it is the byte
+      module _ (b : ℕ) (rest s l : List ℕ) (q : waits ≡ b ∷ rest) where
+        waiting-end : endOf lamps h s l ≡ play (onByte lamps h rest b) s l .end
+        waiting-end =
+            ap (λ (t : Exchange Outcome). play t s l .end) (handle-well ∙ ap (λ (x : List ℕ). takeByte x (onByte lamps h)) q)
+
+        of-waiting : Course lamps h s l
+        of-waiting = has-byte (took b rest s) s l (ap (λ (x : List ℕ). takes x s) q) waiting-end
+
+      is-well : (s l x : List ℕ) → waits ≡ x → Course lamps h s l
+      is-well s l [] q = of-script q s l
+      is-well s l (b ∷ rest) q = of-waiting b rest s l q
 
   pub course : (h : HandlerState) (script log : List ℕ) → Course lamps h script log
   course h s l =
-      ⊎-elim (λ w. is-well h w s l) (λ w. malformed w (malformed-end h s l w) (malformed-none h s l w)) (which (wellFormed h))
+      ⊎-elim (λ w. is-well h w s l (waits h) refl) (λ w. malformed w (malformed-end h s l w) (malformed-none h s l w)) (which (wellFormed h))

@@ -24,7 +24,7 @@ use Rattle.keyboard.proofs.Refused.{malformed-effects}
 
 -- an effect with this event in the place of its own
 abbrev effectWith : Effect → NewEvent → Effect
-effectWith x n = record { answer = x .answer; «lamps_failed» = x .«lamps_failed»; used = x .used; pairs = x .pairs; state = x .state; event = n }
+effectWith x n = record { answer = x .answer; «lamps_failed» = x .«lamps_failed»; used = x .used; pairs = x .pairs; state = x .state; event = n; dropped = x .dropped }
 
 module _ {A : Type 0} (lamps : ℕ → Exchange (Answer A)) (s l : List ℕ) where
   -- a call on the state, with its event known, as a call on the record

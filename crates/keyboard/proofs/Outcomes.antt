@@ -1,31 +1,42 @@
--- What each part of a handler call comes to: the lamp exchange, the byte, the read.
+-- What each part of a handler call comes to: the lamp exchange, the byte, the read or the byte that waits.
 -- Assumes nothing.
 use mathlib.Core.Path.{_≡_, refl, sym, ap, _∙_}
 use mathlib.Core.Bool.{true, false}
-use mathlib.Core.List.{List, [], _∷_}
-use mathlib.Core.Logic.{_⊎_, inl, inr, ⊎-elim}
+use mathlib.Core.List.{List, [], _∷_, _++_, append-nil}
+use mathlib.Core.Logic.{_≢_, _⊎_, inl, inr, ⊎-elim}
 use mathlib.Core.Option.{none}
-use Prim.Native.Nat.{ℕ, _+_, _≤_}
-use lib.ListN.{length}
+use Prim.Native.Nat.{ℕ, suc, _+_, _-_, _≤_}
+use lib.ListN.{length, getD}
 use native.Mathlib.Omega.{arith}
 use Rattle.exchange.specs.Exchange.{p60, noScript, Lack, Exchange, done, read, bind, End, yields, lacks, Played, played, play, Reads}
 use Rattle.exchange.specs.Answer.{Answer, gives, refuses}
+use Rattle.exchange.specs.Bounds.{Within}
+use Rattle.exchange.specs.Keeping.{Kept, keeping, retold, keptEnd}
 use Rattle.exchange.specs.Parts.{part}
+use Rattle.exchange.proofs.Keeping.{keeping-bind}
+use Rattle.exchange.proofs.Sequence.{bind-assoc}
 use Rattle.exchange.proofs.Position.{call-used-le}
 use Rattle.exchange.proofs.Calls.{bind-done, bind-lacks, reads-then, reads-then-lacks}
 use Rattle.ps2_answers.specs.declared.Refusal.{Refusal}
 use Rattle.ps2_answers.specs.Refusals.{Success, success, refused}
+use Rattle.ps2_kept.specs.declared.KeptBytes.{KeptBytes}
+use Rattle.ps2_kept.specs.Thrown.{thrown}
+use Rattle.ps2_kept.specs.Kept.{keptOf}
+use Rattle.ps2_kept.specs.Added.{othersLimit, keepingOnto}
+use Rattle.ps2_kept.specs.Contracts.{PlaysKept}
+use Rattle.ps2_kept.proofs.Thrown.{behind, keeping-behind, keeping-onto}
 use Rattle.ps2_ports.specs.Ports.{readPort}
 use Rattle.ps2_keyboard.specs.Keyboard.{readScancode}
 use Rattle.keyboard_scancodes.specs.Strokes.{stroke, isPrefix, isSilent}
 use Rattle.keyboard_scancodes.specs.FlagTable.{flagTable, isLockPress}
 use Rattle.keyboard_scancodes.specs.FlagsAfter.{flagsAfter, flagsThen}
 use Rattle.keyboard_scancodes.specs.Lamps.{lampsLit}
+use Rattle.keyboard_scancodes.specs.Waiting.{bytesFrom, waitingBytes, waitingIn}
 use Rattle.keyboard_record.specs.declared.HandlerState.{HandlerState}
 use Rattle.keyboard_record.specs.Record.{withKeys, wellFormed}
-use Rattle.keyboard.specs.Handler.{Outcome, outcome, queued, shown, Effects, effectsBy, lampExchange, onByte, handle, effects, logLeft}
+use Rattle.keyboard.specs.Handler.{Outcome, outcome, queued, shown, Effects, effectsBy, takeByte, lampExchange, onByte, handle, effects, logLeft}
 use Rattle.keyboard.specs.Outcomes.{onKey}
-use Rattle.keyboard.proofs.Courses.{handle-malformed}
+use Rattle.keyboard.proofs.Courses.{handle-malformed, handle-well, no-bytes, none-well}
 
 -- ---- what is given back, and the log that is left, by the play
 
@@ -35,7 +46,7 @@ module _ (h : HandlerState) (t : Exchange Outcome) (s l : List ℕ) {e : End Out
 
 -- what is given back where u more script bytes were used before
 abbrev further : ℕ → Effects → Effects
-further u x = record { end = x .end; lamps = x .lamps; used = u + x .used; pairs = x .pairs; state = x .state; event = x .event }
+further u x = record { end = x .end; lamps = x .lamps; used = u + x .used; pairs = x .pairs; state = x .state; event = x .event; dropped = x .dropped }
 
 module _ {A : Type 0} (lamps : ℕ → Exchange (Answer A)) (h : HandlerState) where
   pub call-back : (s l : List ℕ) {e : End Outcome} {u w : ℕ} {l′ : List ℕ} → played e u w l′ ≡ play (handle lamps h) s l
@@ -43,91 +54,137 @@ module _ {A : Type 0} (lamps : ℕ → Exchange (Answer A)) (h : HandlerState) w
   unfolding effects logLeft
   call-back s l p = gives-back h (handle lamps h) s l p refl
 
-  -- ---- the byte of a key, with its flags
+  -- ---- the byte of a key, with its flags and the bytes that wait behind it
 
-  module _ (b flags : ℕ) (s l : List ℕ) where
-    module _ (k : isLockPress b ≡ true) {v : ℕ} (m : v ≡ lampsLit flags)
-        {e : End (Answer A)} {u w : ℕ} {l′ : List ℕ} (r : played e u w l′ ≡ play (lamps v) s l) where
-      abbrev lit : Exchange (Answer Success)
-      lit = bind (lamps v) (λ a. done (shown a))
+  module _ (b flags : ℕ) (rest s l : List ℕ) where
+    -- what the lamp exchange and the bytes that are kept make of the call
+    abbrev event : Kept KeptBytes (Answer A) → Exchange Outcome
+    event k = done (queued h b flags (k .bytes) (shown (k .value)))
 
-      abbrev event : Answer Success → Exchange Outcome
-      event x = done (queued h b flags x)
-
-      lock-tree : lampExchange lamps b flags ≡ lit
+    module _ (k : isLockPress b ≡ true) {v : ℕ} (m : v ≡ lampsLit flags) {n w₀ : ℕ} (within : Within n w₀ (lamps v)) (few : length rest + n ≤ othersLimit) where
+      lock-tree : lampExchange lamps b flags ≡ bind (lamps v) (λ a. done (shown a))
       unfolding lampExchange
       lock-tree = rw (k, m)
 
-      pub lamps-answer : {a : Answer A} → e ≡ yields a → played (yields (queued h b flags (shown a))) u w l′ ≡ play (onKey lamps h b flags) s l
-      lamps-answer q = rw lock-tree (bind-done lit event s l (bind-done (lamps v) (λ a. done (shown a)) s l r q refl) refl refl)
+      -- by the list of the bytes that it throws away
+      key-tree : onKey lamps h rest b flags ≡ bind (keeping thrown [] (lamps v)) (λ x. event (retold (λ y. keptOf (rest ++ y)) x))
+      unfolding keeping bind
+      key-tree =
+          ap (λ (t : Exchange (Answer Success)). bind (keeping thrown [] t) (λ lit. done (queued h b flags (keptOf (rest ++ lit .bytes)) (lit .value)))) lock-tree
+          ∙ ap (λ (t : Exchange (Kept (List ℕ) (Answer Success))). bind t (λ lit. done (queued h b flags (keptOf (rest ++ lit .bytes)) (lit .value))))
+          (keeping-bind thrown (λ a. done (shown a)) [] (lamps v))
+          ∙ bind-assoc (keeping thrown [] (lamps v)) _ _
 
-      pub lamps-lack : {x : Lack} → e ≡ lacks x → played (lacks x) u w l′ ≡ play (onKey lamps h b flags) s l
-      lamps-lack q = rw lock-tree (bind-lacks lit event s l (bind-lacks (lamps v) (λ a. done (shown a)) s l r q) refl)
+      -- and as the code goes on from the bytes kept before
+      onto-tree : bind (keepingOnto (keptOf rest) (lamps v)) event ≡ onKey lamps h rest b flags
+      unfolding bind
+      onto-tree =
+          ap (λ (t : Exchange (Kept KeptBytes (Answer A))). bind t event)
+          (sym (keeping-onto within rest few) ∙ ap (λ (t : Exchange (Kept (List ℕ) (Answer A))). bind t (λ x. done (retold keptOf x))) (sym (keeping-behind rest (lamps v))))
+          ∙ bind-assoc (behind rest (keeping thrown [] (lamps v))) (λ x. done (retold keptOf x)) event
+          ∙ bind-assoc (keeping thrown [] (lamps v)) (λ x. done (retold (λ y. rest ++ y) x)) (λ x. event (retold keptOf x))
+          ∙ sym key-tree
 
-    pub no-lamps : isLockPress b ≡ false → played (yields (queued h b flags (gives success))) 0 0 l ≡ play (onKey lamps h b flags) s l
-    unfolding lampExchange bind play
-    no-lamps k = rw (k, lampExchange)
+      module _ {kept left : KeptBytes} (q : kept ≡ keptOf rest) {e : End (Answer A)} {u w : ℕ} {l′ : List ℕ}
+          (r : PlaysKept (keepingOnto kept (lamps v)) s l e u w l′ left) where
+        plays : played (keptEnd e left) u w l′ ≡ play (keepingOnto (keptOf rest) (lamps v)) s l
+        plays = rw q at (r .plays)
+
+        pub lamps-answer : {a : Answer A} → e ≡ yields a → played (yields (queued h b flags left (shown a))) u w l′ ≡ play (onKey lamps h rest b flags) s l
+        lamps-answer is = rw (← onto-tree) (bind-done (keepingOnto (keptOf rest) (lamps v)) event s l plays (ap (λ x. keptEnd x left) is) refl)
+
+        pub lamps-lack : {x : Lack} → e ≡ lacks x → played (lacks x) u w l′ ≡ play (onKey lamps h rest b flags) s l
+        lamps-lack is = rw (← onto-tree) (bind-lacks (keepingOnto (keptOf rest) (lamps v)) event s l plays (ap (λ x. keptEnd x left) is))
+
+    pub no-lamps : {kept : KeptBytes} → kept ≡ keptOf rest → isLockPress b ≡ false
+        → played (yields (queued h b flags kept (gives success))) 0 0 l ≡ play (onKey lamps h rest b flags) s l
+    unfolding lampExchange keeping bind play
+    no-lamps q k = rw (k, lampExchange, q, append-nil rest)
 
   -- ---- the byte
 
-  pub silent-byte : (b : ℕ) (s l : List ℕ) → isSilent b ≡ true
-      → played (yields (outcome (gives success) (gives success) (withKeys (isPrefix b) (h .keyboard .modifiers .bits) h) none)) 0 0 l ≡ play (onByte lamps h b) s l
+  pub silent-byte : (b : ℕ) (rest s l : List ℕ) {kept : KeptBytes} → kept ≡ keptOf rest → isSilent b ≡ true
+      → played (yields (outcome (gives success) (gives success) (withKeys (isPrefix b) (h .keyboard .modifiers .bits) (waitingIn kept) h) none 0)) 0 0 l
+      ≡ play (onByte lamps h rest b) s l
   unfolding onByte play
-  silent-byte b s l q = rw (q, onByte)
+  silent-byte b rest s l k q = rw (k, q, onByte)
 
-  pub key-byte : (b : ℕ) {flags : ℕ} → flags ≡ flagsAfter flagTable (stroke b (h .keyboard .prefix)) (h .keyboard .modifiers .bits) → isSilent b ≡ false
-      → onKey lamps h b flags ≡ onByte lamps h b
+  pub key-byte : (b : ℕ) (rest : List ℕ) {flags : ℕ} → flags ≡ flagsAfter flagTable (stroke b (h .keyboard .prefix)) (h .keyboard .modifiers .bits) → isSilent b ≡ false
+      → onKey lamps h rest b flags ≡ onByte lamps h rest b
   unfolding onByte flagsThen
-  key-byte b e q = rw (e, q)
+  key-byte b rest e q = rw (e, q)
 
   -- ---- the call
 
-  -- what is left of a call by the answer of its read; the read alone refuses nothing
-  abbrev onRead : Answer ℕ → Exchange Outcome
-  onRead (gives b) = onByte lamps h b
-  onRead (refuses n) = done (outcome (refuses n) (gives success) h none)
-
-  pub malformed-call : (s l : List ℕ) → wellFormed h ≡ false → played (yields (outcome (refuses 21) (gives success) h none)) 0 0 l ≡ play (handle lamps h) s l
+  pub malformed-call : (s l : List ℕ) → wellFormed h ≡ false → played (yields (outcome (refuses 21) (gives success) h none 0)) 0 0 l ≡ play (handle lamps h) s l
   unfolding play
   malformed-call s l w = rw (handle-malformed lamps h w)
 
   module _ (w : wellFormed h ≡ true) where
-    read-tree : handle lamps h ≡ bind readScancode onRead
-    unfolding handle bind readScancode readPort
-    read-tree = rw w
+    -- a byte waits: it is the call's
+    module _ (some-wait : h .keyboard .waiting .count ≢ 0) (s l : List ℕ) where
+      abbrev oldest : ℕ
+      oldest = getD (h .keyboard .waiting .bytes) 0 0
 
-    module _ (s l : List ℕ) {e : End (Answer ℕ)} {u v : ℕ} (r : Reads readScancode s e u v) where
-      read-byte : (b : ℕ) → e ≡ yields (gives b) → let o = play (onByte lamps h b) (part u s) l in
-          played (o .end) (u + o .used) (o .pairs) (o .log) ≡ play (handle lamps h) s l
-      read-byte b q = rw read-tree (reads-then readScancode onRead s r l q refl)
+      abbrev others : List ℕ
+      others = bytesFrom (h .keyboard .waiting .bytes) 1 (h .keyboard .waiting .count - 1)
 
-      -- the rest of the call, after the byte
-      module _ (b : ℕ) (q : e ≡ yields (gives b)) {after : Effects} (x : after ≡ effectsBy h (play (onByte lamps h b) (part u s) l)) where
-        pub byte-used : u + after .used ≤ length s
-        byte-used = rw x (call-used-le (handle lamps h) s l (read-byte b q))
+      waits : waitingBytes (h .keyboard .waiting) ≡ oldest ∷ others
+      unfolding bytesFrom
+      waits =
+          let e : h .keyboard .waiting .count ≡ suc (h .keyboard .waiting .count - 1) = omega (arith, some-wait) in
+          ap (bytesFrom (h .keyboard .waiting .bytes) 0) e
 
-        pub byte-call : {m : List ℕ} → m ≡ play (onByte lamps h b) (part u s) l .log
-            → (further u after ≡ effects lamps h s l) × (m ≡ logLeft lamps h s l)
-        byte-call y = rw (x, y) (call-back s l (read-byte b q))
+      pub waiting-call : {x : Effects} {m : List ℕ} → let o = play (onByte lamps h others oldest) s l in (x ≡ effectsBy h o) × (m ≡ o .log)
+          → (x ≡ effects lamps h s l) × (m ≡ logLeft lamps h s l)
+      unfolding effects logLeft
+      waiting-call p =
+          let t : onByte lamps h others oldest ≡ handle lamps h = sym (handle-well lamps h w ∙ ap (λ (y : List ℕ). takeByte y (onByte lamps h)) waits) in
+          (p .0 ∙ ap (λ (y : Exchange Outcome). effectsBy h (play y s l)) t, p .1 ∙ ap (λ (y : Exchange Outcome). play y s l .log) t)
 
-      -- a read of data gives a byte, or lacks one
-      read-ends : (s : List ℕ) → (play readScancode s [] .end ≡ lacks (noScript p60)) ⊎ ((b : ℕ) × (play readScancode s [] .end ≡ yields (gives b)))
-      unfolding readScancode readPort play
-      read-ends [] = inl refl
-      read-ends (b ∷ s) = inr (b, refl)
+    -- none waits: it is read
+    module _ (none-waits : h .keyboard .waiting .count ≡ 0) where
+      -- what is left of a call by the answer of its read; the read alone refuses nothing
+      abbrev onRead : Answer ℕ → Exchange Outcome
+      onRead (gives b) = onByte lamps h [] b
+      onRead (refuses n) = done (outcome (refuses n) (gives success) h none 0)
 
-      byte-not-refused : (b : ℕ) (x : Refusal) → yields (gives b) ≡ refused x → ⊥
-      byte-not-refused b (Refusal.Lacking y) q = let z : _≡_ {A = ℕ} 0 1 = cc in omega arith
-      byte-not-refused b (Refusal.Failed f) q = let z : _≡_ {A = ℕ} 0 1 = cc in omega arith
+      read-tree : handle lamps h ≡ bind readScancode onRead
+      unfolding bind readScancode readPort
+      read-tree = none-well lamps h w (no-bytes lamps h none-waits)
 
-      only-lack : (x : Refusal) → e ≡ refused x → e ≡ lacks (noScript p60)
-      only-lack x q =
-          let p : e ≡ play readScancode s [] .end = ap (λ (o : Played (Answer ℕ)). o .end) (r .with-any []) in
-          ⊎-elim (λ k. p ∙ k) (λ k. absurd (byte-not-refused (k .0) x (sym (p ∙ k .1) ∙ q))) (read-ends s)
+      module _ (s l : List ℕ) {e : End (Answer ℕ)} {u v : ℕ} (r : Reads readScancode s e u v) where
+        read-byte : (b : ℕ) → e ≡ yields (gives b) → let o = play (onByte lamps h [] b) (part u s) l in
+            played (o .end) (u + o .used) (o .pairs) (o .log) ≡ play (handle lamps h) s l
+        read-byte b q = rw read-tree (reads-then readScancode onRead s r l q refl)
 
-      -- where no byte was read, the call lacks one from port 60
-      pub no-byte : (x : Refusal) → e ≡ refused x
-          → (effectsBy h (played (lacks (noScript p60)) u 0 l) ≡ effects lamps h s l) × (l ≡ logLeft lamps h s l)
-      no-byte x q =
-          let p : played (lacks (noScript p60)) u 0 l ≡ play (handle lamps h) s l = rw read-tree (reads-then-lacks readScancode onRead s r l (only-lack x q)) in
-          call-back s l p
+        -- the rest of the call, after the byte
+        module _ (b : ℕ) (q : e ≡ yields (gives b)) {after : Effects} (x : after ≡ effectsBy h (play (onByte lamps h [] b) (part u s) l)) where
+          pub byte-used : u + after .used ≤ length s
+          byte-used = rw x (call-used-le (handle lamps h) s l (read-byte b q))
+
+          pub byte-call : {m : List ℕ} → m ≡ play (onByte lamps h [] b) (part u s) l .log
+              → (further u after ≡ effects lamps h s l) × (m ≡ logLeft lamps h s l)
+          byte-call y = rw (x, y) (call-back s l (read-byte b q))
+
+        -- a read of data gives a byte, or lacks one
+        read-ends : (s : List ℕ) → (play readScancode s [] .end ≡ lacks (noScript p60)) ⊎ ((b : ℕ) × (play readScancode s [] .end ≡ yields (gives b)))
+        unfolding readScancode readPort play
+        read-ends [] = inl refl
+        read-ends (b ∷ s) = inr (b, refl)
+
+        byte-not-refused : (b : ℕ) (x : Refusal) → yields (gives b) ≡ refused x → ⊥
+        byte-not-refused b (Refusal.Lacking y) q = let z : _≡_ {A = ℕ} 0 1 = cc in omega arith
+        byte-not-refused b (Refusal.Failed f) q = let z : _≡_ {A = ℕ} 0 1 = cc in omega arith
+
+        only-lack : (x : Refusal) → e ≡ refused x → e ≡ lacks (noScript p60)
+        only-lack x q =
+            let p : e ≡ play readScancode s [] .end = ap (λ (o : Played (Answer ℕ)). o .end) (r .with-any []) in
+            ⊎-elim (λ k. p ∙ k) (λ k. absurd (byte-not-refused (k .0) x (sym (p ∙ k .1) ∙ q))) (read-ends s)
+
+        -- where no byte was read, the call lacks one from port 60
+        pub no-byte : (x : Refusal) → e ≡ refused x
+            → (effectsBy h (played (lacks (noScript p60)) u 0 l) ≡ effects lamps h s l) × (l ≡ logLeft lamps h s l)
+        no-byte x q =
+            let p : played (lacks (noScript p60)) u 0 l ≡ play (handle lamps h) s l = rw read-tree (reads-then-lacks readScancode onRead s r l (only-lack x q)) in
+            call-back s l p

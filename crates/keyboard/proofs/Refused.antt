@@ -13,15 +13,17 @@ use Rattle.exchange.specs.Answer.{Answer, gives, refuses, numberEnded}
 use Rattle.exchange.proofs.Steps.{play-done}
 use Rattle.exchange.proofs.Kept.{no-script-used, no-log-full}
 use Rattle.ps2_answers.specs.Refusals.{success}
+use Rattle.ps2_kept.specs.Kept.{keptOf}
 use Rattle.keyboard_scancodes.specs.FlagsAfter.{flagsThen}
+use Rattle.keyboard_scancodes.specs.Waiting.{waitingOf}
 use Rattle.keyboard_record.specs.declared.HandlerState.{HandlerState}
 use Rattle.keyboard_record.specs.declared.KeyboardHandler.{KeyboardHandler}
 use Rattle.keyboard_record.specs.Record.{withKeys, wellFormed}
 use Rattle.keyboard.specs.Answers.{ends2-3-21}
-use Rattle.keyboard.specs.Scancode.{scancode}
+use Rattle.keyboard.specs.Scancode.{Took}
 use Rattle.keyboard.specs.Handler.{Outcome, outcome, queued, handle, Effects, effects, logLeft, handled, endOutcome}
 use Rattle.keyboard.proofs.Queued.{queuedNumber, queued-number, queued-kept}
-use Rattle.keyboard.proofs.Ways.{endOf, Course, malformed, lacking, at-silent, at-key}
+use Rattle.keyboard.proofs.Ways.{endOf, scanned, waitsAfter, Course, malformed, lacking, at-silent, at-key}
 use Rattle.keyboard.proofs.Courses.{course, handle-malformed}
 use Rattle.keyboard.proofs.Counted.{answerEnd, queued-ends}
 
@@ -42,41 +44,44 @@ module _ {A : Type 0} (lamps : ℕ → Exchange (Answer A)) where
   -- what is left after 19 or 20, with the byte that the call took
   abbrev MovedOn : HandlerState → List ℕ → List ℕ → Effects → Type 0
   MovedOn s script log x =
-      (b : ℕ) × (scancode lamps (wellFormed s) (flagsThen (s .keyboard)) script log ≡ some b) × (x .state ≡ withKeys false (flagsThen (s .keyboard) b) s) × (x .event ≡ none)
+      (t : Took) × (scanned lamps s script log ≡ some (t .byte)) × (x .state ≡ withKeys false (flagsThen (s .keyboard) (t .byte)) (waitingOf (waitsAfter lamps s t log)) s) × (x .event ≡ none)
 
   abbrev number : HandlerState → List ℕ → List ℕ → ℕ
   number h s l = numberEnded (answerEnd (endOf lamps h s l))
 
   module _ {h : HandlerState} {s l : List ℕ} where
-    same-state : Course lamps h s l → ends2-3-21 (answerEnd (endOf lamps h s l)) ≡ true → (endOutcome h (endOf lamps h s l) .state ≡ h) × (endOutcome h (endOf lamps h s l) .event ≡ none)
-    same-state (malformed w e n) t = rw e (refl, refl)
-    same-state (lacking x e n) t = rw e (refl, refl)
-    same-state (at-silent b q e n) t = absurd (false≢true (rw e at t))
-    same-state (at-key b lit q e n) t = absurd (false≢true (sym (queued-ends h b (flagsThen (h .keyboard) b) lit) ∙ (rw e at t)))
+    same-state : Course lamps h s l → ends2-3-21 (answerEnd (endOf lamps h s l)) ≡ true
+        → (endOutcome h (endOf lamps h s l) .state ≡ h) × (endOutcome h (endOf lamps h s l) .event ≡ none) × (endOutcome h (endOf lamps h s l) .dropped ≡ 0)
+    same-state (malformed w e n) r = rw e (refl, refl, refl)
+    same-state (lacking x e n) r = rw e (refl, refl, refl)
+    same-state (at-silent t q g e n) r = absurd (false≢true (rw e at r))
+    same-state (at-key t lit q g e n) r = absurd (false≢true (sym (queued-ends h (t .byte) (flagsThen (h .keyboard) (t .byte)) _ lit) ∙ (rw e at r)))
 
     -- a number from 1 to 18 is answered only where script or log runs out
     runs-out : Course lamps h s l → 0 < number h s l → number h s l < 19 → (x : Lack) × (endOf lamps h s l ≡ lacks x)
     runs-out (malformed w e n) u v = let z : 21 < 19 = rw e at v in absurd (omega arith)
     runs-out (lacking x e n) u v = (x, e)
-    runs-out (at-silent b q e n) u v = let z : 0 < 0 = rw e at u in absurd (omega arith)
-    runs-out (at-key b lit q e n) u v =
-        let w = flagsThen (h .keyboard) b in
-        let x : 0 < queuedNumber h b w lit = rw e at u in
-        let y : queuedNumber h b w lit < 19 = rw e at v in
-        absurd (⊎-elim (λ z. omega arith) (λ z. omega arith) (queued-number h b w lit))
+    runs-out (at-silent t q g e n) u v = let z : 0 < 0 = rw e at u in absurd (omega arith)
+    runs-out (at-key t lit q g e n) u v =
+        let w = flagsThen (h .keyboard) (t .byte) in
+        let k = keptOf (waitsAfter lamps h t l) in
+        let x : 0 < queuedNumber h (t .byte) w k lit = rw e at u in
+        let y : queuedNumber h (t .byte) w k lit < 19 = rw e at v in
+        absurd (⊎-elim (λ z. omega arith) (λ z. omega arith) (queued-number h (t .byte) w k lit))
 
     moves-on : Course lamps h s l → 19 ≤ number h s l → number h s l ≤ 20
-        → (b : ℕ) × (scancode lamps (wellFormed h) (flagsThen (h .keyboard)) s l ≡ some b) × (endOutcome h (endOf lamps h s l) .state ≡ withKeys false (flagsThen (h .keyboard) b) h) × (endOutcome h (endOf lamps h s l) .event ≡ none)
+        → (t : Took) × (scanned lamps h s l ≡ some (t .byte)) × (endOutcome h (endOf lamps h s l) .state ≡ withKeys false (flagsThen (h .keyboard) (t .byte)) (waitingOf (waitsAfter lamps h t l)) h) × (endOutcome h (endOf lamps h s l) .event ≡ none)
     moves-on (malformed w e n) u v = let z : 21 ≤ 20 = rw e at v in absurd (omega arith)
     moves-on (lacking x e n) u v = let z : 19 ≤ numberEnded {A = ℕ} (lacks x) = rw e at u in absurd (omega (arith, lack-small x))
-    moves-on (at-silent b q e n) u v = let z : 19 ≤ 0 = rw e at u in absurd (omega arith)
-    moves-on (at-key b lit q e n) u v =
-        let k = queued-kept h b (flagsThen (h .keyboard) b) lit (rw e at u) in
-        (b, n, rw e (k .0), rw e (k .1))
+    moves-on (at-silent t q g e n) u v = let z : 19 ≤ 0 = rw e at u in absurd (omega arith)
+    moves-on (at-key t lit q g e n) u v =
+        let k = queued-kept h (t .byte) (flagsThen (h .keyboard) (t .byte)) (keptOf (waitsAfter lamps h t l)) lit (rw e at u) in
+        (t, n, rw e (k .0), rw e (k .1))
 
   module _ (s : HandlerState) (script log : List ℕ) where
-    -- "After 2, 3 or 21 records are as passed in": the state is, and no event goes into the places
-    pub left-as-passed : ends2-3-21 (effects lamps s script log .end) ≡ true → (effects lamps s script log .state ≡ s) × (effects lamps s script log .event ≡ none)
+    -- "After 2, 3 or 21 records are as passed in": the state is, waiting bytes too, and no event goes into the places; no byte is dropped
+    pub left-as-passed : ends2-3-21 (effects lamps s script log .end) ≡ true
+        → (effects lamps s script log .state ≡ s) × (effects lamps s script log .event ≡ none) × (effects lamps s script log .dropped ≡ 0)
     unfolding effects
     left-as-passed t = same-state (course lamps s script log) t
 
@@ -102,12 +107,12 @@ module _ {A : Type 0} (lamps : ℕ → Exchange (Answer A)) where
         no-log-full (handle lamps s) script log (r .1 ∙ ap lacks (lack-3 (r .0) n))
 
     -- 21 is asked before anything is read: "A call ended by 21 uses no byte and writes nothing."
-    malformed-play : wellFormed s ≡ false → play (handle lamps s) script log ≡ played (yields (outcome (refuses 21) (gives success) s none)) 0 0 log
+    malformed-play : wellFormed s ≡ false → play (handle lamps s) script log ≡ played (yields (outcome (refuses 21) (gives success) s none 0)) 0 0 log
     malformed-play w =
-        ap (λ (t : Exchange Outcome). play t script log) (handle-malformed lamps s w) ∙ play-done (outcome (refuses 21) (gives success) s none) script log
+        ap (λ (t : Exchange Outcome). play t script log) (handle-malformed lamps s w) ∙ play-done (outcome (refuses 21) (gives success) s none 0) script log
 
     pub malformed-effects : wellFormed s ≡ false
-        → effects lamps s script log ≡ record { end = yields (refuses 21); lamps = gives success; used = 0; pairs = 0; state = s; event = none }
+        → effects lamps s script log ≡ record { end = yields (refuses 21); lamps = gives success; used = 0; pairs = 0; state = s; event = none; dropped = 0 }
     unfolding effects
     malformed-effects w = rw (malformed-play w)
 
@@ -124,6 +129,6 @@ module _ {A : Type 0} (lamps : ℕ → Exchange (Answer A)) where
         rw (k .0, k .1)
 
     pub malformed-handled : wellFormed (h .state) ≡ false
-        → handled lamps h script log ≡ record { end = yields (refuses 21); lamps = gives success; used = 0; pairs = 0; handler = h }
+        → handled lamps h script log ≡ record { end = yields (refuses 21); lamps = gives success; used = 0; pairs = 0; handler = h; dropped = 0 }
     unfolding handled
     malformed-handled w = rw (malformed-effects (h .state) script log w)

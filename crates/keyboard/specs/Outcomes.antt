@@ -1,16 +1,23 @@
 -- What the code gives back, as the definitions have it, and the part of a call that has its flags.
 -- Assumes nothing.
+use mathlib.Core.List.{List, [], _++_}
 use mathlib.Core.Option.{Option, none, some}
-use Prim.Native.Nat.{ℕ}
-use Rattle.exchange.specs.Exchange.{Exchange, done, bind, yields}
+use mathlib.Core.Path.{_≡_}
+use Prim.Native.Nat.{ℕ, _≤_}
+use lib.ListN.{length}
+use Rattle.exchange.specs.Exchange.{Exchange, done, bind, yields, play}
 use Rattle.exchange.specs.Answer.{Answer}
+use Rattle.exchange.specs.Keeping.{keeping}
+use Rattle.ps2_kept.specs.declared.KeptBytes.{KeptBytes}
+use Rattle.ps2_kept.specs.Thrown.{thrown}
+use Rattle.ps2_kept.specs.Kept.{keptLimit, keptOf}
 use Rattle.keycodes_ascii.specs.declared.KeyEvent.{KeyEvent}
 use Rattle.keyboard_record.specs.declared.HandlerState.{HandlerState}
 use Rattle.keyboard.specs.declared.Effect.{Effect}
 use Rattle.keyboard.specs.declared.Handled.{Handled}
 use Rattle.keyboard.specs.declared.NewEvent.{NewEvent}
 use Rattle.keyboard.specs.Answers.{saidCall, saidLamps}
-use Rattle.keyboard.specs.Handler.{Outcome, Effects, Called, queued, lampExchange}
+use Rattle.keyboard.specs.Handler.{Outcome, Effects, Called, effectsBy, queued, lampExchange}
 
 -- The event that joins the queue, if one does.
 abbrev pub saidEvent : NewEvent → Option KeyEvent
@@ -27,6 +34,7 @@ saidEffect x =
       pairs = x .pairs;
       state = x .state;
       event = saidEvent (x .event);
+      dropped = x .dropped;
     }
 
 abbrev pub saidHandled : Handled → Called
@@ -37,13 +45,20 @@ saidHandled x =
       used = x .used;
       pairs = x .pairs;
       handler = x .handler;
+      dropped = x .dropped;
     }
 
 -- An outcome with the script bytes used and the pairs written.
 abbrev pub effectsOf : Outcome → ℕ → ℕ → Effects
 effectsOf o used pairs =
-    record { end = yields (o .answer); lamps = o .lamps; used = used; pairs = pairs; state = o .state; event = o .event }
+    record { end = yields (o .answer); lamps = o .lamps; used = used; pairs = pairs; state = o .state; event = o .event; dropped = o .dropped }
 
 -- What is left of a call at the byte of a key, with the flags just after it: the lamp exchange, then the event.
-abbrev pub onKey : {A : Type 0} → (ℕ → Exchange (Answer A)) → HandlerState → ℕ → ℕ → Exchange Outcome
-onKey lamps s b flags = bind (lampExchange lamps b flags) (λ lit. done (queued s b flags lit))
+abbrev pub onKey : {A : Type 0} → (ℕ → Exchange (Answer A)) → HandlerState → List ℕ → ℕ → ℕ → Exchange Outcome
+onKey lamps s waiting b flags =
+    bind (keeping thrown [] (lampExchange lamps b flags)) (λ lit. done (queued s b flags (keptOf (waiting ++ lit .bytes)) (lit .value)))
+
+-- What a call gives back, and the log that it leaves, are those of the operation's play: for every list of at most 16 bytes that wait, where these are the kept bytes.
+pub record PlaysOn (s : HandlerState) (kept : KeptBytes) (t : List ℕ → Exchange Outcome) (script log : List ℕ) (x : Effects) (log-left : List ℕ) : Type 0 where
+  pub at : (waiting : List ℕ) → kept ≡ keptOf waiting → length waiting ≤ keptLimit
+      → (x ≡ effectsBy s (play (t waiting) script log)) × (log-left ≡ play (t waiting) script log .log)

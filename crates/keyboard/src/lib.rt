@@ -2,19 +2,22 @@
 ghost use mathlib.Core.Bool.{true};
 ghost use mathlib.Core.Path.{_≡_};
 ghost use Rattle.exchange.specs.Answer.{numberEnded};
-ghost use Rattle.exchange.specs.Exchange.{play};
+ghost use Prim.Native.Nat.{_-_, _≤_};
+ghost use Rattle.ps2_kept.specs.Kept.{keptLimit, keptOf};
 ghost use Rattle.keyboard_scancodes.specs.Strokes.{lowPart};
 ghost use Rattle.keyboard_scancodes.specs.FlagTable.{isLockPress};
 ghost use Rattle.keyboard_scancodes.specs.Events.{keycodeAt, eventOf};
+ghost use Rattle.keyboard_scancodes.specs.Waiting.{bytesFrom};
 ghost use Rattle.keyboard.specs.Answers.{saidCall, saidLamps};
 ghost use Rattle.keyboard.specs.KeyboardLamps.{keyboardLamps};
-ghost use Rattle.keyboard.specs.Handler.{queued, onByte, effectsBy, effects, logLeft, handled};
-ghost use Rattle.keyboard.specs.Outcomes.{saidEffect, saidHandled, effectsOf, onKey};
+ghost use Rattle.keyboard.specs.Handler.{queued, onByte, effects, logLeft, handled};
+ghost use Rattle.keyboard.specs.Outcomes.{saidEffect, saidHandled, effectsOf, onKey, PlaysOn};
 use keyboard_modifiers::KeyboardModifiers;
 use keyboard_record::HandlerState;
 use keyboard_record::KeyboardHandler;
 use keyboard_record::QUEUE_LENGTH;
 use keyboard_scancodes::KeyboardState;
+use keyboard_scancodes::WaitingBytes;
 use keyboard_scancodes::is_lock_press;
 use keyboard_scancodes::is_prefix;
 use keyboard_scancodes::is_silent;
@@ -30,8 +33,11 @@ use ps2_answers::Completion;
 use ps2_answers::Lack;
 use ps2_answers::ReadPort;
 use ps2_answers::Refusal;
+use ps2_kept::KeptBytes;
+use ps2_kept::add_byte;
+use ps2_kept::none_kept;
 use ps2_keyboard::read_scancode;
-use ps2_keyboard::set_keyboard_led;
+use ps2_keyboard::set_keyboard_led_onto;
 
 // How a handler call ends: done, for lack of a byte or room, or with the refusal that document 01 numbers 19, 20 or 21.
 pub enum HandlerAnswer {
@@ -57,13 +63,14 @@ impl HandlerAnswer {
     }
 }
 
-// What a handler call gives back. A lamp exchange that failed, document 01's 14, is shown beside the answer.
+// What a handler call gives back. A lamp exchange that failed, document 01's 14, is shown beside the answer, and so is the number of the bytes that it threw away and that found no place to wait.
 pub struct Handled {
     pub answer: HandlerAnswer,
     pub lamps_failed: bool,
     pub used: usize,
     pub pairs: usize,
     pub handler: KeyboardHandler,
+    pub dropped: u32,
 }
 
 // The event that a call puts into the queue, if any.
@@ -80,6 +87,7 @@ pub struct Effect {
     pub pairs: usize,
     pub state: HandlerState,
     pub event: NewEvent,
+    pub dropped: u32,
 }
 
 // The event of a scancode whose low part is this keycode's number.
@@ -99,21 +107,40 @@ fn event_of(keycode: Keycode, scan_code: u8, modifiers: KeyboardModifiers) -> Ke
     }
 }
 
-// What follows a scancode's lamp exchange, which used and wrote this much: its event is queued, where it has one and there is room.
+// The bytes that wait behind the oldest.
+fn behind_oldest(waiting: WaitingBytes) -> KeptBytes
+    requires { ⌜ waiting .count ≤ keptLimit ⌝ }
+    ensures { λ r. ⌜ r ≡ keptOf (bytesFrom (waiting .bytes) 1 (waiting .count - 1)) ⌝ }
+{
+    let bytes = waiting.bytes;
+    let count = waiting.count as usize;
+    let mut kept = none_kept();
+    let mut place: usize = 1;
+    while place < count {
+        kept = add_byte(kept, bytes[place]);
+        place += 1;
+    }
+    kept
+}
+
+// What follows a scancode's lamp exchange, which used and wrote this much, with the bytes that come to wait: its event is queued, where it has one and there is room.
 fn queue_event(
     state: HandlerState,
+    kept: KeptBytes,
     scan_code: u8,
     modifiers: KeyboardModifiers,
     lamps_failed: bool,
     used: usize,
     pairs: usize,
 ) -> Effect
-    ensures { λ r. ⌜ saidEffect r ≡ effectsOf (queued state «scan_code» (modifiers .bits) (saidLamps «lamps_failed»)) used pairs ⌝ }
+    ensures { λ r. ⌜ saidEffect r ≡ effectsOf (queued state «scan_code» (modifiers .bits) kept (saidLamps «lamps_failed»)) used pairs ⌝ }
 {
     let keyboard = KeyboardState {
         prefix: false,
         modifiers,
+        waiting: WaitingBytes::from_kept(kept),
     };
+    let dropped = kept.others;
     let start = state.start;
     let count = state.count;
     match Keycode::from_byte(scan_code & 0x7F) {
@@ -130,6 +157,7 @@ fn queue_event(
                         count,
                     },
                     event: NewEvent::Nothing,
+                    dropped,
                 };
             }
             let event = event_of(keycode, scan_code, modifiers);
@@ -144,6 +172,7 @@ fn queue_event(
                     count: count + 1,
                 },
                 event: NewEvent::Event(event),
+                dropped,
             }
         }
         FoundKeycode::Unknown => Effect {
@@ -157,27 +186,30 @@ fn queue_event(
                 count,
             },
             event: NewEvent::Nothing,
+            dropped,
         },
     }
 }
 
-// The press of a lock, with the flags just after it: the lamps are set, then the event is queued whether they could be or not.
+// The press of a lock, with the flags just after it: the lamps are set, then the event is queued whether they could be or not. What the lamp exchange throws away waits behind the bytes that wait already.
 fn lock_pressed(
     state: HandlerState,
+    kept: KeptBytes,
     scan_code: u8,
     modifiers: KeyboardModifiers,
     script: &[u8],
     log: &mut [u8],
 ) -> Effect
     requires { ⌜ isLockPress «scan_code» ≡ true ⌝ }
-    ensures { λ r. ⌜ (saidEffect r ≡ effectsBy state (play (onKey keyboardLamps state «scan_code» (modifiers .bits)) (now (script .entry)) (now (log .entry)))) × (now (log .exit) ≡ play (onKey keyboardLamps state «scan_code» (modifiers .bits)) (now (script .entry)) (now (log .entry)) .log) ⌝ }
+    ensures { λ r. ⌜ PlaysOn state kept (λ waiting. onKey keyboardLamps state waiting «scan_code» (modifiers .bits)) (now (script .entry)) (now (log .entry)) (saidEffect r) (now (log .exit)) ⌝ }
 {
-    let lit = set_keyboard_led(script, log, leds(modifiers));
+    let lit = set_keyboard_led_onto(script, log, leds(modifiers), kept);
     let used = lit.used;
     let pairs = lit.pairs;
+    let waiting = lit.kept;
     let answer = lit.answer;
     match answer {
-        Completion::Done => queue_event(state, scan_code, modifiers, false, used, pairs),
+        Completion::Done => queue_event(state, waiting, scan_code, modifiers, false, used, pairs),
         Completion::Refused(e) => match e {
             Refusal::Lacking(lack) => Effect {
                 answer: HandlerAnswer::Lacking(lack),
@@ -186,41 +218,56 @@ fn lock_pressed(
                 pairs,
                 state,
                 event: NewEvent::Nothing,
+                dropped: 0,
             },
-            Refusal::Failed(_) => queue_event(state, scan_code, modifiers, true, used, pairs),
+            Refusal::Failed(_) => {
+                queue_event(state, waiting, scan_code, modifiers, true, used, pairs)
+            }
         },
     }
 }
 
-// A scancode that was read.
-fn on_byte(state: HandlerState, scan_code: u8, script: &[u8], log: &mut [u8]) -> Effect
-    ensures { λ r. ⌜ (saidEffect r ≡ effectsBy state (play (onByte keyboardLamps state «scan_code») (now (script .entry)) (now (log .entry)))) × (now (log .exit) ≡ play (onByte keyboardLamps state «scan_code») (now (script .entry)) (now (log .entry)) .log) ⌝ }
+// A scancode that was taken, with the bytes that still wait.
+fn on_byte(
+    state: HandlerState,
+    kept: KeptBytes,
+    scan_code: u8,
+    script: &[u8],
+    log: &mut [u8],
+) -> Effect
+    ensures { λ r. ⌜ PlaysOn state kept (λ waiting. onByte keyboardLamps state waiting «scan_code») (now (script .entry)) (now (log .entry)) (saidEffect r) (now (log .exit)) ⌝ }
 {
     let keyboard = state.keyboard;
     if is_silent(scan_code) {
         let modifiers = keyboard.modifiers;
         let prefix = is_prefix(scan_code);
+        let waiting = WaitingBytes::from_kept(kept);
         return Effect {
             answer: HandlerAnswer::Done,
             lamps_failed: false,
             used: 0,
             pairs: 0,
             state: HandlerState {
-                keyboard: KeyboardState { prefix, modifiers },
+                keyboard: KeyboardState {
+                    prefix,
+                    modifiers,
+                    waiting,
+                },
                 start: state.start,
                 count: state.count,
             },
             event: NewEvent::Nothing,
+            dropped: 0,
         };
     }
     let modifiers = modifiers_after(keyboard, scan_code);
     if is_lock_press(scan_code) {
-        return lock_pressed(state, scan_code, modifiers, script, log);
+        return lock_pressed(state, kept, scan_code, modifiers, script, log);
     }
-    queue_event(state, scan_code, modifiers, false, 0, 0)
+    queue_event(state, kept, scan_code, modifiers, false, 0, 0)
 }
 
-// A handler call but for the places: 21 is asked, then one scancode is read without asking the status, and handled.
+// A handler call but for the places: 21 is asked, then one scancode is taken and handled. It is the oldest byte that waits; where none waits, one is read without asking the status.
 pub fn effect_of(state: HandlerState, script: &[u8], log: &mut [u8]) -> Effect
     ensures { λ r. ⌜ (saidEffect r ≡ effects keyboardLamps state (now (script .entry)) (now (log .entry))) × (now (log .exit) ≡ logLeft keyboardLamps state (now (script .entry)) (now (log .entry))) ⌝ }
 {
@@ -232,14 +279,20 @@ pub fn effect_of(state: HandlerState, script: &[u8], log: &mut [u8]) -> Effect
             pairs: 0,
             state,
             event: NewEvent::Nothing,
+            dropped: 0,
         };
+    }
+    let waiting = state.keyboard.waiting;
+    if waiting.count != 0 {
+        let oldest = waiting.bytes[0];
+        return on_byte(state, behind_oldest(waiting), oldest, script, log);
     }
     let read = read_scancode(script);
     let used = read.used;
     let answer = read.answer;
     match answer {
         ByteAnswer::Byte(scan_code) => {
-            let after = on_byte(state, scan_code, &script[used..], log);
+            let after = on_byte(state, none_kept(), scan_code, &script[used..], log);
             let answer = after.answer;
             let left = after.state;
             let event = after.event;
@@ -250,6 +303,7 @@ pub fn effect_of(state: HandlerState, script: &[u8], log: &mut [u8]) -> Effect
                 pairs: after.pairs,
                 state: left,
                 event,
+                dropped: after.dropped,
             }
         }
         ByteAnswer::Refused(_) => Effect {
@@ -259,6 +313,7 @@ pub fn effect_of(state: HandlerState, script: &[u8], log: &mut [u8]) -> Effect
             pairs: 0,
             state,
             event: NewEvent::Nothing,
+            dropped: 0,
         },
     }
 }
@@ -285,5 +340,6 @@ pub fn handle(handler: KeyboardHandler, script: &[u8], log: &mut [u8]) -> Handle
         used: effect.used,
         pairs: effect.pairs,
         handler: KeyboardHandler { state, places },
+        dropped: effect.dropped,
     }
 }

@@ -1,28 +1,30 @@
--- The history rule (demand 3), for every lamp exchange and every list of calls.
+-- The history rule (demand 3 and request 2.3), for every lamp exchange and every list of calls.
 -- Assumes nothing.
 use mathlib.Core.Path.{_≡_, refl, ap, ap₂, sym, _∙_}
 use mathlib.Core.Bool.{Bool, not}
 use mathlib.Core.List.{List, _++_, append-assoc}
 use mathlib.Core.Option.{Option}
 use Prim.Native.Nat.{ℕ}
+use lib.ListN.{length}
 use Rattle.exchange.specs.Exchange.{Exchange}
 use Rattle.exchange.specs.Answer.{Answer}
 use Rattle.keycodes_ascii.specs.declared.KeyEvent.{KeyEvent}
 use Rattle.keyboard_history.specs.Past.{Past, nothing, _▸_, each}
 use Rattle.keyboard_history.specs.Said.{eventsGiven}
-use Rattle.keyboard_history.specs.Counted.{Call, handling, taking, scancodeAfter, counted, counts}
+use Rattle.keyboard_history.specs.Counted.{Call, handling, taking, scancodeAfter, counted, waits, counts}
+use Rattle.keyboard_history.specs.Waited.{dropped}
 use Rattle.keyboard_history.specs.Row.{events, lessMet, givenTo, eventOfCall, newly, row, given, meets, removed}
-use Rattle.keyboard_history.specs.Run.{leaves, after, answers, takings, eventsTaken}
+use Rattle.keyboard_history.specs.Run.{leaves, after, answers, takings, eventsTaken, reported}
 use Rattle.keyboard.specs.Answers.{ends2-3-21, ends20}
 use Rattle.keyboard_history.specs.History.{History}
 use Rattle.keyboard_history.proofs.Row.{less-append, events-append, events-given, more-given, taken-first}
-use Rattle.keyboard_history.proofs.AsSaid.{As, as-fresh, as-well, as-taken, as-handled, as-20, as-left-out}
+use Rattle.keyboard_history.proofs.AsSaid.{As, as-fresh, as-well, as-taken, as-handled, as-20, as-left-out, as-dropped}
 
 -- ---- the list of calls
 
 module _ {A : Type 0} (lamps : ℕ → Exchange (Answer A)) where
-  as-after : (calls : Past Call) → As (after lamps calls) (counted lamps calls) (row lamps calls)
-  unfolding after leaves counted row
+  pub as-after : (calls : Past Call) → As (after lamps calls) (counted lamps calls) (waits lamps calls) (row lamps calls)
+  unfolding after leaves counted waits row
   as-after nothing = as-fresh
   as-after (past ▸ handling s l) = as-handled (as-after past) lamps s l
   as-after (past ▸ taking) = as-taken (as-after past) .0
@@ -49,7 +51,7 @@ module _ {A : Type 0} (lamps : ℕ → Exchange (Answer A)) where
   unfolding given newly counted eventsGiven
   all-events nothing = refl
   all-events (past ▸ handling s l) =
-      let sc = scancodeAfter lamps (counted lamps past) s l in
+      let sc = scancodeAfter lamps (counted lamps past) (waits lamps past) s l in
       events-append (given lamps past) (givenTo (row lamps past) (eventOfCall (counted lamps past) sc))
       ∙ ap₂ {C = List KeyEvent} (λ (x y : List KeyEvent). x ++ y) (all-events past) (events-given (row lamps past) (eventOfCall (counted lamps past) sc))
       ∙ sym (more-given (counted lamps past) sc)
@@ -60,11 +62,17 @@ module _ {A : Type 0} (lamps : ℕ → Exchange (Answer A)) where
   unfolding removed row given eventsTaken lessMet
   all-kept nothing = refl
   all-kept (past ▸ handling s l) =
-      let new = newly lamps (counted lamps past) (row lamps past) s l in
+      let new = newly lamps (counted lamps past) (waits lamps past) (row lamps past) s l in
       sym (append-assoc (eventsTaken (removed lamps past)) (row lamps past) (lessMet new))
       ∙ ap (λ (x : List KeyEvent). x ++ lessMet new) (all-kept past)
       ∙ sym (less-append (given lamps past) new)
   all-kept (past ▸ taking) = taken-first (removed lamps past) (row lamps past) ∙ all-kept past
+
+  all-dropped : (calls : Past Call) → reported lamps calls ≡ each length (dropped lamps calls)
+  unfolding each reported dropped
+  all-dropped nothing = refl
+  all-dropped (past ▸ handling s l) = ap₂ {C = Past ℕ} (λ (x : Past ℕ) (y : ℕ). x ▸ y) (all-dropped past) (as-dropped (as-after past) lamps s l)
+  all-dropped (past ▸ taking) = all-dropped past
 
   pub history : (calls : Past Call) → History lamps calls
   history calls =
@@ -80,4 +88,6 @@ module _ {A : Type 0} (lamps : ℕ → Exchange (Answer A)) where
         taken-then-waiting =
             ap₂ {C = List KeyEvent} (λ (t : Past (Answer (Option KeyEvent))) (w : List KeyEvent). eventsTaken t ++ w) (all-takings calls) (a .waits) ∙ all-kept calls;
         answers-20 = all-20 calls;
+        waiting-bytes = a .bytes-wait;
+        drops = all-dropped calls;
       }

@@ -1,9 +1,13 @@
--- The history rule, and that its words mean what they should.
+-- The history rule, that nothing is lost of the bytes that it speaks of, and that its words mean what they should.
 pub mod Flags
 pub mod Row
+pub mod Waited
 pub mod AsSaid
 pub mod History
+pub mod NothingLost
 pub mod KeyboardHistory
+pub mod Bytes
 pub mod Meaning
 pub mod Witness
+pub mod WitnessWaiting
 pub mod Worked

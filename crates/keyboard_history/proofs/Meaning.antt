@@ -3,16 +3,14 @@
 use mathlib.Core.Path.{_≡_, refl, ap, ap₂, sym, _∙_}
 use mathlib.Core.Bool.{Bool, true, false, not, cond, _&&_, and-eq-true-iff, and-true, and-false, false≢true}
 use mathlib.Core.List.{List, [], _∷_, _++_, map, List·Memᴰ, List·Memᴰ·head, List·Memᴰ·tail}
-use mathlib.Core.Option.{none, some}
 use mathlib.Core.Logic.{_⊎_, inl, inr, ⊎-elim}
 use Prim.Native.Nat.{ℕ, zero, suc, _+_, _*_, _%_, _/_, _<_, _≤_}
 use native.Mathlib.Omega.{arith}
 use lib.Dec.{eqb, ltb}
-use lib.ListN.{getD}
 use borrow.Author.Tests.{eq-eqb, ne-eqb, eqb-true, eqb-false, lt-ltb, le-ltb, ltb-true, not-true}
 use Rattle.bits.specs.Bits.{odd, bit}
 use Rattle.bits.proofs.Every.{agree}
-use Rattle.exchange.specs.Exchange.{Exchange, play}
+use Rattle.exchange.specs.Exchange.{Exchange}
 use Rattle.exchange.specs.Answer.{Answer}
 use Rattle.keycodes_ascii.specs.declared.Keycode.{Keycode}
 use Rattle.keycodes_ascii.specs.Keycode.{numberOf, keycodeOf, numbered, keycodes}
@@ -20,14 +18,13 @@ use Rattle.scancode_set1.specs.Set1.{releaseOf}
 use Rattle.keyboard_history.specs.Past.{Past, nothing, _▸_, onto}
 use Rattle.keyboard_scancodes.specs.Strokes.{stroke, lowPart, isPress}
 use Rattle.keyboard_history.specs.Said.{prefixSaid, strokes, times, lastWasPress, saidOf, said, flagsSaid}
-use Rattle.keyboard_scancodes.specs.FlagTable.{Kind, lock, held, left, right, FlagRow, flagRow, flagTable, isOf, has, isLockPress}
-use Rattle.keyboard_scancodes.specs.Lamps.{lampsLit}
+use Rattle.keyboard_scancodes.specs.FlagTable.{Kind, lock, held, left, right, FlagRow, flagRow, flagTable, isOf, has}
 use Rattle.keyboard_scancodes.specs.Events.{lastKeycode, keycodeAt}
-use Rattle.keyboard_history.specs.Counted.{Call, count, scancodeAfter, counted}
-use Rattle.keyboard.specs.Scancode.{ranOut, scancode}
+use Rattle.keyboard_history.specs.Counted.{Call, counted}
 use Rattle.keyboard_record.specs.Record.{fresh}
 use Rattle.keyboard_history.specs.Run.{after, run}
-use Rattle.keyboard_history.specs.Bytes.{AllBytes, no-bytes, one-more, ByteCalls, no-calls, one-handling, one-taking, timesByte, lastOf, absent, Last, those, demanded}
+use Rattle.keyboard_history.specs.Bytes.{AllBytes, no-bytes, one-more, ByteCalls, timesByte, lastOf, absent, Last, those, demanded}
+use Rattle.keyboard_history.proofs.Bytes.{counted-bytes}
 use Rattle.keyboard_history.proofs.Flags.{flag-bit}
 use Rattle.keyboard_scancodes.proofs.Tests.{which}
 use Rattle.keyboard_history.proofs.History.{history}
@@ -233,27 +230,10 @@ pub flag-demanded : {bytes : Past ℕ} {r : FlagRow} → AllBytes bytes → List
 flag-demanded {bytes} {r} all m = flag-bit bytes m ∙ kind-bytes (r .kind) (r .flag) (r .code) (low-in table-low m) all
 
 module _ {A : Type 0} (lamps : ℕ → Exchange (Answer A)) where
-  -- a call counts a byte of its script
-  count-bytes : (c : Bool) {bytes : Past ℕ} (b : ℕ) → AllBytes bytes → b < 256 → AllBytes (count bytes (cond c (some b) none))
-  count-bytes true b all h = one-more all h
-  count-bytes false b all h = all
-
-  scanned-bytes : {bytes : Past ℕ} (script log : List ℕ) → AllBytes bytes → ((n : ℕ) → getD script n 0 < 256) → AllBytes (count bytes (scancodeAfter lamps bytes script log))
-  unfolding scancodeAfter scancode
-  scanned-bytes [] log all h = all
-  scanned-bytes {bytes} (b ∷ script) log all h =
-      count-bytes (not (isLockPress b && ranOut (play (lamps (lampsLit (flagsSaid (bytes ▸ b)))) script log .end))) b all (h 0)
-
-  counted-bytes : {calls : Past Call} → ByteCalls calls → AllBytes (counted lamps calls)
-  unfolding counted
-  counted-bytes no-calls = no-bytes
-  counted-bytes (one-handling {script = script} {log = log} all h) = scanned-bytes script log (counted-bytes all) h
-  counted-bytes (one-taking all) = counted-bytes all
-
   -- each flag after a list of calls, by the request's sentence on the counted bytes
   pub flag-after : {calls : Past Call} {r : FlagRow} → ByteCalls calls → List·Memᴰ r flagTable
       → bit (r .flag) (after lamps calls .state .keyboard .modifiers .bits) ≡ demanded (r .kind) (r .code) (counted lamps calls)
-  flag-after {calls} {r} all m = ap (bit (r .flag)) (history lamps calls .flags) ∙ flag-demanded (counted-bytes all) m
+  flag-after {calls} {r} all m = ap (bit (r .flag)) (history lamps calls .flags) ∙ flag-demanded (counted-bytes lamps all .0) m
 
 -- ---- the keys
 

@@ -10,8 +10,10 @@ use native.Mathlib.Numerals.{add-one}
 use native.Mathlib.Omega.{arith}
 use lib.ListN.{length, drop, replicate, length-replicate, replicate-append-replicate}
 use Rattle.bits.specs.Bits.{odd, bit, putBit}
+use Rattle.bits.specs.Table.{decode}
 use Rattle.exchange.specs.Exchange.{p60, noScript, Exchange, bind, yields, lacks, play}
 use Rattle.exchange.specs.Answer.{Answer, gives, refuses}
+use Rattle.exchange.specs.Keeping.{keeping}
 use Rattle.ps2_answers.specs.Refusals.{success}
 use Rattle.keycodes_ascii.specs.declared.KeyEvent.{KeyEvent}
 use Rattle.keycodes_ascii.specs.declared.Keycode.{Keycode}
@@ -22,9 +24,10 @@ use Rattle.keyboard_scancodes.specs.Strokes.{stroke}
 use Rattle.keyboard_history.specs.Said.{prefixSaid, flagsSaid, eventGiven}
 use Rattle.keyboard_scancodes.specs.FlagTable.{flagTable, flagLimit, isOf, pressesLock}
 use Rattle.keyboard_scancodes.specs.Lamps.{lampsLit}
+use Rattle.keyboard_scancodes.specs.Waiting.{bytesFrom}
 use Rattle.keyboard_scancodes.specs.Events.{keycodeAt, eventOf}
-use Rattle.keyboard_history.specs.Counted.{Call, handling, taking, count, scancodeAfter, counted}
-use Rattle.keyboard.specs.Scancode.{scancode}
+use Rattle.keyboard_history.specs.Counted.{Call, handling, taking, count, scancodeAfter, thrownAfter, behindAfter, joinedAfter, waitingAfter, counted, waits}
+use Rattle.keyboard.specs.Scancode.{caught, scancode}
 use Rattle.keyboard_history.specs.Row.{Given, eventOfCall, lessMet, anyMet, givenTo, first, rest, newly, row, given, meets, removed}
 use Rattle.keyboard_record.specs.Record.{fresh, wellFormed}
 use Rattle.keyboard_scancodes.specs.FlagsAfter.{flagsAfter, flagsThen}
@@ -56,14 +59,23 @@ module _ {A : Type 0} (lamps : ℕ → Exchange (Answer A)) where
   abbrev A-pressed : KeyEvent
   A-pressed = press Keycode.A 0
 
-  -- a press of A is counted
-  counts-letter : (bytes : Past ℕ) → scancodeAfter lamps bytes (0x1E ∷ []) [] ≡ some 0x1E
+  -- a press of A is counted, and no byte comes to wait
+  counts-letter : (bytes : Past ℕ) → scancodeAfter lamps bytes [] (0x1E ∷ []) [] ≡ some 0x1E
   unfolding scancodeAfter scancode flagTable isOf pressesLock
   counts-letter bytes = refl
 
+  none-caught : (bytes : Past ℕ) → waitingAfter lamps bytes [] (0x1E ∷ []) [] ≡ []
+  unfolding behindAfter joinedAfter thrownAfter caught scancodeAfter scancode flagTable isOf pressesLock
+  none-caught bytes = refl
+
+  none-wait : (n : ℕ) → waits lamps (pressesOfA n) ≡ []
+  unfolding waits pressesOfA
+  none-wait zero = refl
+  none-wait (suc n) = rw (none-wait n) (none-caught (counted lamps (pressesOfA n)))
+
   counted-letter : (n : ℕ) → counted lamps (pressesOfA (suc n)) ≡ counted lamps (pressesOfA n) ▸ 0x1E
   unfolding counted pressesOfA
-  counted-letter n = ap (count (counted lamps (pressesOfA n))) (counts-letter (counted lamps (pressesOfA n)))
+  counted-letter n = rw (none-wait n) (ap (count (counted lamps (pressesOfA n))) (counts-letter (counted lamps (pressesOfA n))))
 
   said-letter : (bytes : Past ℕ) → flagsSaid (bytes ▸ 0x1E) ≡ flagsSaid bytes
   said-letter bytes = flags-more bytes 0x1E ∙ letter-flags (prefixSaid bytes) (flagsSaid bytes)
@@ -76,16 +88,17 @@ module _ {A : Type 0} (lamps : ℕ → Exchange (Answer A)) where
   unfolding eventOf keycodeAt keycodeOf numbered keycodes
   letter-event = refl
 
-  new-letter : (bytes : Past ℕ) (es : List KeyEvent) → flagsSaid bytes ≡ 0 → newly lamps bytes es (0x1E ∷ []) [] ≡ givenTo es (A-pressed ∷ [])
+  new-letter : (bytes : Past ℕ) {ws : List ℕ} (es : List KeyEvent) → ws ≡ [] → flagsSaid bytes ≡ 0 → newly lamps bytes ws es (0x1E ∷ []) [] ≡ givenTo es (A-pressed ∷ [])
   unfolding newly eventGiven
-  new-letter bytes es e =
-      ap (λ (sc : Option ℕ). givenTo es (eventOfCall bytes sc)) (counts-letter bytes)
+  new-letter bytes es q e =
+      ap (λ (ws : List ℕ). newly lamps bytes ws es (0x1E ∷ []) []) q
+      ∙ ap (λ (sc : Option ℕ). givenTo es (eventOfCall bytes sc)) (counts-letter bytes)
       ∙ ap (λ (w : ℕ). givenTo es (eventOf 0x1E w ∷ [])) (said-letter bytes ∙ e)
       ∙ ap (λ (k : KeyEvent). givenTo es (k ∷ [])) letter-event
 
   row-letter : (n : ℕ) → row lamps (pressesOfA (suc n)) ≡ row lamps (pressesOfA n) ++ lessMet (givenTo (row lamps (pressesOfA n)) (A-pressed ∷ []))
   unfolding row pressesOfA
-  row-letter n = ap (λ (gs : List Given). row lamps (pressesOfA n) ++ lessMet gs) (new-letter (counted lamps (pressesOfA n)) (row lamps (pressesOfA n)) (no-flags n))
+  row-letter n = ap (λ (gs : List Given). row lamps (pressesOfA n) ++ lessMet gs) (new-letter (counted lamps (pressesOfA n)) (row lamps (pressesOfA n)) (none-wait n) (no-flags n))
 
   row-none : row lamps (pressesOfA 0) ≡ []
   unfolding row pressesOfA
@@ -112,7 +125,7 @@ module _ {A : Type 0} (lamps : ℕ → Exchange (Answer A)) where
 
   meets-letter : (n : ℕ) → meets lamps (pressesOfA (suc n)) ≡ meets lamps (pressesOfA n) ▸ anyMet (givenTo (row lamps (pressesOfA n)) (A-pressed ∷ []))
   unfolding meets pressesOfA
-  meets-letter n = ap (λ (gs : List Given). meets lamps (pressesOfA n) ▸ anyMet gs) (new-letter (counted lamps (pressesOfA n)) (row lamps (pressesOfA n)) (no-flags n))
+  meets-letter n = ap (λ (gs : List Given). meets lamps (pressesOfA n) ▸ anyMet gs) (new-letter (counted lamps (pressesOfA n)) (row lamps (pressesOfA n)) (none-wait n) (no-flags n))
 
   meets-full : (m : ℕ) → meets lamps (pressesOfA (suc (m + 128))) ≡ meets lamps (pressesOfA (m + 128)) ▸ true
   meets-full m =
@@ -184,6 +197,11 @@ module _ {A : Type 0} (lamps : ℕ → Exchange (Answer A)) where
   counted-drained zero calls = refl
   counted-drained (suc k) calls = counted-drained k calls
 
+  waits-drained : (k : ℕ) (calls : Past Call) → waits lamps (thenTakings k calls) ≡ waits lamps calls
+  unfolding waits thenTakings
+  waits-drained zero calls = refl
+  waits-drained (suc k) calls = waits-drained k calls
+
   row-one-off : row lamps (thenTakings 1 filled) ≡ replicate 127 A-pressed
   row-one-off = row-drained 1 filled ∙ ap (drop 1) (row-full 2)
 
@@ -194,7 +212,7 @@ module _ {A : Type 0} (lamps : ℕ → Exchange (Answer A)) where
       let bytes = counted lamps (thenTakings 1 filled) in
       let none = ap flagsSaid (counted-drained 1 filled) ∙ no-flags 130 in
       let few : length es < 128 = rw row-one-off (omega arith) in
-      ap (λ (gs : List Given). es ++ lessMet gs) (new-letter bytes es none)
+      ap (λ (gs : List Given). es ++ lessMet gs) (new-letter bytes es (waits-drained 1 filled ∙ none-wait 130) none)
       ∙ ap (λ (l : List KeyEvent). es ++ l) (less-room es A-pressed few)
       ∙ ap (λ (l : List KeyEvent). l ++ (A-pressed ∷ [])) row-one-off
       ∙ replicate-more 127 A-pressed
@@ -205,37 +223,37 @@ module _ {A : Type 0} (lamps : ℕ → Exchange (Answer A)) where
 -- ---- a lamp exchange that fails: 14 is shown, the lock is on, its event waits
 
 pub failing-handled : handled shortLamps fresh (0x3A ∷ 0xFE ∷ []) fourFree
-    ≡ record { end = yields (gives success); lamps = refuses 14; used = 2; pairs = 2; handler = after shortLamps failingLamps }
-unfolding after leaves handled effects handle onByte lampExchange play bind wellFormed flagTable flagLimit isOf pressesLock queued
+    ≡ record { end = yields (gives success); lamps = refuses 14; used = 2; pairs = 2; handler = after shortLamps failingLamps; dropped = 0 }
+unfolding after leaves handled effects handle onByte lampExchange keeping decode bytesFrom play bind wellFormed flagTable flagLimit isOf pressesLock queued
 failing-handled = refl
 
 pub failing-log : logLeft shortLamps (fresh .state) (0x3A ∷ 0xFE ∷ []) fourFree ≡ 0x60 ∷ 0xED ∷ 0x60 ∷ 0x04 ∷ []
-unfolding logLeft handle onByte lampExchange play bind wellFormed flagTable flagLimit isOf pressesLock lampsLit bit odd flagsThen flagsAfter putBit
+unfolding logLeft handle onByte lampExchange keeping decode bytesFrom play bind wellFormed flagTable flagLimit isOf pressesLock lampsLit bit odd flagsThen flagsAfter putBit
 failing-log = refl
 
 pub failing-flags : after shortLamps failingLamps .state .keyboard .modifiers .bits ≡ 0x80
-unfolding after leaves handled effects handle onByte lampExchange play bind wellFormed flagTable flagLimit isOf pressesLock lampsLit bit odd flagsThen flagsAfter putBit queued
+unfolding after leaves handled effects handle onByte lampExchange keeping decode bytesFrom play bind wellFormed flagTable flagLimit isOf pressesLock lampsLit bit odd flagsThen flagsAfter putBit queued
 failing-flags = refl
 
 pub failing-waits : waiting (after shortLamps failingLamps) ≡ press Keycode.CapsLock 0x80 ∷ []
-unfolding after leaves handled effects handle onByte lampExchange play bind wellFormed flagTable flagLimit isOf pressesLock lampsLit bit odd flagsThen flagsAfter putBit queued round eventOf keycodeAt keycodeOf numbered keycodes
+unfolding after leaves handled effects handle onByte lampExchange keeping decode bytesFrom play bind wellFormed flagTable flagLimit isOf pressesLock lampsLit bit odd flagsThen flagsAfter putBit queued round eventOf keycodeAt keycodeOf numbered keycodes
 failing-waits = refl
 
 -- an exchange that succeeds shows nothing
 pub lit-handled : handled shortLamps fresh (0x3A ∷ 0xFA ∷ []) fourFree .lamps ≡ gives success
-unfolding handled effects handle onByte lampExchange play bind wellFormed flagTable flagLimit isOf pressesLock queued
+unfolding handled effects handle onByte lampExchange keeping decode bytesFrom play bind wellFormed flagTable flagLimit isOf pressesLock queued
 lit-handled = refl
 
 -- ---- a call that ends in 2 inside its lamp exchange: its byte is left out, and the calls after it count as if it had not been made
 
 pub cut-answers : answers shortLamps cutInLamps ≡ nothing ▸ lacks (noScript p60) ▸ yields (gives success) ▸ yields (gives success)
-unfolding answers after leaves handled effects handle onByte lampExchange play bind wellFormed flagTable flagLimit isOf pressesLock lampsLit bit odd flagsThen flagsAfter putBit queued
+unfolding answers after leaves handled effects handle onByte lampExchange keeping decode bytesFrom play bind wellFormed flagTable flagLimit isOf pressesLock lampsLit bit odd flagsThen flagsAfter putBit queued
 cut-answers = refl
 
 pub cut-counted : counted shortLamps cutInLamps ≡ nothing ▸ 0x3A ▸ 0x1E
-unfolding counted scancodeAfter scancode play flagTable isOf pressesLock
+unfolding counted waits behindAfter joinedAfter thrownAfter caught scancodeAfter scancode keeping decode play flagTable isOf pressesLock
 cut-counted = refl
 
 pub cut-waits : waiting (after shortLamps cutInLamps) ≡ press Keycode.CapsLock 0x80 ∷ press Keycode.A 0x80 ∷ []
-unfolding after leaves handled effects handle onByte lampExchange play bind wellFormed flagTable flagLimit isOf pressesLock lampsLit bit odd flagsThen flagsAfter putBit queued round eventOf keycodeAt keycodeOf numbered keycodes
+unfolding after leaves handled effects handle onByte lampExchange keeping decode bytesFrom play bind wellFormed flagTable flagLimit isOf pressesLock lampsLit bit odd flagsThen flagsAfter putBit queued round eventOf keycodeAt keycodeOf numbered keycodes
 cut-waits = refl

@@ -30,6 +30,14 @@ thenTakings (suc n) calls = thenTakings n calls ▸ taking
 abbrev pub shortLamps : ℕ → Exchange (Answer ℕ)
 shortLamps lamps = write p60 0xED (write p60 lamps (read p60 (λ b. done (cond (eqb b 0xFA) (gives b) (refuses 7)))))
 
+-- One that goes on reading, at most 20 bytes, until FA comes: any other byte is passed over.
+unfoldable pub untilFA : ℕ → Exchange (Answer ℕ)
+untilFA zero = done (refuses 7)
+untilFA (suc n) = read p60 (λ b. cond (eqb b 0xFA) (done (gives b)) (untilFA n))
+
+abbrev pub patientLamps : ℕ → Exchange (Answer ℕ)
+patientLamps lamps = write p60 0xED (write p60 lamps (untilFA 20))
+
 -- A log with room for two pairs.
 abbrev pub fourFree : List ℕ
 fourFree = 0 ∷ 0 ∷ 0 ∷ 0 ∷ []
@@ -41,3 +49,29 @@ failingLamps = nothing ▸ handling (0x3A ∷ 0xFE ∷ []) fourFree
 -- Caps Lock, whose lamp exchange finds the script used up; Caps Lock again, whose lamps are lit; A.
 abbrev pub cutInLamps : Past Call
 cutInLamps = nothing ▸ handling (0x3A ∷ []) fourFree ▸ handling (0x3A ∷ 0xFA ∷ []) fourFree ▸ handling (0x1E ∷ []) []
+
+-- Caps Lock, and A typed during its lamp exchange; then a call without script and log.
+abbrev pub letterInLamps : Past Call
+letterInLamps = nothing ▸ handling (0x3A ∷ 0x1E ∷ 0xFA ∷ []) fourFree ▸ handling [] []
+
+-- Caps Lock, and 17 keys during its lamp exchange.
+abbrev pub seventeen : Past Call
+seventeen =
+    nothing ▸ handling (0x3A ∷ 0x10 ∷ 0x11 ∷ 0x12 ∷ 0x13 ∷ 0x14 ∷ 0x15 ∷ 0x16 ∷ 0x17 ∷ 0x18 ∷ 0x19 ∷ 0x1A ∷ 0x1B ∷ 0x1C ∷ 0x1D ∷ 0x1E ∷ 0x1F ∷ 0x20 ∷ 0xFA ∷ []) fourFree
+
+-- Caps Lock, and Num Lock and A during its lamp exchange; Num Lock, and B during its own; then a call each for A and B.
+abbrev pub lockWaits : Past Call
+lockWaits = nothing ▸ handling (0x3A ∷ 0x45 ∷ 0x1E ∷ 0xFA ∷ []) fourFree ▸ handling (0x30 ∷ 0xFA ∷ []) fourFree ▸ handling [] [] ▸ handling [] []
+
+-- Caps Lock, and Num Lock and 15 keys during its lamp exchange; Num Lock, and A and B during its own: its place is free for the first of them.
+abbrev pub lockFirstOf16 : Past Call
+lockFirstOf16 =
+    nothing ▸ handling (0x3A ∷ 0x45 ∷ 0x10 ∷ 0x11 ∷ 0x12 ∷ 0x13 ∷ 0x14 ∷ 0x15 ∷ 0x16 ∷ 0x17 ∷ 0x18 ∷ 0x19 ∷ 0x1A ∷ 0x1B ∷ 0x1C ∷ 0x1D ∷ 0x1F ∷ 0xFA ∷ []) fourFree
+    ▸ handling (0x1E ∷ 0x30 ∷ 0xFA ∷ []) fourFree
+
+-- Caps Lock, and Num Lock during its lamp exchange; Num Lock, in whose own the script ends after B; and Num Lock again, whose lamps are lit.
+abbrev pub waitingCut : Past Call
+waitingCut = nothing ▸ handling (0x3A ∷ 0x45 ∷ 0xFA ∷ []) fourFree ▸ handling (0x30 ∷ []) fourFree
+
+abbrev pub waitingLit : Past Call
+waitingLit = waitingCut ▸ handling (0xFA ∷ []) fourFree

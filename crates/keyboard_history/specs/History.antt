@@ -1,19 +1,22 @@
--- The history rule: demand 3 as one statement about a list of calls. On the right of each equation stands what the list alone says; on the left, the record after it and the answers given.
+-- The history rule: demand 3, and request 2.3's sentences on waiting bytes, as one statement about a list of calls. On the right of each equation stands what the list alone says; on the left, the record after it and the answers given.
 -- Assumes nothing.
 use mathlib.Core.Bool.{true, not}
 use mathlib.Core.List.{_++_}
 use mathlib.Core.Path.{_≡_}
 use Prim.Native.Nat.{ℕ}
+use lib.ListN.{length}
 use Rattle.exchange.specs.Exchange.{Exchange}
 use Rattle.exchange.specs.Answer.{Answer}
 use Rattle.keyboard_history.specs.Past.{Past, each}
+use Rattle.keyboard_scancodes.specs.Waiting.{waitingBytes}
 use Rattle.keyboard_record.specs.Queue.{waiting}
 use Rattle.keyboard_history.specs.Said.{prefixSaid, flagsSaid, eventsGiven}
-use Rattle.keyboard_history.specs.Counted.{Call, counted, counts}
+use Rattle.keyboard_history.specs.Counted.{Call, counted, waits, counts}
+use Rattle.keyboard_history.specs.Waited.{dropped}
 use Rattle.keyboard_history.specs.Row.{events, lessMet, row, given, meets, removed}
 use Rattle.keyboard_record.specs.Record.{wellFormed}
 use Rattle.keyboard.specs.Answers.{ends2-3-21, ends20}
-use Rattle.keyboard_history.specs.Run.{after, answers, takings, eventsTaken}
+use Rattle.keyboard_history.specs.Run.{after, answers, takings, eventsTaken, reported}
 
 module _ {A : Type 0} (lamps : ℕ → Exchange (Answer A)) where
   pub record History (calls : Past Call) : Type 0 where
@@ -35,3 +38,7 @@ module _ {A : Type 0} (lamps : ℕ → Exchange (Answer A)) where
     pub taken-then-waiting : eventsTaken (takings lamps calls) ++ waiting (after lamps calls) ≡ lessMet (given lamps calls)
     -- "20 is answered exactly where an event met 128 waiting."
     pub answers-20 : each ends20 (answers lamps calls) ≡ meets lamps calls
+    -- "The handler record keeps the earliest of them waiting, up to 16 with the old ones": the bytes that wait in the record, the oldest first, are those that the list says.
+    pub waiting-bytes : waitingBytes (after lamps calls .state .keyboard .waiting) ≡ waits lamps calls
+    -- "And reports how many more it dropped in this call": as many as found no room, and 0 where no scancode is counted.
+    pub drops : reported lamps calls ≡ each length (dropped lamps calls)

@@ -12,7 +12,7 @@ use Rattle.keycodes_ascii.specs.declared.KeyEvent.{KeyEvent}
 use Rattle.keyboard_history.specs.Past.{Past, nothing, _▸_}
 use Rattle.keyboard_record.specs.Limits.{queueLength}
 use Rattle.keyboard_history.specs.Said.{eventGiven}
-use Rattle.keyboard_history.specs.Counted.{Call, handling, taking, scancodeAfter, counted}
+use Rattle.keyboard_history.specs.Counted.{Call, handling, taking, scancodeAfter, counted, waits}
 
 -- An event given, and whether it met 128 waiting.
 pub record Given : Type 0 where
@@ -52,26 +52,26 @@ rest [] = []
 rest (e ∷ es) = es
 
 module _ {A : Type 0} (lamps : ℕ → Exchange (Answer A)) where
-  -- The event, if any, that a handler call gives after these bytes and with this row, with whether it met 128 waiting.
-  unfoldable pub newly : Past ℕ → List KeyEvent → List ℕ → List ℕ → List Given
-  newly bytes row script log = givenTo row (eventOfCall bytes (scancodeAfter lamps bytes script log))
+  -- The event, if any, that a handler call gives after these bytes, with these bytes waiting and with this row, with whether it met 128 waiting.
+  unfoldable pub newly : Past ℕ → List ℕ → List KeyEvent → List ℕ → List ℕ → List Given
+  newly bytes waiting row script log = givenTo row (eventOfCall bytes (scancodeAfter lamps bytes waiting script log))
 
   -- "Empty at first; an event given joins its end if fewer than 128 wait there, otherwise it met 128 waiting and never joins; a taking removes the first."
   unfoldable pub row : Past Call → List KeyEvent
   row nothing = []
-  row (past ▸ handling script log) = row past ++ lessMet (newly (counted lamps past) (row past) script log)
+  row (past ▸ handling script log) = row past ++ lessMet (newly (counted lamps past) (waits lamps past) (row past) script log)
   row (past ▸ taking) = rest (row past)
 
   -- The events given by the calls, in order, with whether each met 128 waiting.
   unfoldable pub given : Past Call → List Given
   given nothing = []
-  given (past ▸ handling script log) = given past ++ newly (counted lamps past) (row past) script log
+  given (past ▸ handling script log) = given past ++ newly (counted lamps past) (waits lamps past) (row past) script log
   given (past ▸ taking) = given past
 
   -- Of each handler call, whether its event met 128 waiting.
   unfoldable pub meets : Past Call → Past Bool
   meets nothing = nothing
-  meets (past ▸ handling script log) = meets past ▸ anyMet (newly (counted lamps past) (row past) script log)
+  meets (past ▸ handling script log) = meets past ▸ anyMet (newly (counted lamps past) (waits lamps past) (row past) script log)
   meets (past ▸ taking) = meets past
 
   -- "Each taking answers the event removed, or "none" from an empty row."

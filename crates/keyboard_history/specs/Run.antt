@@ -48,3 +48,9 @@ module _ {A : Type 0} (lamps : ℕ → Exchange (Answer A)) where
   takings nothing = nothing
   takings (past ▸ handling script log) = takings past
   takings (past ▸ taking) = takings past ▸ taken (after past) .answer
+
+  -- How many bytes each handler call reported as dropped, in order.
+  unfoldable pub reported : Past Call → Past ℕ
+  reported nothing = nothing
+  reported (past ▸ handling script log) = reported past ▸ handled lamps (after past) script log .dropped
+  reported (past ▸ taking) = reported past

@@ -11,7 +11,7 @@ use Rattle.keycodes_ascii.specs.declared.KeyEvent.{KeyEvent}
 use Rattle.scancode_set2.specs.Codes.{Code}
 use Rattle.keyboard.specs.Scancode.{isSome}
 use Rattle.keyboard_history.specs.Past.{Past, nothing, _▸_}
-use Rattle.keyboard_history.specs.Counted.{Call, handling, taking, count, scancodeAfter, counted, counts}
+use Rattle.keyboard_history.specs.Counted.{Call, handling, taking, count, scancodeAfter, counted, waits, counts}
 use Rattle.keyboard_history.specs.Row.{Given, lessMet, anyMet, givenTo, eventOfCall, first, rest, newly, row, given, meets, removed}
 use Rattle.keyboard_history_set2.specs.Turns.{Turn, handled, took, before, lastEvent, turns, rowOf, givenOf, meetsOf, removedOf}
 use Rattle.keyboard_history_set2.proofs.Alike.{Reads, one-read, event-reads}
@@ -20,7 +20,7 @@ module _ {A : Type 0} (lamps : ℕ → Exchange (Answer A)) where
   -- the turns of the rule over the counted scancodes
   unfoldable pub turnsSet1 : Past Call → Past Turn
   turnsSet1 nothing = nothing
-  turnsSet1 (past ▸ handling s l) = turnsSet1 past ▸ handled (eventOfCall (counted lamps past) (scancodeAfter lamps (counted lamps past) s l))
+  turnsSet1 (past ▸ handling s l) = turnsSet1 past ▸ handled (eventOfCall (counted lamps past) (scancodeAfter lamps (counted lamps past) (waits lamps past) s l))
   turnsSet1 (past ▸ taking) = turnsSet1 past ▸ took
 
   -- ---- the rule's row is that of its turns
@@ -29,7 +29,7 @@ module _ {A : Type 0} (lamps : ℕ → Exchange (Answer A)) where
   unfolding row newly turnsSet1 rowOf
   row-turns nothing = refl
   row-turns (past ▸ handling s l) =
-      let es = eventOfCall (counted lamps past) (scancodeAfter lamps (counted lamps past) s l) in
+      let es = eventOfCall (counted lamps past) (scancodeAfter lamps (counted lamps past) (waits lamps past) s l) in
       ap (λ (r : List KeyEvent). r ++ lessMet (givenTo r es)) (row-turns past)
   row-turns (past ▸ taking) = ap rest (row-turns past)
 
@@ -37,7 +37,7 @@ module _ {A : Type 0} (lamps : ℕ → Exchange (Answer A)) where
   unfolding given newly turnsSet1 givenOf
   given-turns nothing = refl
   given-turns (past ▸ handling s l) =
-      let es = eventOfCall (counted lamps past) (scancodeAfter lamps (counted lamps past) s l) in
+      let es = eventOfCall (counted lamps past) (scancodeAfter lamps (counted lamps past) (waits lamps past) s l) in
       ap₂ {C = List Given} (λ (g : List Given) (r : List KeyEvent). g ++ givenTo r es) (given-turns past) (row-turns past)
   given-turns (past ▸ taking) = given-turns past
 
@@ -45,7 +45,7 @@ module _ {A : Type 0} (lamps : ℕ → Exchange (Answer A)) where
   unfolding meets newly turnsSet1 meetsOf
   meets-turns nothing = refl
   meets-turns (past ▸ handling s l) =
-      let es = eventOfCall (counted lamps past) (scancodeAfter lamps (counted lamps past) s l) in
+      let es = eventOfCall (counted lamps past) (scancodeAfter lamps (counted lamps past) (waits lamps past) s l) in
       ap₂ {C = Past Bool} (λ (m : Past Bool) (r : List KeyEvent). m ▸ anyMet (givenTo r es)) (meets-turns past) (row-turns past)
   meets-turns (past ▸ taking) = meets-turns past
 
@@ -70,5 +70,5 @@ module _ {A : Type 0} (lamps : ℕ → Exchange (Answer A)) where
   pub turns-same : (calls : Past Call) (codes : Past Code) → Reads codes (counted lamps calls) → turnsSet1 calls ≡ turns lamps calls codes
   unfolding turnsSet1 turns counted counts
   turns-same nothing codes r = refl
-  turns-same (past ▸ handling s l) codes r = turn-same past (λ codes r. turns-same past codes r) (scancodeAfter lamps (counted lamps past) s l) r
+  turns-same (past ▸ handling s l) codes r = turn-same past (λ codes r. turns-same past codes r) (scancodeAfter lamps (counted lamps past) (waits lamps past) s l) r
   turns-same (past ▸ taking) codes r = ap (λ (t : Past Turn). t ▸ took) (turns-same past codes r)

@@ -13,13 +13,13 @@ use Rattle.keycodes_ascii.specs.Keycode.{keycodeOf, numbered, keycodes}
 use Rattle.scancode_set2.specs.Table.{printed, entryOf}
 use Rattle.scancode_set2.specs.Codes.{alone, afterF0, codes}
 use Rattle.scancode_set2.specs.Convert.{becomes, convertCodes, convertStream}
-use Rattle.keyboard.specs.Scancode.{scancode}
+use Rattle.keyboard.specs.Scancode.{caught, scancode}
 use Rattle.keyboard_record.specs.Queue.{waiting}
 use Rattle.keyboard_scancodes.specs.FlagTable.{flagTable, isOf, pressesLock}
 use Rattle.keyboard_scancodes.specs.Events.{keycodeAt}
 use Rattle.keyboard_history.specs.Past.{Past, nothing, _▸_, onto}
 use Rattle.keyboard_history.specs.Said.{times, lastWasPress, saidOf, wordOf}
-use Rattle.keyboard_history.specs.Counted.{Call, handling, scancodeAfter, counted, counts}
+use Rattle.keyboard_history.specs.Counted.{Call, handling, scancodeAfter, thrownAfter, behindAfter, joinedAfter, counted, waits, counts}
 use Rattle.keyboard_history.specs.Row.{lessMet, givenTo}
 use Rattle.keyboard_history.specs.Run.{after}
 use Rattle.keyboard_history.specs.Examples.{press, shortLamps}
@@ -41,7 +41,7 @@ abbrev release : Keycode → ℕ → KeyEvent
 release key flags = record { keycode = key; action = KeyAction.Released; modifiers = record { bits = flags } }
 
 counted-bytes : counted shortLamps calls ≡ onto nothing (convertStream stream 4 .bytes)
-unfolding counted scancodeAfter scancode flagTable isOf pressesLock onto convertCodes codes becomes entryOf printed putBit
+unfolding counted waits behindAfter joinedAfter thrownAfter caught scancodeAfter scancode flagTable isOf pressesLock onto convertCodes codes becomes entryOf printed putBit
 counted-bytes = refl
 
 converted-whole : convertStream stream 4 .end ≡ gives success
@@ -51,7 +51,7 @@ converted-whole = refl
 -- what the codes say of the row
 row-codes : rowOf (turns shortLamps calls (codesOf stream))
     ≡ press Keycode.LeftShift 0x001 ∷ press Keycode.A 0x001 ∷ release Keycode.A 0x001 ∷ release Keycode.LeftShift 0x000 ∷ []
-unfolding rowOf turns counts counted scancodeAfter scancode lessMet givenTo onto codes eventSet2 flagsSet2 strokeSet2 strokesSet2 prefixSet2 wordOf saidOf times lastWasPress flagTable isOf pressesLock entryOf printed putBit odd keycodeAt keycodeOf numbered keycodes
+unfolding rowOf turns counts counted waits behindAfter joinedAfter thrownAfter caught scancodeAfter scancode lessMet givenTo onto codes eventSet2 flagsSet2 strokeSet2 strokesSet2 prefixSet2 wordOf saidOf times lastWasPress flagTable isOf pressesLock entryOf printed putBit odd keycodeAt keycodeOf numbered keycodes
 row-codes = refl
 
 -- the events of the four lines that tablekeys prints

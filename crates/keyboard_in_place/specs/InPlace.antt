@@ -14,4 +14,5 @@ saidInPlace x left =
       used = x .used;
       pairs = x .pairs;
       handler = left;
+      dropped = x .dropped;
     }

@@ -13,6 +13,7 @@ pub struct HandledInPlace {
     pub lamps_failed: bool,
     pub used: usize,
     pub pairs: usize,
+    pub dropped: u32,
 }
 
 // A handler call that changes the record in place.
@@ -30,5 +31,6 @@ pub fn handle_in_place(
         lamps_failed: done.lamps_failed,
         used: done.used,
         pairs: done.pairs,
+        dropped: done.dropped,
     }
 }

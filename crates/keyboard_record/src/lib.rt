@@ -6,9 +6,11 @@ ghost use Rattle.keyboard_record.specs.Record.{fresh, wellFormed};
 ghost use Rattle.keyboard_record.specs.Taking.{saidTaken, taken};
 use keyboard_modifiers::KeyboardModifiers;
 use keyboard_scancodes::KeyboardState;
+use keyboard_scancodes::WaitingBytes;
 use keycodes_ascii::KeyAction;
 use keycodes_ascii::KeyEvent;
 use keycodes_ascii::Keycode;
+use ps2_kept::KEPT_LIMIT;
 
 // The places of the queue.
 pub const QUEUE_LENGTH: usize = 128;
@@ -58,7 +60,7 @@ impl TakenEvent {
 }
 
 impl HandlerState {
-    // Whether there is no flag above bit 10, and a start and a count that the queue's places allow.
+    // Whether there is no flag above bit 10, a start and a count that the queue's places allow, and no more than 16 bytes that wait.
     pub fn well_formed(self) -> bool
         ensures { λ r. ⌜ r ≡ wellFormed self ⌝ }
     {
@@ -68,12 +70,15 @@ impl HandlerState {
         if QUEUE_LENGTH <= self.start {
             return false;
         }
-        self.count <= QUEUE_LENGTH
+        if QUEUE_LENGTH < self.count {
+            return false;
+        }
+        self.keyboard.waiting.count as usize <= KEPT_LIMIT
     }
 }
 
 impl KeyboardHandler {
-    // A fresh record: no prefix, no flag, an empty queue.
+    // A fresh record: no prefix, no flag, no byte that waits, an empty queue.
     pub fn fresh() -> KeyboardHandler
         ensures { λ r. ⌜ r ≡ fresh ⌝ }
     {
@@ -87,6 +92,10 @@ impl KeyboardHandler {
                 keyboard: KeyboardState {
                     prefix: false,
                     modifiers: KeyboardModifiers { bits: 0 },
+                    waiting: WaitingBytes {
+                        bytes: [0; KEPT_LIMIT],
+                        count: 0,
+                    },
                 },
                 start: 0,
                 count: 0,

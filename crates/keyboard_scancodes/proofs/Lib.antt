@@ -6,3 +6,4 @@ pub mod Silent
 pub mod Untouched
 pub mod Keycodes
 pub mod LampBits
+pub mod Waiting

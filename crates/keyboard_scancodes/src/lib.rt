@@ -4,8 +4,11 @@ ghost use Rattle.keyboard_scancodes.specs.Strokes.{stroke, isPrefix, isS
 ghost use Rattle.keyboard_scancodes.specs.FlagTable.{flagTable, isLockPress};
 ghost use Rattle.keyboard_scancodes.specs.FlagsAfter.{flagsAfter, heldFlags, lockFlags};
 ghost use Rattle.keyboard_scancodes.specs.Lamps.{lampsLit};
+ghost use Rattle.keyboard_scancodes.specs.Waiting.{waitingIn};
 use keyboard_modifiers::KeyboardModifiers;
 use keycodes_ascii::KEY_RELEASED_OFFSET;
+use ps2_kept::KEPT_LIMIT;
+use ps2_kept::KeptBytes;
 use ps2_layouts::LEDState;
 
 // The prefixes of extended keys, and the bytes that are no key's: an error of the port, and an acknowledgement.
@@ -44,10 +47,30 @@ const ALT_AND_ALT_RIGHT: KeyboardModifiers = KeyboardModifiers {
     bits: 1 << 4 | 1 << 10,
 };
 
-// What the handler remembers of one keyboard: whether the last byte was a prefix, the keys that are held and the locks that are on.
+// Bytes that wait to be taken, the oldest first: a lamp exchange threw them away.
+pub struct WaitingBytes {
+    pub bytes: [u8; KEPT_LIMIT],
+    pub count: u8,
+}
+
+// What the handler remembers of one keyboard: whether the last byte was a prefix, the keys that are held and the locks that are on, and the bytes that wait.
 pub struct KeyboardState {
     pub prefix: bool,
     pub modifiers: KeyboardModifiers,
+    pub waiting: WaitingBytes,
+}
+
+impl WaitingBytes {
+    // Kept bytes, which wait from now on; any others are lost.
+    pub fn from_kept(kept: KeptBytes) -> WaitingBytes
+        ensures { λ r. ⌜ r ≡ waitingIn kept ⌝ }
+    {
+        let bytes = kept.bytes;
+        WaitingBytes {
+            bytes,
+            count: kept.count,
+        }
+    }
 }
 
 // E0 and E1 say that the next byte belongs to an extended key.

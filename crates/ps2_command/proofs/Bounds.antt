@@ -12,15 +12,17 @@ use Rattle.exchange.specs.Attains.{Attains, attains-done, attains-read, attains
 use Rattle.exchange.specs.Bounds.{Within, within-done, within-read, within-write}
 use Rattle.exchange.specs.Repeat.{Turn, again}
 use Rattle.exchange.proofs.Attains.{attains-last}
-use Rattle.exchange.proofs.Bounds.{within-repeat}
+use Rattle.exchange.proofs.Bounds.{within-repeat, within-more}
 use Rattle.exchange.proofs.Then.{on-cond, within-then, attains-then, within-told, attains-told}
 use Rattle.ps2_bytes.specs.declared.response.DeviceToHostResponse.the-variants.{Acknowledge, ResendCommand}
 use Rattle.ps2_bytes.specs.declared.writable.HostToDevice.{HostToDevice}
 use Rattle.ps2_answers.specs.Refusals.{success}
 use Rattle.ps2_ports.specs.Ports.{writePort}
+use Rattle.ps2_ports.specs.declared.DevicePort.{DevicePort}
+use Rattle.ps2_ports.specs.declared.DevicePort.the-variants.{Port1, Port2}
 use Rattle.ps2_polling.proofs.Bounds.{within-send-receive}
 use Rattle.ps2_polling.proofs.Attained.{attains-send-receive}
-use Rattle.ps2_command.specs.Command.{commandReads, settled, attempts, attempt, command, commandToPort2}
+use Rattle.ps2_command.specs.Command.{commandReads, settled, attempts, attempt, command, commandToPort2, commandBy}
 use Rattle.ps2_command.specs.Search.{pollWhen, selfTestWithin}
 
 module _ (value : HostToDevice) where
@@ -42,6 +44,11 @@ module _ (value : HostToDevice) where
   pub attains-commandToPort2 : Attains (gives success) commandReads 5 (commandToPort2 value)
   unfolding commandToPort2 writePort
   attains-commandToPort2 = attains-then (λ _. command value) (attains-write attains-done) attains-command
+
+-- to either port
+pub within-commandBy : (port : DevicePort) (value : HostToDevice) → Within commandReads 5 (commandBy port value)
+within-commandBy Port1 value = within-more (within-command value) commandReads 5 (omega arith) (omega arith)
+within-commandBy Port2 value = within-commandToPort2 value
 
 -- ---- the self test's AA: as many reads as are allowed
 

@@ -1,10 +1,11 @@
 // The command rule: a byte is sent to a device up to four times, until its response settles the matter. And what a reset waits for.
 ghost use mathlib.Core.Path.{_≡_};
-ghost use mathlib.Core.List.{List};
-ghost use Prim.Native.Nat.{ℕ};
-ghost use Rattle.exchange.specs.Exchange.{Exchange, play, played, yields, Reads};
-ghost use Rattle.exchange.specs.Answer.{Answer, andThen, refusingAs};
-ghost use Rattle.ps2_answers.specs.Refusals.{numberOf, saidDone, Success};
+ghost use Rattle.exchange.specs.Exchange.{toldEnd, yields, Reads};
+ghost use Rattle.exchange.specs.Answer.{andThen, renumbered};
+ghost use Rattle.ps2_answers.specs.Refusals.{numberOf, saidDone};
+ghost use Rattle.ps2_kept.specs.Kept.{keepingThrown};
+ghost use Rattle.ps2_kept.specs.Added.{keepingOnto};
+ghost use Rattle.ps2_kept.specs.Contracts.{PlaysKept};
 ghost use Rattle.ps2_command.specs.Command.{command as commandRule, commandToPort2, commandBy, attempt as attemptRule, saidAttempt, verdict as verdictRule};
 ghost use Rattle.ps2_command.specs.Replaced.{replacedBy};
 ghost use Rattle.ps2_command.specs.Search.{selfTestWithin};
@@ -15,9 +16,12 @@ use ps2_answers::Refusal;
 use ps2_bytes::DeviceToHostResponse;
 use ps2_bytes::HostToControllerCommand;
 use ps2_bytes::HostToDevice;
+use ps2_kept::KeptBytes;
+use ps2_kept::kept_at;
+use ps2_kept::none_kept;
 use ps2_polling::ResponseAnswer;
 use ps2_polling::Waiting;
-use ps2_polling::polling_send_receive;
+use ps2_polling::polling_send_receive_onto;
 use ps2_polling::read_test_result;
 use ps2_ports::DevicePort;
 use ps2_ports::write_command;
@@ -38,6 +42,15 @@ pub struct Attempted {
     pub attempt: Attempt,
     pub used: usize,
     pub pairs: usize,
+    pub kept: KeptBytes,
+}
+
+// What a command comes to, with the bytes that its whole run threw away.
+pub struct Commanded {
+    pub answer: Completion,
+    pub used: usize,
+    pub pairs: usize,
+    pub kept: KeptBytes,
 }
 
 // What a response says of the command.
@@ -60,13 +73,14 @@ fn verdict(response: DeviceToHostResponse) -> Attempt
     }
 }
 
-// One attempt: sends the byte, and reads the response.
-fn attempt_once(script: &[u8], log: &mut [u8], value: HostToDevice) -> Attempted
-    ensures { λ r. ⌜ played (saidAttempt (r .attempt)) (r .used) (r .pairs) (now (log .exit)) ≡ play (attemptRule value) (now (script .entry)) (now (log .entry)) ⌝ }
+// One attempt: sends the byte, and reads the response. What is thrown away comes behind the bytes kept before, here and below.
+fn attempt_once(script: &[u8], log: &mut [u8], value: HostToDevice, before: KeptBytes) -> Attempted
+    ensures { λ r. ⌜ PlaysKept (keepingOnto before (attemptRule value)) (now (script .entry)) (now (log .entry)) (saidAttempt (r .attempt)) (r .used) (r .pairs) (now (log .exit)) (r .kept) ⌝ }
 {
-    let s = polling_send_receive(script, log, value);
+    let s = polling_send_receive_onto(script, log, value, before);
     let used = s.used;
     let pairs = s.pairs;
+    let kept = s.kept;
     let answer = s.answer;
     let attempt = match answer {
         ResponseAnswer::Response(response) => verdict(response),
@@ -76,24 +90,27 @@ fn attempt_once(script: &[u8], log: &mut [u8], value: HostToDevice) -> Attempted
         attempt,
         used,
         pairs,
+        kept,
     }
 }
 
 // A command to the device of the first port, or to whichever the controller was told to send the next byte to.
-pub fn command(script: &[u8], log: &mut [u8], value: HostToDevice) -> Completed
-    ensures { λ r. ⌜ played (saidDone (r .answer)) (r .used) (r .pairs) (now (log .exit)) ≡ play (commandRule value) (now (script .entry)) (now (log .entry)) ⌝ }
+fn command_onto(script: &[u8], log: &mut [u8], value: HostToDevice, before: KeptBytes) -> Commanded
+    ensures { λ r. ⌜ PlaysKept (keepingOnto before (commandRule value)) (now (script .entry)) (now (log .entry)) (saidDone (r .answer)) (r .used) (r .pairs) (now (log .exit)) (r .kept) ⌝ }
 {
     let mut used: usize = 0;
     let mut pairs: usize = 0;
     let mut attempts = ATTEMPTS;
+    let mut kept = before;
     let answer = loop {
         if attempts == 0 {
             break Completion::Refused(Refusal::Failed(Failure::NotAcknowledged));
         }
         let at = 2 * pairs;
-        let a = attempt_once(&script[used..], &mut log[at..], value);
+        let a = attempt_once(&script[used..], &mut log[at..], value, kept);
         used += a.used;
         pairs += a.pairs;
+        kept = a.kept;
         let attempt = a.attempt;
         match attempt {
             Attempt::Settled(answer) => {
@@ -103,16 +120,22 @@ pub fn command(script: &[u8], log: &mut [u8], value: HostToDevice) -> Completed
         }
         attempts -= 1;
     };
-    Completed {
+    Commanded {
         answer,
         used,
         pairs,
+        kept,
     }
 }
 
 // A command to the device of the second port: the controller is told once to send the next byte there.
-pub fn command_to_port2(script: &[u8], log: &mut [u8], value: HostToDevice) -> Completed
-    ensures { λ r. ⌜ played (saidDone (r .answer)) (r .used) (r .pairs) (now (log .exit)) ≡ play (commandToPort2 value) (now (script .entry)) (now (log .entry)) ⌝ }
+fn command_to_port2_onto(
+    script: &[u8],
+    log: &mut [u8],
+    value: HostToDevice,
+    before: KeptBytes,
+) -> Commanded
+    ensures { λ r. ⌜ PlaysKept (keepingOnto before (commandToPort2 value)) (now (script .entry)) (now (log .entry)) (saidDone (r .answer)) (r .used) (r .pairs) (now (log .exit)) (r .kept) ⌝ }
 {
     let w = write_command(log, HostToControllerCommand::WriteByteToPort2InputBuffer);
     let pairs = w.pairs;
@@ -120,63 +143,97 @@ pub fn command_to_port2(script: &[u8], log: &mut [u8], value: HostToDevice) -> C
     match written {
         Completion::Done => {
             let at = 2 * pairs;
-            let c = command(script, &mut log[at..], value);
+            let c = command_onto(script, &mut log[at..], value, before);
             let answer = c.answer;
-            Completed {
+            let kept = c.kept;
+            Commanded {
                 answer,
                 used: c.used,
                 pairs: pairs + c.pairs,
+                kept,
             }
         }
-        Completion::Refused(e) => Completed {
+        Completion::Refused(e) => Commanded {
             answer: Completion::Refused(e),
             used: 0,
             pairs,
+            kept: kept_at(e, before),
         },
     }
 }
 
 // A command to the device of either port.
-pub fn command_by(script: &[u8], log: &mut [u8], port: DevicePort, value: HostToDevice) -> Completed
-    ensures { λ r. ⌜ played (saidDone (r .answer)) (r .used) (r .pairs) (now (log .exit)) ≡ play (commandBy port value) (now (script .entry)) (now (log .entry)) ⌝ }
+fn command_by_onto(
+    script: &[u8],
+    log: &mut [u8],
+    port: DevicePort,
+    value: HostToDevice,
+    before: KeptBytes,
+) -> Commanded
+    ensures { λ r. ⌜ PlaysKept (keepingOnto before (commandBy port value)) (now (script .entry)) (now (log .entry)) (saidDone (r .answer)) (r .used) (r .pairs) (now (log .exit)) (r .kept) ⌝ }
 {
     match port {
-        DevicePort::Port1 => command(script, log, value),
-        DevicePort::Port2 => command_to_port2(script, log, value),
+        DevicePort::Port1 => command_onto(script, log, value, before),
+        DevicePort::Port2 => command_to_port2_onto(script, log, value, before),
     }
 }
 
 // Two commands to a device, the second only where the first was accepted.
+pub fn command_pair_onto(
+    script: &[u8],
+    log: &mut [u8],
+    port: DevicePort,
+    first: HostToDevice,
+    second: HostToDevice,
+    before: KeptBytes,
+) -> Commanded
+    ensures { λ r. ⌜ PlaysKept (keepingOnto before (andThen (commandBy port first) (λ _. commandBy port second))) (now (script .entry)) (now (log .entry)) (saidDone (r .answer)) (r .used) (r .pairs) (now (log .exit)) (r .kept) ⌝ }
+{
+    let c = command_by_onto(script, log, port, first, before);
+    let used = c.used;
+    let pairs = c.pairs;
+    let kept = c.kept;
+    let accepted = c.answer;
+    match accepted {
+        Completion::Done => {
+            let at = 2 * pairs;
+            let d = command_by_onto(&script[used..], &mut log[at..], port, second, kept);
+            let answer = d.answer;
+            let both = d.kept;
+            Commanded {
+                answer,
+                used: used + d.used,
+                pairs: pairs + d.pairs,
+                kept: both,
+            }
+        }
+        Completion::Refused(e) => Commanded {
+            answer: Completion::Refused(e),
+            used,
+            pairs,
+            kept,
+        },
+    }
+}
+
+// A command to the device of either port, with no byte kept before it.
+pub fn command_by(script: &[u8], log: &mut [u8], port: DevicePort, value: HostToDevice) -> Commanded
+    ensures { λ r. ⌜ PlaysKept (keepingThrown (commandBy port value)) (now (script .entry)) (now (log .entry)) (saidDone (r .answer)) (r .used) (r .pairs) (now (log .exit)) (r .kept) ⌝ }
+{
+    command_by_onto(script, log, port, value, none_kept())
+}
+
+// Two commands to a device, with no byte kept before them.
 pub fn command_pair(
     script: &[u8],
     log: &mut [u8],
     port: DevicePort,
     first: HostToDevice,
     second: HostToDevice,
-) -> Completed
-    ensures { λ r. ⌜ played (saidDone (r .answer)) (r .used) (r .pairs) (now (log .exit)) ≡ play (andThen (commandBy port first) (λ _. commandBy port second)) (now (script .entry)) (now (log .entry)) ⌝ }
+) -> Commanded
+    ensures { λ r. ⌜ PlaysKept (keepingThrown (andThen (commandBy port first) (λ _. commandBy port second))) (now (script .entry)) (now (log .entry)) (saidDone (r .answer)) (r .used) (r .pairs) (now (log .exit)) (r .kept) ⌝ }
 {
-    let c = command_by(script, log, port, first);
-    let used = c.used;
-    let pairs = c.pairs;
-    let accepted = c.answer;
-    match accepted {
-        Completion::Done => {
-            let at = 2 * pairs;
-            let d = command_by(&script[used..], &mut log[at..], port, second);
-            let answer = d.answer;
-            Completed {
-                answer,
-                used: used + d.used,
-                pairs: pairs + d.pairs,
-            }
-        }
-        Completion::Refused(e) => Completed {
-            answer: Completion::Refused(e),
-            used,
-            pairs,
-        },
-    }
+    command_pair_onto(script, log, port, first, second, none_kept())
 }
 
 // Reads data, without asking the status, until a device says that it passed its self test.
@@ -202,23 +259,12 @@ pub fn refusing_as(e: Refusal, failure: Failure) -> Refusal
     }
 }
 
-// The outcome of an operation with its refusals replaced by one of its own.
-pub fn failing_as(c: Completed, failure: Failure) -> Completed
-    ensures { λ r. ⌜ ((t : Exchange (Answer Success)) (script log left : List ℕ) → played (saidDone (c .answer)) (c .used) (c .pairs) left ≡ play t script log → played (saidDone (r .answer)) (r .used) (r .pairs) left ≡ play (refusingAs (numberOf failure) t) script log) ⌝ }
+// The answer of an operation with its refusals replaced by one of its own.
+pub fn failing_as(answer: Completion, failure: Failure) -> Completion
+    ensures { λ r. ⌜ saidDone r ≡ toldEnd (renumbered (numberOf failure)) (saidDone answer) ⌝ }
 {
-    let used = c.used;
-    let pairs = c.pairs;
-    let accepted = c.answer;
-    match accepted {
-        Completion::Done => Completed {
-            answer: Completion::Done,
-            used,
-            pairs,
-        },
-        Completion::Refused(e) => Completed {
-            answer: Completion::Refused(refusing_as(e, failure)),
-            used,
-            pairs,
-        },
+    match answer {
+        Completion::Done => Completion::Done,
+        Completion::Refused(e) => Completion::Refused(refusing_as(e, failure)),
     }
 }

@@ -3,6 +3,9 @@ ghost use mathlib.Core.Path.{_≡_};
 ghost use Rattle.exchange.specs.Exchange.{play, played, Reads};
 ghost use Rattle.ps2_answers.specs.Refusals.{saidDone};
 ghost use Rattle.ps2_answers.specs.Answers.{saidByte, saidFull};
+ghost use Rattle.ps2_kept.specs.Kept.{keepingThrown};
+ghost use Rattle.ps2_kept.specs.Added.{keepingOnto};
+ghost use Rattle.ps2_kept.specs.Contracts.{PlaysKept};
 ghost use Rattle.ps2_keyboard.specs.Keyboard.{commandToKeyboard, resetKeyboard, setKeyboardLed, commandScancodeSet, getScancodeSet, setScancodeSet, readScancode, keyboardOutputBufferFull};
 ghost use Rattle.ps2_keyboard.specs.Parts.{setSearch};
 ghost use Rattle.ps2_keyboard.specs.Answers.{saidSet};
@@ -19,10 +22,14 @@ use ps2_bytes::HostToKeyboardCommand;
 use ps2_bytes::HostToKeyboardCommandOrData;
 use ps2_bytes::ScancodeSet;
 use ps2_bytes::ScancodeSetByte;
-use ps2_command::command;
+use ps2_command::Commanded;
+use ps2_command::command_by;
 use ps2_command::command_pair;
+use ps2_command::command_pair_onto;
 use ps2_command::failing_as;
 use ps2_command::read_self_test_result;
+use ps2_kept::KeptBytes;
+use ps2_kept::none_kept;
 use ps2_layouts::LEDState;
 use ps2_polling::POLL_LIMIT;
 use ps2_polling::Polled;
@@ -51,10 +58,15 @@ pub fn command_to_keyboard(
     script: &[u8],
     log: &mut [u8],
     value: HostToKeyboardCommandOrData,
-) -> Completed
-    ensures { λ r. ⌜ played (saidDone (r .answer)) (r .used) (r .pairs) (now (log .exit)) ≡ play (commandToKeyboard value) (now (script .entry)) (now (log .entry)) ⌝ }
+) -> Commanded
+    ensures { λ r. ⌜ PlaysKept (keepingThrown (commandToKeyboard value)) (now (script .entry)) (now (log .entry)) (saidDone (r .answer)) (r .used) (r .pairs) (now (log .exit)) (r .kept) ⌝ }
 {
-    command(script, log, HostToDevice::Keyboard(value))
+    command_by(
+        script,
+        log,
+        DevicePort::Port1,
+        HostToDevice::Keyboard(value),
+    )
 }
 
 // Resets the keyboard: it answers the command, and then says by a byte of its own that it passed its self test.
@@ -87,11 +99,23 @@ pub fn reset_keyboard(script: &[u8], log: &mut [u8]) -> Completed
     }
 }
 
-// Sets the keyboard's lamps.
-pub fn set_keyboard_led(script: &[u8], log: &mut [u8], value: LEDState) -> Completed
-    ensures { λ r. ⌜ played (saidDone (r .answer)) (r .used) (r .pairs) (now (log .exit)) ≡ play (setKeyboardLed value) (now (script .entry)) (now (log .entry)) ⌝ }
+// Sets the keyboard's lamps, and hands back the bytes that the exchange threw away.
+pub fn set_keyboard_led(script: &[u8], log: &mut [u8], value: LEDState) -> Commanded
+    ensures { λ r. ⌜ PlaysKept (keepingThrown (setKeyboardLed value)) (now (script .entry)) (now (log .entry)) (saidDone (r .answer)) (r .used) (r .pairs) (now (log .exit)) (r .kept) ⌝ }
 {
-    let c = command_pair(
+    set_keyboard_led_onto(script, log, value, none_kept())
+}
+
+// The same, with what is thrown away behind the bytes kept before.
+pub fn set_keyboard_led_onto(
+    script: &[u8],
+    log: &mut [u8],
+    value: LEDState,
+    before: KeptBytes,
+) -> Commanded
+    ensures { λ r. ⌜ PlaysKept (keepingOnto before (setKeyboardLed value)) (now (script .entry)) (now (log .entry)) (saidDone (r .answer)) (r .used) (r .pairs) (now (log .exit)) (r .kept) ⌝ }
+{
+    let c = command_pair_onto(
         script,
         log,
         DevicePort::Port1,
@@ -99,8 +123,16 @@ pub fn set_keyboard_led(script: &[u8], log: &mut [u8], value: LEDState) -> Compl
             HostToKeyboardCommand::SetLEDStatus,
         )),
         HostToDevice::Keyboard(HostToKeyboardCommandOrData::LEDState(value)),
+        before,
     );
-    failing_as(c, Failure::LedsNotSet)
+    let kept = c.kept;
+    let accepted = c.answer;
+    Commanded {
+        answer: failing_as(accepted, Failure::LedsNotSet),
+        used: c.used,
+        pairs: c.pairs,
+        kept,
+    }
 }
 
 // Sets the scancode set. That the keyboard then tells another one is no failure.
@@ -169,7 +201,7 @@ pub fn get_keyboard_scancode_set(script: &[u8], log: &mut [u8]) -> SetRead
 fn command_scancode_set(script: &[u8], log: &mut [u8], value: ScancodeSet) -> Completed
     ensures { λ r. ⌜ played (saidDone (r .answer)) (r .used) (r .pairs) (now (log .exit)) ≡ play (commandScancodeSet value) (now (script .entry)) (now (log .entry)) ⌝ }
 {
-    command_pair(
+    let c = command_pair(
         script,
         log,
         DevicePort::Port1,
@@ -177,7 +209,13 @@ fn command_scancode_set(script: &[u8], log: &mut [u8], value: ScancodeSet) -> Co
             HostToKeyboardCommand::ScancodeSet,
         )),
         HostToDevice::Keyboard(HostToKeyboardCommandOrData::ScancodeSet(value)),
-    )
+    );
+    let answer = c.answer;
+    Completed {
+        answer,
+        used: c.used,
+        pairs: c.pairs,
+    }
 }
 
 // Polls for a scancode set.

@@ -1,12 +1,16 @@
 // The mouse: its commands, its reset, its settings and the question for its identity.
+ghost use Prim.Native.Nat.{ℕ};
+ghost use mathlib.Core.List.{List};
 ghost use mathlib.Core.Path.{_≡_};
-ghost use Rattle.exchange.specs.Exchange.{play, played, yields, Reads};
-ghost use Rattle.exchange.specs.Answer.{refuses, andThen};
+ghost use Rattle.exchange.specs.Exchange.{Exchange, play, played, yields, Reads};
+ghost use Rattle.exchange.specs.Answer.{Answer, refuses, andThen, refusingAs};
 ghost use Rattle.exchange.specs.Repeat.{repeat};
 ghost use Rattle.ps2_bytes.specs.Responses.{mouseIds};
 ghost use Rattle.ps2_ports.specs.Ports.{flushOutputBuffer};
 ghost use Rattle.ps2_answers.specs.Answers.{saidFull};
-ghost use Rattle.ps2_answers.specs.Refusals.{saidDone};
+ghost use Rattle.ps2_answers.specs.Refusals.{numberOf, saidDone, Success};
+ghost use Rattle.ps2_kept.specs.Kept.{keepingThrown};
+ghost use Rattle.ps2_kept.specs.Contracts.{PlaysKept};
 ghost use Rattle.ps2_polling.specs.Polling.{pollLimit};
 ghost use Rattle.ps2_command.specs.Search.{pollWhen, listedTurn, selfTestWithin};
 ghost use Rattle.ps2_mouse.specs.Mouse.{commandToMouse, resetReads, resetMouse, setSamplingRate, setResolution, disablePacketStreaming, enablePacketStreaming, mouseByteWaits, mouseId as mouseIdRule, mouseOutputBufferFull};
@@ -27,8 +31,9 @@ use ps2_bytes::MouseId;
 use ps2_bytes::MouseIdByte;
 use ps2_bytes::MouseResolution;
 use ps2_bytes::MouseSampleRate;
+use ps2_command::Commanded;
+use ps2_command::command_by;
 use ps2_command::command_pair;
-use ps2_command::command_to_port2;
 use ps2_command::failing_as;
 use ps2_command::read_self_test_result;
 use ps2_packet_reading::PacketRead;
@@ -116,10 +121,10 @@ impl PS2Mouse {
         script: &[u8],
         log: &mut [u8],
         value: HostToMouseCommandOrData,
-    ) -> Completed
-        ensures { λ r. ⌜ played (saidDone (r .answer)) (r .used) (r .pairs) (now (log .exit)) ≡ play (commandToMouse value) (now (script .entry)) (now (log .entry)) ⌝ }
+    ) -> Commanded
+        ensures { λ r. ⌜ PlaysKept (keepingThrown (commandToMouse value)) (now (script .entry)) (now (log .entry)) (saidDone (r .answer)) (r .used) (r .pairs) (now (log .exit)) (r .kept) ⌝ }
     {
-        command_to_port2(script, log, HostToDevice::Mouse(value))
+        command_by(script, log, DevicePort::Port2, HostToDevice::Mouse(value))
     }
 
     // Sets the mouse's sampling rate.
@@ -139,7 +144,7 @@ impl PS2Mouse {
             )),
             HostToDevice::Mouse(HostToMouseCommandOrData::SampleRate(value)),
         );
-        failing_as(c, Failure::RateOrResolutionNotSet)
+        completed_as(c, Failure::RateOrResolutionNotSet)
     }
 
     // Asks the mouse for its identity. Its packets are to be stopped.
@@ -181,7 +186,7 @@ impl PS2Mouse {
             log,
             HostToMouseCommandOrData::MouseCommand(HostToMouseCommand::EnableDataReporting),
         );
-        failing_as(c, Failure::PacketsNotStarted)
+        completed_as(c, Failure::PacketsNotStarted)
     }
 
     // Stops the packets.
@@ -193,7 +198,7 @@ impl PS2Mouse {
             log,
             HostToMouseCommandOrData::MouseCommand(HostToMouseCommand::DisableDataReporting),
         );
-        failing_as(c, Failure::PacketsNotStopped)
+        completed_as(c, Failure::PacketsNotStopped)
     }
 
     // Sets the mouse's resolution.
@@ -209,7 +214,7 @@ impl PS2Mouse {
             )),
             HostToDevice::Mouse(HostToMouseCommandOrData::MouseResolution(value)),
         );
-        failing_as(c, Failure::RateOrResolutionNotSet)
+        completed_as(c, Failure::RateOrResolutionNotSet)
     }
 
     // Reads the packet that a mouse of this identity sends, without asking the status. Its wheel at identity 4 is the Rust's, 0 to 15.
@@ -251,6 +256,18 @@ impl PS2Mouse {
                 pairs: 0,
             },
         }
+    }
+}
+
+// A command's outcome with its refusals replaced by one of the operation's own. The bytes that were thrown away are dropped.
+fn completed_as(c: Commanded, failure: Failure) -> Completed
+    ensures { λ r. ⌜ ((t : Exchange (Answer Success)) (script log left : List ℕ) → PlaysKept (keepingThrown t) script log (saidDone (c .answer)) (c .used) (c .pairs) left (c .kept) → played (saidDone (r .answer)) (r .used) (r .pairs) left ≡ play (refusingAs (numberOf failure) t) script log) ⌝ }
+{
+    let accepted = c.answer;
+    Completed {
+        answer: failing_as(accepted, failure),
+        used: c.used,
+        pairs: c.pairs,
     }
 }
 

@@ -1,5 +1,7 @@
 -- Laws of polling.
 pub mod Polls
+pub mod Receiving
+pub mod NothingLost
 pub mod Bounds
 pub mod Attained
 pub mod Refuses

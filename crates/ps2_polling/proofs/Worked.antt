@@ -1,12 +1,14 @@
 -- Closed examples of the polling: what is read, written and answered on given scripts and logs.
 -- Assumes nothing.
-use mathlib.Core.List.{[], _∷_}
+use mathlib.Core.List.{[], _∷_, _++_}
 use mathlib.Core.Path.{_≡_, refl}
+use lib.ListN.{replicate}
 use Rattle.bits.specs.Bits.{bit, odd}
 use Rattle.bits.specs.Table.{decode}
-use Rattle.exchange.specs.Exchange.{p60, bind, noScript, noLog, yields, lacks, played, play}
+use Rattle.exchange.specs.Exchange.{p60, p64, bind, noScript, noLog, yields, lacks, played, play}
 use Rattle.exchange.specs.Answer.{gives, andThen}
-use Rattle.exchange.specs.Repeat.{repeat}
+use Rattle.exchange.specs.Keeping.{kept, keeping}
+use Rattle.exchange.specs.Repeat.{repeat, times}
 use Rattle.ps2_bytes.specs.declared.command.HostToControllerCommand.the-variants.{TestPort2}
 use Rattle.ps2_bytes.specs.declared.command.HostToKeyboardCommand.the-variants.{IdentifyKeyboard}
 use Rattle.ps2_bytes.specs.declared.response.DeviceToHostResponse.the-variants.{Acknowledge}
@@ -14,6 +16,7 @@ use Rattle.ps2_bytes.specs.declared.writable.HostToDevice.{HostToDevice}
 use Rattle.ps2_bytes.specs.declared.writable.HostToDevice.the-variants.{Keyboard}
 use Rattle.ps2_bytes.specs.declared.writable.HostToKeyboardCommandOrData.the-variants.{KeyboardCommand}
 use Rattle.ps2_answers.specs.Refusals.{success}
+use Rattle.ps2_kept.specs.Kept.{keepingThrown}
 use Rattle.ps2_ports.specs.Ports.{writePort}
 use Rattle.ps2_polling.specs.Polling.{sendTry, pollingSend, poll, pollingReceive, pollingSendReceive, controllerTestResult, testController, portTestResult, testPort}
 
@@ -46,3 +49,22 @@ port-tested = refl
 pub cut-short : play (testPort TestPort2) (0x01 ∷ 0x01 ∷ 0x01 ∷ []) (0 ∷ 0 ∷ []) ≡ played (lacks (noScript p60)) 3 1 (0x64 ∷ 0xA9 ∷ [])
 unfolding testPort portTestResult poll writePort andThen repeat bind play bit odd
 cut-short = refl
+
+-- ---- the bytes that were thrown away
+
+-- 1C and 9C come before FA: both are kept, and there is no other
+pub kept-two : play (keepingThrown pollingReceive) (0x01 ∷ 0x1C ∷ 0x00 ∷ 0x01 ∷ 0x9C ∷ 0x01 ∷ 0xFA ∷ []) []
+    ≡ played (yields (kept (gives Acknowledge) (record { bytes = 0x1C ∷ 0x9C ∷ replicate 14 0; count = 2; others = 0 }))) 7 0 []
+unfolding keepingThrown keeping pollingReceive poll repeat bind play decode bit odd
+kept-two = refl
+
+-- 18 come: 16 are kept, 2 counted
+pub kept-eighteen : play (keepingThrown pollingReceive) (times 18 (0x01 ∷ 0x1C ∷ []) ++ (0x01 ∷ 0xFA ∷ [])) []
+    ≡ played (yields (kept (gives Acknowledge) (record { bytes = replicate 16 0x1C; count = 16; others = 2 }))) 38 0 []
+unfolding keepingThrown keeping pollingReceive poll repeat bind play decode bit odd
+kept-eighteen = refl
+
+-- a script that is used up hands back nothing
+pub kept-none : play (keepingThrown pollingReceive) (0x01 ∷ 0x1C ∷ []) [] ≡ played (lacks (noScript p64)) 2 0 []
+unfolding keepingThrown keeping pollingReceive poll repeat bind play decode bit odd
+kept-none = refl

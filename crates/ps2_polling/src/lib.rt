@@ -5,6 +5,9 @@ ghost use Rattle.exchange.specs.Answer.{gives, refuses, andThen};
 ghost use Rattle.exchange.specs.Repeat.{found, repeat};
 ghost use Rattle.ps2_bytes.specs.declared.command.HostToControllerCommand.the-variants.{TestPort1, TestPort2};
 ghost use Rattle.ps2_answers.specs.Refusals.{numberOf, saidDone};
+ghost use Rattle.ps2_kept.specs.Kept.{keepingThrown};
+ghost use Rattle.ps2_kept.specs.Added.{keepingOnto};
+ghost use Rattle.ps2_kept.specs.Contracts.{ReadsKept, PlaysKept};
 ghost use Rattle.ps2_ports.specs.Ports.{writeCommand};
 ghost use Rattle.ps2_polling.specs.Polling.{pollLimit, pollingSend, pollData, turnOf, passedTurn, pollingReceive, pollingSendReceive, controllerTestResult, testController, portTestResult, testPort, saidPolled, saidResponse};
 use ps2_answers::ByteAnswer;
@@ -18,6 +21,10 @@ use ps2_bytes::HostToControllerCommand;
 use ps2_bytes::HostToDevice;
 use ps2_bytes::ResponseByte;
 use ps2_bytes::WritableData;
+use ps2_kept::KeptBytes;
+use ps2_kept::add_byte;
+use ps2_kept::kept_at;
+use ps2_kept::none_kept;
 use ps2_ports::read_data;
 use ps2_ports::status_register;
 use ps2_ports::write_command;
@@ -60,10 +67,12 @@ pub enum ResponseAnswer {
     Refused(Refusal),
 }
 
+// The response, with the bytes that were thrown away before it.
 pub struct Received {
     pub answer: ResponseAnswer,
     pub used: usize,
     pub pairs: usize,
+    pub kept: KeptBytes,
 }
 
 // Has the controller test itself.
@@ -233,7 +242,19 @@ fn take_turn(script: &[u8], waiting: Waiting) -> Poll
 
 // One attempt: sends a byte, then receives the response.
 pub fn polling_send_receive(script: &[u8], log: &mut [u8], value: HostToDevice) -> Received
-    ensures { λ r. ⌜ played (saidResponse (r .answer)) (r .used) (r .pairs) (now (log .exit)) ≡ play (pollingSendReceive value) (now (script .entry)) (now (log .entry)) ⌝ }
+    ensures { λ r. ⌜ PlaysKept (keepingThrown (pollingSendReceive value)) (now (script .entry)) (now (log .entry)) (saidResponse (r .answer)) (r .used) (r .pairs) (now (log .exit)) (r .kept) ⌝ }
+{
+    polling_send_receive_onto(script, log, value, none_kept())
+}
+
+// The same, with what is thrown away behind the bytes kept before.
+pub fn polling_send_receive_onto(
+    script: &[u8],
+    log: &mut [u8],
+    value: HostToDevice,
+    before: KeptBytes,
+) -> Received
+    ensures { λ r. ⌜ PlaysKept (keepingOnto before (pollingSendReceive value)) (now (script .entry)) (now (log .entry)) (saidResponse (r .answer)) (r .used) (r .pairs) (now (log .exit)) (r .kept) ⌝ }
 {
     let s = polling_send(script, log, value);
     let used = s.used;
@@ -241,18 +262,21 @@ pub fn polling_send_receive(script: &[u8], log: &mut [u8], value: HostToDevice) 
     let sent = s.answer;
     match sent {
         Completion::Done => {
-            let r = polling_receive(&script[used..]);
+            let r = polling_receive_onto(&script[used..], before);
             let answer = r.answer;
+            let kept = r.kept;
             Received {
                 answer,
                 used: used + r.used,
                 pairs,
+                kept,
             }
         }
         Completion::Refused(e) => Received {
             answer: ResponseAnswer::Refused(e),
             used,
             pairs,
+            kept: kept_at(e, before),
         },
     }
 }
@@ -293,12 +317,20 @@ pub fn polling_send(script: &[u8], log: &mut [u8], value: HostToDevice) -> Compl
     }
 }
 
-// Polls until a device's response comes; an unlisted byte is thrown away and uses up its poll.
+// Polls until a device's response comes; an unlisted byte is thrown away and uses up its poll. The bytes that were are handed back.
 pub fn polling_receive(script: &[u8]) -> Received
-    ensures { λ r. ⌜ Reads pollingReceive (now (script .entry)) (saidResponse (r .answer)) (r .used) (r .pairs) ⌝ }
+    ensures { λ r. ⌜ ReadsKept (keepingThrown pollingReceive) (now (script .entry)) (saidResponse (r .answer)) (r .used) (r .pairs) (r .kept) ⌝ }
+{
+    polling_receive_onto(script, none_kept())
+}
+
+// The same, with what is thrown away behind the bytes kept before.
+pub fn polling_receive_onto(script: &[u8], before: KeptBytes) -> Received
+    ensures { λ r. ⌜ ReadsKept (keepingOnto before pollingReceive) (now (script .entry)) (saidResponse (r .answer)) (r .used) (r .pairs) (r .kept) ⌝ }
 {
     let mut used: usize = 0;
     let mut polls = POLL_LIMIT;
+    let mut kept = before;
     let answer = loop {
         if polls == 0 {
             break ResponseAnswer::Refused(Refusal::Failed(Failure::NoResponse));
@@ -311,9 +343,11 @@ pub fn polling_receive(script: &[u8]) -> Received
                 if let ResponseByte::Listed(response) = DeviceToHostResponse::from_byte(b) {
                     break ResponseAnswer::Response(response);
                 }
+                kept = add_byte(kept, b);
             }
             Polled::Nothing => {}
             Polled::Refused(e) => {
+                kept = kept_at(e, kept);
                 break ResponseAnswer::Refused(e);
             }
         }
@@ -323,6 +357,7 @@ pub fn polling_receive(script: &[u8]) -> Received
         answer,
         used,
         pairs: 0,
+        kept,
     }
 }
 

@@ -24,6 +24,7 @@ use ps2_bytes::ResolutionByte;
 use ps2_bytes::SampleRateByte;
 use ps2_bytes::ScancodeSet;
 use ps2_bytes::ScancodeSetByte;
+use ps2_command::Commanded;
 use ps2_detect::Detected;
 use ps2_detect::TypeAnswer;
 use ps2_detect::keyboard_detect;
@@ -68,6 +69,11 @@ fn completion_number(answer: Completion) -> u8 {
 }
 
 fn completed(c: Completed) -> Outcome {
+    let answer = c.answer;
+    ending(completion_number(answer), c.used, c.pairs, 0)
+}
+
+pub fn commanded(c: Commanded) -> Outcome {
     let answer = c.answer;
     ending(completion_number(answer), c.used, c.pairs, 0)
 }
@@ -125,7 +131,7 @@ fn response_byte(response: DeviceToHostResponse) -> u64 {
     }
 }
 
-fn received(c: Received) -> Outcome {
+pub fn received(c: Received) -> Outcome {
     let answer = c.answer;
     match answer {
         ResponseAnswer::Response(response) => ending(0, c.used, c.pairs, response_byte(response)),
@@ -334,7 +340,7 @@ fn id_of(byte: u8) -> MouseId {
 }
 
 // Whether there is such an operation and it takes such an argument. Those that take none have 0.
-fn is_known(op: u8, argument: u8) -> bool {
+pub fn is_known(op: u8, argument: u8) -> bool {
     if 27 < op && op != 38 {
         return false;
     }
@@ -364,23 +370,24 @@ fn complete(op: u8, argument: u8, script: &[u8], log: &mut [u8]) -> Completed {
     }
 }
 
-// A byte to the keyboard, 8 to 10, or to the mouse, 12 to 14.
-fn send(op: u8, argument: u8, script: &[u8], log: &mut [u8]) -> Completed {
-    if op < 12 {
+// A byte to the keyboard, 8 to 10, or to the mouse, 12 to 14, or the lamps, 11: the calls that hand back bytes.
+pub fn command(op: u8, argument: u8, script: &[u8], log: &mut [u8]) -> Commanded {
+    if op < 11 {
         return command_to_keyboard(script, log, keyboard_value(op, argument));
+    }
+    if op == 11 {
+        return set_keyboard_led(script, log, leds_of(argument));
     }
     PS2Mouse::command_to_mouse(script, log, mouse_value(op, argument))
 }
 
-// The operations that are one command, 8 to 18.
-fn command(op: u8, argument: u8, script: &[u8], log: &mut [u8]) -> Completed {
+// The settings of the mouse, 15 to 18.
+fn setting(op: u8, argument: u8, script: &[u8], log: &mut [u8]) -> Completed {
     match op {
-        11 => set_keyboard_led(script, log, leds_of(argument)),
         15 => PS2Mouse::set_mouse_sampling_rate(script, log, rate_of(argument)),
         16 => PS2Mouse::mouse_resolution(script, log, resolution_of(argument)),
         17 => PS2Mouse::enable_mouse_packet_streaming(script, log),
-        18 => PS2Mouse::disable_mouse_packet_streaming(script, log),
-        _ => send(op, argument, script, log),
+        _ => PS2Mouse::disable_mouse_packet_streaming(script, log),
     }
 }
 
@@ -415,8 +422,11 @@ fn call(i: Instruction, script: &[u8], log: &mut [u8]) -> Outcome {
     if i.op < 8 {
         return completed(complete(i.op, i.argument, script, log));
     }
+    if i.op < 15 {
+        return commanded(command(i.op, i.argument, script, log));
+    }
     if i.op < 19 {
-        return completed(command(i.op, i.argument, script, log));
+        return completed(setting(i.op, i.argument, script, log));
     }
     if i.op < 26 {
         return ask(i.op, i.state, script, log);

@@ -1,7 +1,10 @@
 // Replays calls on the ports: reads packed calls from standard input and writes a packed answer to each. tests/traces/README.md tells the format.
 mod calls;
+mod keeping;
 
 use calls::call_times;
+use keeping::KEEPING;
+use keeping::answer_keeping;
 use packed_calls::END;
 use packed_calls::Instruction;
 use packed_calls::PART;
@@ -21,6 +24,7 @@ fn answer_within(i: Instruction, script: &[u8], log: &mut [u8]) {
     match op {
         PART => {}
         END => {}
+        KEEPING => answer_keeping(i, script, log),
         _ => {
             write_answer(op, call_times(i, script, log), log);
         }

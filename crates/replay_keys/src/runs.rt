@@ -10,6 +10,7 @@ use keyboard_record::Taken;
 use keyboard_record::TakenEvent;
 use keyboard_record::take_event;
 use keyboard_scancodes::KeyboardState;
+use keyboard_scancodes::WaitingBytes;
 use keycodes_ascii::Character;
 use keycodes_ascii::FoundKeycode;
 use keycodes_ascii::KeyAction;
@@ -64,20 +65,116 @@ fn flags_of(state: usize) -> KeyboardModifiers {
     }
 }
 
-// A record with a prefix, flags and an empty queue.
+// A record with a prefix, flags, no byte that waits and an empty queue.
 fn begun(i: Instruction) -> KeyboardHandler {
     let fresh = KeyboardHandler::fresh();
+    let waiting = fresh.state.keyboard.waiting;
     let places = fresh.places;
     KeyboardHandler {
         state: HandlerState {
             keyboard: KeyboardState {
                 prefix: i.argument == 1,
                 modifiers: flags_of(i.state),
+                waiting,
             },
             start: 0,
             count: 0,
         },
         places,
+    }
+}
+
+// The record with these bytes waiting.
+fn with_waiting(handler: KeyboardHandler, waiting: WaitingBytes) -> KeyboardHandler {
+    let state = handler.state;
+    let keyboard = state.keyboard;
+    let modifiers = keyboard.modifiers;
+    let places = handler.places;
+    KeyboardHandler {
+        state: HandlerState {
+            keyboard: KeyboardState {
+                prefix: keyboard.prefix,
+                modifiers,
+                waiting,
+            },
+            start: state.start,
+            count: state.count,
+        },
+        places,
+    }
+}
+
+// The bytes that wait with one behind them, where there is a place.
+fn one_more(waiting: WaitingBytes, byte: u8) -> WaitingBytes {
+    let mut bytes = waiting.bytes;
+    let count = waiting.count;
+    if 16 <= count {
+        return waiting;
+    }
+    bytes[count as usize] = byte;
+    WaitingBytes {
+        bytes,
+        count: count + 1,
+    }
+}
+
+// A byte that waits: each turn adds it once.
+fn add_byte(byte: u8, handler: KeyboardHandler, used: usize) -> Turn {
+    let waiting = one_more(handler.state.keyboard.waiting, byte);
+    Turn {
+        handler: with_waiting(handler, waiting),
+        used,
+        goes_on: true,
+        outcome: ending(SILENT, 0, 0, 0),
+    }
+}
+
+// So many bytes wait, whatever the places hold.
+fn with_count(handler: KeyboardHandler, count: u8) -> KeyboardHandler {
+    let bytes = handler.state.keyboard.waiting.bytes;
+    with_waiting(handler, WaitingBytes { bytes, count })
+}
+
+// A byte that waits, by its place; 0 where none waits there.
+fn waiting_byte(waiting: WaitingBytes, place: usize) -> u64 {
+    if 16 <= place {
+        return 0;
+    }
+    if waiting.count as usize <= place {
+        return 0;
+    }
+    waiting.bytes[place] as u64
+}
+
+// The first eight bytes that wait as a number, low byte first, and the last eight.
+fn first_bytes(waiting: WaitingBytes) -> u64 {
+    waiting_byte(waiting, 0)
+        | waiting_byte(waiting, 1) << 8
+        | waiting_byte(waiting, 2) << 16
+        | waiting_byte(waiting, 3) << 24
+        | waiting_byte(waiting, 4) << 32
+        | waiting_byte(waiting, 5) << 40
+        | waiting_byte(waiting, 6) << 48
+        | waiting_byte(waiting, 7) << 56
+}
+
+fn last_bytes(waiting: WaitingBytes) -> u64 {
+    waiting_byte(waiting, 8)
+        | waiting_byte(waiting, 9) << 8
+        | waiting_byte(waiting, 10) << 16
+        | waiting_byte(waiting, 11) << 24
+        | waiting_byte(waiting, 12) << 32
+        | waiting_byte(waiting, 13) << 40
+        | waiting_byte(waiting, 14) << 48
+        | waiting_byte(waiting, 15) << 56
+}
+
+// The bytes that wait: the first eight by the argument 0, the last eight by another.
+fn waiting_bytes(waiting: WaitingBytes, argument: u8) -> u64 {
+    if argument == 0 {
+        first_bytes(waiting)
+    } else {
+        last_bytes(waiting)
     }
 }
 
@@ -160,11 +257,15 @@ fn event_number(event: KeyEvent) -> u64 {
     keycode.to_byte() as u64 + 256 * action_number(action) + 512 * event.modifiers.bits as u64
 }
 
-// A record's prefix, flags and number of waiting events, as a number.
+// A record's prefix, flags and numbers of waiting events and of waiting bytes, as a number.
 fn record_number(handler: KeyboardHandler) -> u64 {
     let state = handler.state;
     let count = (state.count % 65536) as u64;
-    bit(state.keyboard.prefix) + 2 * state.keyboard.modifiers.bits as u64 + 131072 * count
+    let waits = state.keyboard.waiting.count as u64;
+    bit(state.keyboard.prefix)
+        + 2 * state.keyboard.modifiers.bits as u64
+        + 131072 * count
+        + 8589934592 * waits
 }
 
 // The bytes used after a handler call: a run ends at the first 2, 3 or 21.
@@ -177,7 +278,7 @@ fn used_after(number: u8, before: usize, used: usize) -> usize {
     }
 }
 
-// What a handler call leaves; `left` is 1 where a lamp exchange failed.
+// What a handler call leaves; `left` is 1 where a lamp exchange failed, and the value tells how many bytes were dropped.
 fn handled(done: Handled, before: usize) -> Turn {
     let answer = done.answer;
     let number = answer.number();
@@ -192,12 +293,12 @@ fn handled(done: Handled, before: usize) -> Turn {
             left: bit(done.lamps_failed) as u8,
             used: done.used,
             pairs: done.pairs,
-            value: 0,
+            value: done.dropped as u64,
         },
     }
 }
 
-// A handler call, 33, on what is left of the script, with the whole log; 34 is made only where the script is not used up, and ends the run where it is.
+// A handler call, 33, on what is left of the script, with the whole log; 34 is made only where the script is not used up or a byte waits, and ends the run where neither is so.
 fn run_handle(
     op: u8,
     handler: KeyboardHandler,
@@ -210,7 +311,9 @@ fn run_handle(
     }
     if op == 34 {
         if script.len() == used {
-            return silent(handler, ENDED);
+            if handler.state.keyboard.waiting.count == 0 {
+                return silent(handler, ENDED);
+            }
         }
     }
     handled(handle(handler, &script[used..], log), used)
@@ -323,7 +426,7 @@ fn call_to_ascii(i: Instruction) -> Outcome {
     ending(0, 0, 0, character_number(character))
 }
 
-// A turn of an instruction on a record: 28 is keyboard initialisation, 29 asks for a character, 30 begins a run, 31 adds an event, 33 and 34 are handler calls, 35 and 36 takings, 37 answers the record. A part of a script and the end have no answer.
+// A turn of an instruction on a record: 28 is keyboard initialisation, 29 asks for a character, 30 begins a run, 31 adds an event, 32 a byte that waits, 43 says how many wait, 33 and 34 are handler calls, 35 and 36 takings, 37 answers the record and 42 the bytes that wait. A part of a script and the end have no answer.
 pub fn run_turn(i: Instruction, before: Turn, script: &[u8], log: &mut [u8]) -> Turn {
     let op = i.op;
     let used = before.used;
@@ -333,9 +436,15 @@ pub fn run_turn(i: Instruction, before: Turn, script: &[u8], log: &mut [u8]) -> 
         29 => last(handler, used, call_to_ascii(i)),
         30 => silent(begun(i), 0),
         31 => add_event(i, handler, used),
+        32 => add_byte(i.argument, handler, used),
         33..=34 => run_handle(op, handler, used, script, log),
         35..=36 => run_take(op, handler, used),
         37 => last(handler, used, ending(0, 0, 0, record_number(handler))),
+        43 => silent(with_count(handler, i.argument), used),
+        42 => {
+            let told = waiting_bytes(handler.state.keyboard.waiting, i.argument);
+            last(handler, used, ending(0, 0, 0, told))
+        }
         PART => silent(handler, used),
         END => silent(handler, used),
         _ => last(handler, used, ending(NO_CALL, 0, 0, 0)),

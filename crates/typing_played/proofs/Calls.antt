@@ -7,7 +7,8 @@ use mathlib.Core.Logic.{_⊎_, inl, inr}
 use mathlib.Core.Option.{Option, some}
 use Prim.Native.Nat.{ℕ, _≤_}
 use native.Mathlib.Omega.{arith}
-use lib.ListN.{length}
+use lib.ListN.{length, take}
+use lib.Seq.{take-nil}
 use Rattle.exchange.specs.Exchange.{Exchange, End, yields, lacks, Played, play}
 use Rattle.exchange.specs.Answer.{Answer}
 use Rattle.exchange.proofs.Kept.{used-le, pairs-le, log-length}
@@ -19,12 +20,12 @@ use Rattle.keyboard_scancodes.proofs.Tests.{which}
 use Rattle.keyboard_record.specs.declared.HandlerState.{HandlerState}
 use Rattle.keyboard_record.specs.declared.KeyboardHandler.{KeyboardHandler}
 use Rattle.keyboard.specs.Answers.{ends2-3-21}
-use Rattle.keyboard.specs.Scancode.{isSome, scancode}
+use Rattle.keyboard.specs.Scancode.{isSome, caught, scancode}
 use Rattle.keyboard.specs.Handler.{Outcome, handle, effects, handled, logLeft}
 use Rattle.keyboard.proofs.Counted.{answerEnd, lack-ends}
 use Rattle.keyboard_history.specs.Past.{Past, nothing, _▸_, each}
 use Rattle.keyboard_history.specs.Said.{eventGiven, eventsGiven}
-use Rattle.keyboard_history.specs.Counted.{Call, handling, taking, count, scancodeAfter, counted, counts}
+use Rattle.keyboard_history.specs.Counted.{Call, handling, taking, count, room, scancodeAfter, thrownAfter, behindAfter, joinedAfter, counted, waits, counts}
 use Rattle.keyboard_history.specs.Row.{Given, events, lessMet, givenTo, eventOfCall, rest, newly, row, given}
 use Rattle.keyboard_history.specs.Run.{after, answers, takings, eventsTaken}
 use Rattle.keyboard_history.proofs.History.{history}
@@ -57,31 +58,61 @@ rest-none past b = by (which (givesEvent b))
 module _ {A : Type 0} (lamps : ℕ → Exchange (Answer A)) where
   -- ---- one byte
 
-  -- a byte that presses no lock is counted, whatever script and log are
-  counts-byte : (bytes : Past ℕ) (b : ℕ) (more log : List ℕ) → isLockPress b ≡ false → scancodeAfter lamps bytes (b ∷ more) log ≡ some b
+  -- where none waits, a byte that presses no lock is counted, whatever script and log are, and none waits after it
+  counts-byte : (bytes : Past ℕ) (b : ℕ) (more log : List ℕ) → isLockPress b ≡ false → scancodeAfter lamps bytes [] (b ∷ more) log ≡ some b
   unfolding scancodeAfter scancode
   counts-byte bytes b more log e = rw e
 
+  throws-none : (bytes : Past ℕ) (b : ℕ) (more log : List ℕ) → isLockPress b ≡ false → thrownAfter lamps bytes [] (b ∷ more) log ≡ []
+  unfolding thrownAfter caught
+  throws-none bytes b more log e = rw e
+
+  none-behind : (bytes : Past ℕ) (b : ℕ) (more log : List ℕ) → isLockPress b ≡ false → behindAfter lamps bytes [] (b ∷ more) log ≡ []
+  unfolding behindAfter
+  none-behind bytes b more log e = rw (counts-byte bytes b more log e)
+
+  none-joins : (bytes : Past ℕ) (b : ℕ) (more log : List ℕ) → isLockPress b ≡ false → joinedAfter lamps bytes [] (b ∷ more) log ≡ []
+  unfolding joinedAfter
+  none-joins bytes b more log e =
+      let n = room (behindAfter lamps bytes [] (b ∷ more) log) in
+      ap (λ (l : List ℕ). take n l) (throws-none bytes b more log e) ∙ take-nil {A = ℕ} n
+
   newly-byte : (bytes : Past ℕ) (es : List KeyEvent) (b : ℕ) (more log : List ℕ) → isLockPress b ≡ false
-      → newly lamps bytes es (b ∷ more) log ≡ givenTo es (eventGiven bytes b)
+      → newly lamps bytes [] es (b ∷ more) log ≡ givenTo es (eventGiven bytes b)
   unfolding newly
   newly-byte bytes es b more log e = ap (λ (sc : Option ℕ). givenTo es (eventOfCall bytes sc)) (counts-byte bytes b more log e)
 
   -- ---- all of them
 
+  pub fed-waits : {bytes : Past ℕ} {calls : Past Call} → Feeds bytes calls → NoLocks bytes → waits lamps calls ≡ []
+  unfolding waits
+  fed-waits nothing-fed n = refl
+  fed-waits (one-fed {bytes = bytes} {calls = calls} b more log f) (one-more n e) =
+      let past = counted lamps calls in
+      ap (λ (ws : List ℕ). behindAfter lamps past ws (b ∷ more) log ++ joinedAfter lamps past ws (b ∷ more) log) (fed-waits f n)
+      ∙ ap₂ {C = List ℕ} (λ (x y : List ℕ). x ++ y) (none-behind past b more log e) (none-joins past b more log e)
+
   pub fed-counted : {bytes : Past ℕ} {calls : Past Call} → Feeds bytes calls → NoLocks bytes → counted lamps calls ≡ bytes
   unfolding counted
   fed-counted nothing-fed n = refl
   fed-counted (one-fed {bytes = bytes} {calls = calls} b more log f) (one-more n e) =
-      ap (count (counted lamps calls)) (counts-byte (counted lamps calls) b more log e) ∙ ap (λ (p : Past ℕ). p ▸ b) (fed-counted f n)
+      ap (λ (ws : List ℕ). count (counted lamps calls) (scancodeAfter lamps (counted lamps calls) ws (b ∷ more) log)) (fed-waits f n)
+      ∙ ap (count (counted lamps calls)) (counts-byte (counted lamps calls) b more log e)
+      ∙ ap (λ (p : Past ℕ). p ▸ b) (fed-counted f n)
+
+  -- what a call with the next byte gives
+  newly-fed : {bytes : Past ℕ} {calls : Past Call} (es : List KeyEvent) (b : ℕ) (more log : List ℕ) → Feeds bytes calls → NoLocks bytes → isLockPress b ≡ false
+      → newly lamps (counted lamps calls) (waits lamps calls) es (b ∷ more) log ≡ givenTo es (eventGiven (counted lamps calls) b)
+  newly-fed {calls = calls} es b more log f n e =
+      ap (λ (ws : List ℕ). newly lamps (counted lamps calls) ws es (b ∷ more) log) (fed-waits f n) ∙ newly-byte (counted lamps calls) es b more log e
 
   pub fed-row : {bytes : Past ℕ} {calls : Past Call} → Feeds bytes calls → NoLocks bytes → row lamps calls ≡ []
   unfolding row
   fed-row nothing-fed n = refl
   fed-row (one-fed {bytes = bytes} {calls = calls} b more log f) (one-more n e) =
       let past = counted lamps calls in
-      ap (λ (es : List KeyEvent). rest (es ++ lessMet (newly lamps past es (b ∷ more) log))) (fed-row f n)
-      ∙ ap (λ (gs : List Given). rest (lessMet gs)) (newly-byte past [] b more log e)
+      ap (λ (es : List KeyEvent). rest (es ++ lessMet (newly lamps past (waits lamps calls) es (b ∷ more) log))) (fed-row f n)
+      ∙ ap (λ (gs : List Given). rest (lessMet gs)) (newly-fed [] b more log f n e)
       ∙ ap rest (all-join (eventGiven past b))
       ∙ rest-none past b
 
@@ -90,8 +121,8 @@ module _ {A : Type 0} (lamps : ℕ → Exchange (Answer A)) where
   fed-joins nothing-fed n = refl
   fed-joins (one-fed {bytes = bytes} {calls = calls} b more log f) (one-more n e) =
       let past = counted lamps calls in
-      let new = newly lamps past (row lamps calls) (b ∷ more) log in
-      let is-new : new ≡ givenTo [] (eventGiven past b) = newly-byte past (row lamps calls) b more log e ∙ ap (λ (es : List KeyEvent). givenTo es (eventGiven past b)) (fed-row f n) in
+      let new = newly lamps past (waits lamps calls) (row lamps calls) (b ∷ more) log in
+      let is-new : new ≡ givenTo [] (eventGiven past b) = newly-fed (row lamps calls) b more log f n e ∙ ap (λ (es : List KeyEvent). givenTo es (eventGiven past b)) (fed-row f n) in
       less-append (given lamps calls) new
       ∙ ap₂ {C = List KeyEvent} (λ (x y : List KeyEvent). x ++ y) (fed-joins f n)
       (ap lessMet is-new ∙ all-join (eventGiven past b) ∙ sym (ap events is-new ∙ all-given (eventGiven past b)))
@@ -147,15 +178,16 @@ module _ {A : Type 0} (lamps : ℕ → Exchange (Answer A)) where
   last d nothing = d
   last d (past ▸ x) = x
 
-  -- a byte that presses no lock ends in none of 2, 3 and 21, with no more script and no log
-  ends-well : (past : Past Call) (b : ℕ) → isLockPress b ≡ false → ends2-3-21 (handled lamps (after lamps past) (b ∷ []) [] .end) ≡ false
+  -- where none waits, a byte that presses no lock ends in none of 2, 3 and 21, with no more script and no log
+  ends-well : (past : Past Call) (b : ℕ) → waits lamps past ≡ [] → isLockPress b ≡ false → ends2-3-21 (handled lamps (after lamps past) (b ∷ []) [] .end) ≡ false
   unfolding each answers counts
-  ends-well past b e =
+  ends-well past b w e =
       ap (last true) (history lamps (past ▸ handling (b ∷ []) []) .left-out)
+      ∙ ap (λ (ws : List ℕ). not (isSome (scancodeAfter lamps (counted lamps past) ws (b ∷ []) []))) w
       ∙ ap (λ (sc : Option ℕ). not (isSome sc)) (counts-byte (counted lamps past) b [] [] e)
 
   pub fed-quiet : {bytes : Past ℕ} {calls : Past Call} → Feeds bytes calls → NoLocks bytes → Quiet lamps calls
   fed-quiet nothing-fed n = no-call
   fed-quiet (one-fed {bytes = bytes} {calls = calls} b more log f) (one-more n e) =
-      let a = alone (after lamps calls) b more log (ends-well calls b e) in
+      let a = alone (after lamps calls) b more log (ends-well calls b (fed-waits f n) e) in
       quiet-taking (quiet-call (fed-quiet f n) (a .one-byte) (a .no-pairs) (a .same-log))

@@ -7,6 +7,7 @@ use Rattle.bits.specs.Bits.{bit, odd, putBit}
 use Rattle.bits.specs.Table.{decode}
 use Rattle.exchange.specs.Exchange.{bind, play}
 use Rattle.exchange.specs.Answer.{andThen, refusingAs}
+use Rattle.exchange.specs.Keeping.{keeping}
 use Rattle.exchange.specs.Repeat.{repeat}
 use Rattle.keycodes_ascii.specs.Characters.{characterOf}
 use Rattle.keycodes_ascii.specs.Keycode.{keycodeOf, numbered, keycodes}
@@ -21,6 +22,7 @@ use Rattle.keyboard_scancodes.specs.FlagTable.{flagTable, flagLimit, isOf, pres
 use Rattle.keyboard_scancodes.specs.FlagsAfter.{flagsAfter, flagsThen}
 use Rattle.keyboard.specs.Handler.{queued, lampExchange, onByte, handle, effects, handled, logLeft}
 use Rattle.keyboard_scancodes.specs.Lamps.{lampsLit}
+use Rattle.keyboard_scancodes.specs.Waiting.{bytesFrom}
 use Rattle.keyboard_record.specs.Queue.{round}
 use Rattle.keyboard_record.specs.Record.{wellFormed}
 use Rattle.worked.specs.Holds.{All, all, _&_, RowHolds}
@@ -31,7 +33,7 @@ whatever : {A : Type 0} {a : A} (b1 b2 b3 : ℕ) → a ≡ a
 whatever b1 b2 b3 = refl
 
 pub worked-positions : All RowHolds table
-unfolding table handled effects logLeft handle onByte lampExchange queued round eventOf keycodeAt keycodeOf numbered keycodes flagsThen flagsAfter flagTable flagLimit isOf pressesLock lampsLit wellFormed characterOf setKeyboardLed setLedBy commandToKeyboard commandToMouse commandToPort2 readMousePacket writePort command attempt pollingSendReceive pollingSend sendTry pollingReceive poll play bind andThen refusingAs repeat decode bit odd putBit xor
+unfolding table handled effects bytesFrom keeping logLeft handle onByte lampExchange queued round eventOf keycodeAt keycodeOf numbered keycodes flagsThen flagsAfter flagTable flagLimit isOf pressesLock lampsLit wellFormed characterOf setKeyboardLed setLedBy commandToKeyboard commandToMouse commandToPort2 readMousePacket writePort command attempt pollingSendReceive pollingSend sendTry pollingReceive poll play bind andThen refusingAs repeat decode bit odd putBit xor
 worked-positions =
     ((refl & refl & all) & all)
     & ((refl & refl & all) & all)

@@ -2,6 +2,7 @@
 //! and read from one.
 
 use crate::call::*;
+use crate::kept::Kept;
 use crate::salvage::Salvaged;
 use std::fmt;
 
@@ -27,6 +28,7 @@ pub enum Answer {
         used: Option<usize>,
         bytes: Vec<u8>,
     },
+    Kept(Kept),
 }
 
 /// What a call answers beside its end.
@@ -72,6 +74,8 @@ pub enum Done {
         log: Vec<u8>,
         end: u8,
         lamps_failed: bool,
+        /// How many bytes of the lamp exchange found no place to wait.
+        dropped: u32,
     },
     Taken(Option<KeyEvent>),
     /// A taking that was refused with this number.
@@ -79,8 +83,9 @@ pub enum Done {
 }
 
 impl Answer {
-    /// The answer on the ten flags that the Rust has: ALT_RIGHT, the port's eleventh, is taken off here, and nowhere else.
-    pub fn on_ten_flags(self) -> Answer {
+    /// The answer as the Rust has it, without what requests added: ALT_RIGHT, the eleventh flag, the bytes that wait and the number of
+    /// those that were dropped are taken off here, and nowhere else.
+    pub fn without_additions(self) -> Answer {
         let event = |event: KeyEvent| KeyEvent { flags: event.flags & ALL_FLAGS, ..event };
         match self {
             Answer::Run { done, left } => Answer::Run {
@@ -88,10 +93,13 @@ impl Answer {
                     .into_iter()
                     .map(|one| match one {
                         Done::Taken(taken) => Done::Taken(taken.map(event)),
+                        Done::Handled { used, log, end, lamps_failed, .. } => {
+                            Done::Handled { used, log, end, lamps_failed, dropped: 0 }
+                        }
                         other => other,
                     })
                     .collect(),
-                left: left.on_ten_flags(),
+                left: left.without_additions(),
             },
             other => other,
         }
@@ -149,13 +157,17 @@ impl fmt::Display for Record {
 impl fmt::Display for Done {
     fn fmt(&self, f: &mut fmt::Formatter) -> fmt::Result {
         match self {
-            Done::Handled { used, log, end, lamps_failed } => {
+            Done::Handled { used, log, end, lamps_failed, dropped } => {
                 write!(f, "h:{used}:{}:{}:", log.len() / 2, Hex(log))?;
                 match end {
                     0 => f.write_str("ok")?,
                     number => write!(f, "{number}")?,
                 }
-                f.write_str(if *lamps_failed { "+14" } else { "" })
+                f.write_str(if *lamps_failed { "+14" } else { "" })?;
+                match dropped {
+                    0 => Ok(()),
+                    dropped => write!(f, "~{dropped}"),
+                }
             }
             Done::Taken(Some(event)) => write!(f, "t:{event}"),
             Done::Taken(None) => f.write_str("t:none"),
@@ -195,6 +207,7 @@ impl fmt::Display for Answer {
                 write!(f, "{} rec={left}", if done.is_empty() { "-" } else { "" })
             }
             Answer::Salvaged(salvaged) => write!(f, "{salvaged}"),
+            Answer::Kept(kept) => write!(f, "{kept}"),
         }
     }
 }
@@ -297,12 +310,14 @@ fn parse_done(text: &str) -> Result<Done, String> {
         ["t", "21"] => Ok(Done::NotTaken(21)),
         ["t", event] => Ok(Done::Taken(Some(parse_event(event)?))),
         ["h", used, _, log, end] => {
+            let (end, dropped) = end.split_once('~').unwrap_or((end, "0"));
             let number = end.strip_suffix("+14").unwrap_or(end);
             Ok(Done::Handled {
                 used: decimal(used)? as usize,
                 log: parse_script(log)?,
                 end: if number == "ok" { 0 } else { decimal(number)? as u8 },
                 lamps_failed: number != end,
+                dropped: decimal(dropped)? as u32,
             })
         }
         _ => Err(bad()),

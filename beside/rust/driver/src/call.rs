@@ -1,5 +1,6 @@
 //! A call line of the trace format (tests/traces/README.md), read and written.
 
+use crate::kept;
 use crate::salvage::{self, Salvage};
 use std::fmt::{self, Write};
 
@@ -34,6 +35,8 @@ pub enum Op {
     ConvertSet2,
     TypeText,
     Salvage(Salvage),
+    /// A call whose line ends in `show=kept`.
+    Kept(Box<Op>),
 }
 
 #[derive(Clone, Copy, Debug, PartialEq)]
@@ -77,6 +80,10 @@ pub struct Handler {
     pub ext: bool,
     pub flags: u16,
     pub queue: Vec<KeyEvent>,
+    /// The bytes that wait, oldest first.
+    pub kept: Vec<u8>,
+    /// How many are said to wait, where that is more than there are places: such a record is malformed.
+    pub waits: Option<u8>,
 }
 
 #[derive(Clone, Copy, Debug, PartialEq)]
@@ -109,6 +116,8 @@ pub const ALL_FLAGS: u16 = 0x3FF;
 /// The flags of a well-formed record: with ALT_RIGHT, the eleventh.
 pub const PORT_FLAGS: u16 = 0x7FF;
 pub const QUEUE_PLACES: usize = 128;
+/// The places for bytes that wait.
+pub const WAITING_PLACES: usize = 16;
 
 /// A line that asks for no answer: empty, a comment, or an answer.
 pub fn is_skipped(line: &str) -> bool {
@@ -125,7 +134,7 @@ pub fn parse(line: &str) -> Result<Call, String> {
     while let Some(word) = words.next_if(|word| !word.contains('=')) {
         args.push(word);
     }
-    let (mut script, mut log, mut state, mut plan, mut repeat) = (None, None, None, None, None);
+    let (mut script, mut log, mut state, mut plan, mut repeat, mut show) = (None, None, None, None, None, None);
     let (mut input, mut output) = (None, None);
     for word in words {
         let (key, value) = word.split_once('=').ok_or_else(|| format!("'{word}' is not key=value"))?;
@@ -137,13 +146,18 @@ pub fn parse(line: &str) -> Result<Call, String> {
             "state" => &mut state,
             "plan" => &mut plan,
             "repeat" => &mut repeat,
+            "show" => &mut show,
             _ => return Err(format!("there is no field '{key}='")),
         };
         if field.replace(value).is_some() {
             return Err(format!("the field '{key}=' comes twice"));
         }
     }
-    let op = parse_op(name, &args, state, plan)?;
+    let op = match (parse_op(name, &args, state, plan)?, show) {
+        (op, None) => op,
+        (op, Some("kept")) if kept::keeps(&op) => Op::Kept(Box::new(op)),
+        (_, Some(value)) => return Err(format!("{name} has no '{value}' to show")),
+    };
     // What an operation takes: a script and a log, or lent bytes.
     let takes = [
         ("script", script, op.takes_script()),
@@ -341,6 +355,19 @@ pub fn parse_handler(state: Option<&str>) -> Result<Handler, String> {
                     handler.queue.extend(vec![event; times]);
                 }
             }
+            ("kept", v) => {
+                handler.kept = parse_script(v)?;
+                if handler.kept.len() > WAITING_PLACES {
+                    return Err(format!("no more than {WAITING_PLACES} bytes can be told to wait"));
+                }
+            }
+            ("waits", v) => match decimal(v)? {
+                n if n > WAITING_PLACES as u64 && handler.kept.len() == WAITING_PLACES => {
+                    handler.waits = Some(u8::try_from(n).map_err(|_| format!("'{v}' bytes can't be said to wait"))?)
+                }
+                n if n <= handler.kept.len() as u64 => handler.kept.truncate(n as usize),
+                _ => return Err(format!("'{v}' bytes can't be said to wait")),
+            },
             (key, _) => return Err(format!("a handler's state has no '{key}'")),
         }
     }
@@ -457,26 +484,41 @@ impl fmt::Display for Handler {
             write!(f, "{}{event}", if i == 0 { "" } else { ";" })?;
         }
         if self.queue.is_empty() {
-            f.write_str("-")
-        } else {
-            Ok(())
+            f.write_str("-")?;
         }
+        self.fmt_waiting(f)
     }
 }
 
 impl Handler {
-    /// Whether a handler call or a taking is refused 21.
-    pub fn is_malformed(&self) -> bool {
-        self.flags > PORT_FLAGS
+    /// The fields behind the queue: the bytes that wait, where some do.
+    fn fmt_waiting(&self, f: &mut impl Write) -> fmt::Result {
+        if !self.kept.is_empty() {
+            write!(f, ",kept:{}", Hex(&self.kept))?;
+        }
+        match self.waits {
+            Some(waits) => write!(f, ",waits:{waits}"),
+            None => Ok(()),
+        }
     }
 
-    /// The record on the ten flags that the Rust has.
-    pub fn on_ten_flags(mut self) -> Handler {
+    /// Whether a handler call or a taking is refused 21.
+    pub fn is_malformed(&self) -> bool {
+        self.flags > PORT_FLAGS || self.waits.is_some()
+    }
+
+    /// How many bytes wait.
+    pub fn waiting(&self) -> u8 {
+        self.waits.unwrap_or(self.kept.len() as u8)
+    }
+
+    /// The record as the Rust has it: on its ten flags, and without bytes that wait.
+    pub fn without_additions(mut self) -> Handler {
         self.flags &= ALL_FLAGS;
         for event in &mut self.queue {
             event.flags &= ALL_FLAGS;
         }
-        self
+        Handler { kept: Vec::new(), waits: None, ..self }
     }
 }
 
@@ -485,6 +527,7 @@ impl Op {
     pub fn beyond_rust(&self) -> Option<&'static str> {
         let has_other_flags = match self {
             Op::Mouse(MouseOp::ReadSignedPacket, _) => return Some("the Rust reads no packet with a signed wheel"),
+            Op::Handle(handler, _) if handler.waiting() > 0 => return Some("no byte waits in the Rust's record"),
             Op::Handle(handler, _) => {
                 handler.flags > ALL_FLAGS || handler.queue.iter().any(|event| event.flags > ALL_FLAGS)
             }
@@ -495,6 +538,14 @@ impl Op {
             _ => false,
         };
         has_other_flags.then_some("the Rust has no flag above bit 9")
+    }
+
+    /// The operation, whether or not its call shows the bytes that it threw away.
+    fn without_show(&self) -> &Op {
+        match self {
+            Op::Kept(op) => op,
+            op => op,
+        }
     }
 
     /// Whether a call's line has a script, and whether it has a log's room.
@@ -556,6 +607,7 @@ impl Op {
             Op::ConvertSet2 => "convert_set2",
             Op::TypeText => "type_text",
             Op::Salvage(_) => salvage::NAME,
+            Op::Kept(op) => op.name(),
         }
     }
 
@@ -564,6 +616,7 @@ impl Op {
         use KeyboardOp as K;
         use MouseOp as M;
         match *self {
+            Op::Kept(ref op) => op.push_args(out),
             Op::WriteConfig(byte) | Op::Keyboard(K::Command(byte)) | Op::Mouse(M::Command(byte), _) => {
                 write!(out, " {byte:02X}").unwrap()
             }
@@ -588,7 +641,7 @@ impl Call {
             return out;
         }
         self.op.push_args(&mut out);
-        match &self.op {
+        match self.op.without_show() {
             Op::Init(controller) if *controller != Controller::default() => write!(out, " state={controller}").unwrap(),
             Op::Mouse(_, Some(id)) => write!(out, " state=id:{id}").unwrap(),
             Op::Handle(handler, _) if *handler != Handler::default() => push_handler(&mut out, handler),
@@ -612,24 +665,26 @@ impl Call {
         if self.repeat != 1 {
             write!(out, " repeat={}", self.repeat).unwrap();
         }
+        if let Op::Kept(_) = self.op {
+            out += " show=kept";
+        }
         out
     }
 }
 
 /// A handler's state, equal events that wait behind one another as one with `*N`.
 fn push_handler(out: &mut String, handler: &Handler) {
-    let empty = Handler { queue: Vec::new(), ..*handler };
-    write!(out, " state={empty}").unwrap();
+    write!(out, " state=ext:{},flags:{:03X},queue:", handler.ext as u8, handler.flags).unwrap();
     for (i, run) in handler.queue.chunk_by(|a, b| a == b).enumerate() {
-        match i {
-            0 => drop(out.pop()),
-            _ => out.push(';'),
-        }
-        write!(out, "{}", run[0]).unwrap();
+        write!(out, "{}{}", if i == 0 { "" } else { ";" }, run[0]).unwrap();
         if run.len() > 1 {
             write!(out, "*{}", run.len()).unwrap();
         }
     }
+    if handler.queue.is_empty() {
+        out.push('-');
+    }
+    handler.fmt_waiting(out).unwrap();
 }
 
 fn push_plan(out: &mut String, plan: &[Step]) {

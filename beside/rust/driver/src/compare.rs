@@ -5,6 +5,7 @@ use crate::call;
 use crate::call::{Call, Op};
 use crate::device::Rng;
 use crate::generate::{by_chance, kind_by_chance, names, sweep, sweep_lengths, Enough, KINDS};
+use crate::kept;
 use crate::oracle::Oracle;
 use crate::packed::{put_call, read_answer, Program, PROGRAMS};
 use crate::port::{self, Running};
@@ -48,11 +49,17 @@ impl Sender {
     fn send(&mut self, oracle: &mut Oracle, call: Call, from: Source) -> Result<(), Enough> {
         const BATCH: usize = 256;
         // Both sides are called by what the line says.
-        let line = call.line();
-        let call = call::parse(&line).expect("a good line");
+        let mut line = kept::shown(call).line();
+        let mut call = call::parse(&line).expect("a good line");
+        let mut answer = oracle.answer(&call);
+        // What is compared are calls that begin with none waiting.
+        if let Some(shorter) = oracle.before_waiting(&call, &answer) {
+            line = shorter.line();
+            call = call::parse(&line).expect("a good line");
+            answer = oracle.answer(&call);
+        }
         put_call(&call, &mut self.packed[Program::of(&call.op) as usize]).expect("a call within the program's space");
         self.calls += 1;
-        let answer = oracle.answer(&call);
         self.sent.entry(call.op.name()).or_default()[from as usize] += 1;
         count_answers(&mut self.answers, &answer);
         self.batch.push((line, call.op, answer));
@@ -81,6 +88,7 @@ fn count_answers(answers: &mut BTreeMap<String, u64>, answer: &Answer) {
     match answer {
         Answer::Call { end, .. } | Answer::Bytes { end, .. } => count(*end),
         Answer::Salvaged(salvaged) => count(salvaged.end),
+        Answer::Kept(kept) => count_answers(answers, &kept.answer),
         Answer::Run { done, .. } => {
             for d in done {
                 if let Done::Handled { end, lamps_failed, .. } = d {
@@ -165,7 +173,7 @@ pub fn compare(port: port::Paths, calls: u64, seed: u64, damaged: Option<u64>) -
             output.now = damaged == Some(call);
             match read_answer(&one.1, output) {
                 Ok(Ok(answer)) => {
-                    let answer = answer.on_ten_flags();
+                    let answer = answer.without_additions();
                     if answer != one.2 {
                         differ(call, &one, &answer.to_string())
                     }

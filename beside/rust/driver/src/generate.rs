@@ -88,7 +88,7 @@ fn handler(rng: &mut Rng) -> Handler {
         3 => (0..rng.below(4)).map(|_| event(rng)).collect(),
         _ => Vec::new(),
     };
-    Handler { ext: rng.once_in(4), flags, queue }
+    Handler { ext: rng.once_in(4), flags, queue, ..Handler::default() }
 }
 
 /// A plan that lists its calls, so that its script can be recorded.
@@ -276,7 +276,7 @@ fn sweep_scancodes(oracle: &mut Oracle, emit: Emit) -> Result<(), Enough> {
         for ext in [false, true] {
             for flags in [0, ALL_FLAGS] {
                 for count in [0, 127, 128] {
-                    let handler = Handler { ext, flags, queue: vec![waits; count] };
+                    let handler = Handler { ext, flags, queue: vec![waits; count], ..Handler::default() };
                     let script: Vec<u8> = [byte].into_iter().chain(LAMPS).collect();
                     for plan in [vec![Step::Handle(1), Step::Take(1)], vec![Step::Auto]] {
                         let op = Op::Handle(handler.clone(), plan);

@@ -6,6 +6,8 @@ mod call;
 mod compare;
 mod device;
 mod generate;
+mod kept;
+mod listing;
 mod oracle;
 mod packed;
 mod plain;
@@ -13,7 +15,7 @@ mod port;
 mod salvage;
 
 use packed::Program;
-use std::io::{self, BufWriter, Read, Write};
+use std::io::{self, BufWriter, Write};
 use std::process::ExitCode;
 
 /// The Rust's answer to a call, or why it has none.
@@ -35,38 +37,6 @@ fn sample(calls: u64, seed: u64) -> io::Result<ExitCode> {
         written = std::mem::replace(&mut written, Ok(())).and(pair);
     });
     written.and(out.flush())?;
-    Ok(ExitCode::SUCCESS)
-}
-
-/// Document 01's program over the Rust: the events of the first 65,536 bytes of standard input.
-fn tablekeys() -> io::Result<ExitCode> {
-    let mut script = Vec::new();
-    io::stdin().lock().take(65536).read_to_end(&mut script)?;
-    let length = script.len();
-    let mut oracle = oracle::Oracle::new();
-    let mut out = BufWriter::new(io::stdout().lock());
-    oracle.set(&call::Handler::default());
-    port_io::wire().script = script;
-    let mut at = 0;
-    while at < length {
-        let (end, _) = oracle.enter(at, 16);
-        at = port_io::wire().at;
-        if end != 0 {
-            writeln!(out, "refused {end}")?;
-        }
-        if end == 2 {
-            break;
-        }
-        if let Some((event, character)) = oracle.take_with_character() {
-            let action = if event.released { 'R' } else { 'P' };
-            write!(out, "{:02X} {action} {:03X} ", event.keycode, event.flags)?;
-            match character {
-                Some(character) => writeln!(out, "{}", character as u32)?,
-                None => writeln!(out, "-")?,
-            }
-        }
-    }
-    out.flush()?;
     Ok(ExitCode::SUCCESS)
 }
 
@@ -101,7 +71,7 @@ fn main() -> io::Result<ExitCode> {
             let rounds = number(&args, "--rounds").unwrap_or(7).max(1) as usize;
             bench::bench(port, option(&args, "--tablekeys").unwrap_or("tablekeys"), rounds)
         }
-        (Some("tablekeys"), ..) => tablekeys(),
+        (Some("tablekeys"), ..) => listing::tablekeys(),
         (Some("sample"), Some(calls), Some(seed), None) => sample(calls, seed),
         (Some("compare"), Some(calls), Some(seed), Some(port)) => {
             compare::compare(port, calls, seed, number(&args, "--damage"))

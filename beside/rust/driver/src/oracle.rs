@@ -3,13 +3,16 @@
 
 use crate::answer::*;
 use crate::call::*;
+use crate::kept::{keeping, Kept};
 use crate::plain;
 use event_types::Event;
 use keycodes_ascii::{KeyAction, KeyboardModifiers as Flags, Keycode};
 use port_io::{wire, Device, Lack};
 use ps2::*;
+use std::cell::RefCell;
 use std::hint::black_box;
 use std::panic::{catch_unwind, resume_unwind, AssertUnwindSafe};
+use std::rc::Rc;
 
 /// Document 01's number for each text with which the Rust fails.
 const NUMBERS: [(&str, u8); 23] = [
@@ -88,6 +91,29 @@ impl KeyEvent {
     }
 }
 
+/// Gives a script byte by byte, and notes the bytes that reads of the data port were given.
+struct Noting {
+    script: std::vec::IntoIter<u8>,
+    data: Rc<RefCell<Vec<u8>>>,
+}
+
+impl Device for Noting {
+    fn read(&mut self, port: u16, script: &mut Vec<u8>) {
+        let byte = self.script.next();
+        script.extend(byte);
+        if port == 0x60 {
+            self.data.borrow_mut().extend(byte);
+        }
+    }
+
+    fn write(&mut self, _port: u16, _value: u8) {}
+}
+
+/// Those bytes that receiving throws away.
+fn unlisted(data: impl IntoIterator<Item = u8>) -> Vec<u8> {
+    data.into_iter().filter(|&byte| DeviceToHostResponse::try_from(byte).is_err()).collect()
+}
+
 /// How a call of the Rust ended: 0, or the number of its refusal.
 pub type End = u8;
 
@@ -162,6 +188,7 @@ impl Oracle {
         match &call.op {
             Op::Handle(handler, plan) => return self.answer_handle(call, handler, plan),
             Op::ToAscii(keycode, flags) => return answer_to_ascii(*keycode, *flags, call.repeat),
+            Op::Kept(op) => return self.answer_kept(op, call),
             op if op.takes_bytes() => return plain::answer(call),
             _ => {}
         }
@@ -177,6 +204,21 @@ impl Oracle {
         let (used, log) = (wire().at, wire().log.clone());
         let record = if call.op == Op::KeyboardInit && end == 0 { Record::Handler(self.left()) } else { record };
         Answer::Call { end, used, log, value, record }
+    }
+
+    /// A call with the bytes that it threw away. The Rust hands none back; those that it read from the data port and that are no
+    /// response are told here.
+    fn answer_kept(&mut self, op: &Op, call: &Call) -> Answer {
+        let data = Rc::new(RefCell::new(Vec::new()));
+        wire().script.clear();
+        wire().device = Some(Box::new(Noting { script: call.script.clone().into_iter(), data: data.clone() }));
+        let (end, value, record) = self.port_operation(op, call.room);
+        wire().device = None;
+        let (used, log) = (wire().at, wire().log.clone());
+        // After 2 and 3 nothing is handed back.
+        let thrown = if matches!(end, 2 | 3) { Vec::new() } else { unlisted(data.take()) };
+        let (bytes, others) = keeping(thrown);
+        Answer::Kept(Kept { answer: Box::new(Answer::Call { end, used, log, value, record }), bytes, others })
     }
 
     /// Makes a call so many times for measuring, with nothing between two calls but what sets state, script and log again. The
@@ -277,9 +319,41 @@ impl Oracle {
                 record = Record::NoHandler;
                 (end, Value::Nothing)
             }
-            Op::Handle(..) | Op::ToAscii(..) | Op::ConvertSet2 | Op::TypeText | Op::Salvage(_) => unreachable!(),
+            Op::Handle(..) | Op::ToAscii(..) | Op::ConvertSet2 | Op::TypeText | Op::Salvage(_) | Op::Kept(_) => unreachable!(),
         };
         (end, value, record)
+    }
+
+    /// The run as far as its calls begin with none waiting in the port, where bytes come to wait: up to the first call whose lamp
+    /// exchange threw some away.
+    pub fn before_waiting(&mut self, call: &Call, answer: &Answer) -> Option<Call> {
+        let (Op::Handle(handler, _), Answer::Run { done, .. }) = (&call.op, answer) else { return None };
+        let mut at = 0;
+        let caught = done.iter().position(|d| match d {
+            Done::Handled { used, log, .. } if !log.is_empty() => {
+                let exchange = &call.script[at + 1..at + used];
+                at += used;
+                self.throws_away(exchange, call.room)
+            }
+            Done::Handled { used, .. } => {
+                at += used;
+                false
+            }
+            _ => false,
+        })?;
+        let plan = done[..=caught].iter().map(|d| match d {
+            Done::Handled { .. } => Step::Handle(1),
+            _ => Step::Take(1),
+        });
+        let op = Op::Handle(handler.clone(), plan.collect());
+        Some(Call { op, script: call.script.clone(), ..*call })
+    }
+
+    /// Whether a lamp exchange on this script throws bytes away: whichever lamps are set.
+    fn throws_away(&mut self, script: &[u8], room: usize) -> bool {
+        let op = Op::Keyboard(KeyboardOp::SetLed(0));
+        let call = Call { op: op.clone(), script: script.to_vec(), room, repeat: 1 };
+        matches!(self.answer_kept(&op, &call), Answer::Kept(Kept { bytes, .. }) if !bytes.is_empty())
     }
 
     fn answer_handle(&mut self, call: &Call, handler: &Handler, plan: &[Step]) -> Answer {
@@ -327,7 +401,7 @@ impl Oracle {
     /// A handler call on the script from a place on.
     pub fn handle(&mut self, at: usize, room: usize) -> Done {
         let (end, lamps_failed) = self.enter(at, room);
-        Done::Handled { used: wire().at - at, log: wire().log.clone(), end, lamps_failed }
+        Done::Handled { used: wire().at - at, log: wire().log.clone(), end, lamps_failed, dropped: 0 }
     }
 
     /// Enters the handler: how the call ended, and whether a lamp exchange failed.
@@ -347,6 +421,16 @@ impl Oracle {
             (end, lamps_failed) = (wire().lack, false);
         }
         (end, lamps_failed)
+    }
+
+    /// The same on a script, with the bytes that the lamp exchange threw away: those behind the scancode.
+    pub fn enter_noting(&mut self, script: Vec<u8>, room: usize) -> (End, Vec<u8>) {
+        let data = Rc::new(RefCell::new(Vec::new()));
+        wire().script.clear();
+        wire().device = Some(Box::new(Noting { script: script.into_iter(), data: data.clone() }));
+        let (end, _) = self.enter(0, room);
+        wire().device = None;
+        (end, unlisted(data.take().into_iter().skip(1)))
     }
 
     /// A taking from the queue.
@@ -384,7 +468,7 @@ impl Oracle {
         *keyboard::reach::modifiers() = Flags::new();
         self.feed(0x1D);
         let ext = keyboard::reach::modifiers().intersects(Flags::CONTROL_RIGHT);
-        Handler { ext, flags, queue }
+        Handler { ext, flags, queue, ..Handler::default() }
     }
 
     /// A handler call on one byte.

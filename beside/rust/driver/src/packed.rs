@@ -3,6 +3,7 @@
 
 use crate::answer::*;
 use crate::call::*;
+use crate::kept;
 use std::io::{self, Read};
 
 /// The port's programs: crates/replay makes the calls on the ports, crates/replay_keys those on keys, crates/replay_bytes those on
@@ -43,6 +44,9 @@ const UNTIL_USED: u8 = 34;
 const TAKE: u8 = 35;
 const WAITING: u8 = 36;
 const LEFT: u8 = 37;
+const BYTE: u8 = 32;
+const BYTES_LEFT: u8 = 42;
+const WAITS: u8 = 43;
 const CONVERT_SET2: u8 = 40;
 const TYPE_TEXT: u8 = 41;
 
@@ -76,7 +80,7 @@ impl Instruction {
 }
 
 /// The number of an operation on the ports, or of one that has no run, its argument and its state.
-fn operation(op: &Op) -> (u8, u8, u16) {
+pub fn operation(op: &Op) -> (u8, u8, u16) {
     use KeyboardOp as K;
     use MouseOp as M;
     match *op {
@@ -112,7 +116,7 @@ fn operation(op: &Op) -> (u8, u8, u16) {
         Op::ToAscii(keycode, flags) => (TO_ASCII, keycode, flags),
         Op::ConvertSet2 => (CONVERT_SET2, 0, 0),
         Op::TypeText => (TYPE_TEXT, 0, 0),
-        Op::Handle(..) | Op::Salvage(_) => unreachable!("it is packed by itself"),
+        Op::Handle(..) | Op::Salvage(_) | Op::Kept(_) => unreachable!("it is packed by itself"),
     }
 }
 
@@ -141,6 +145,8 @@ pub fn put_call(call: &Call, out: &mut Vec<u8>) -> Result<(), String> {
         put_run(call, handler, plan, out);
     } else if let Op::Salvage(salvage) = &call.op {
         return salvage.put_call(call, out);
+    } else if let Op::Kept(op) = &call.op {
+        return kept::put_call(op, call, out);
     } else {
         let (op, argument, state) = operation(&call.op);
         Instruction { op, argument, state, room: call.room, times: call.repeat as usize }.put(out);
@@ -176,10 +182,18 @@ fn put_run(call: &Call, handler: &Handler, plan: &[Step], out: &mut Vec<u8>) {
         let KeyEvent { keycode, released, flags } = alike[0];
         put(EVENT, keycode, flags, released as usize, alike.len());
     }
+    for alike in handler.kept.chunk_by(|a, b| a == b) {
+        put(BYTE, alike[0], 0, 0, alike.len());
+    }
+    if let Some(waits) = handler.waits {
+        put(WAITS, waits, 0, 0, 1);
+    }
+    // Each byte that waits at first, or that is of the script, is taken by one call at most.
+    let most = bytes + handler.kept.len();
     for step in plan {
         match *step {
-            Step::Auto => put(UNTIL_USED, 0, 0, 0, bytes),
-            Step::Each => (0..bytes).for_each(|_| {
+            Step::Auto => put(UNTIL_USED, 0, 0, 0, most),
+            Step::Each => (0..most).for_each(|_| {
                 put(UNTIL_USED, 0, 0, 0, 1);
                 put(TAKE, 0, 0, 0, 1);
             }),
@@ -190,6 +204,8 @@ fn put_run(call: &Call, handler: &Handler, plan: &[Step], out: &mut Vec<u8>) {
         }
     }
     put(LEFT, 0, 0, 0, 1);
+    put(BYTES_LEFT, 0, 0, 0, 1);
+    put(BYTES_LEFT, 1, 0, 0, 1);
     // The last of these takings finds none, which ends the run.
     put(WAITING, 0, 0, 0, QUEUE_PLACES + 1);
 }
@@ -259,16 +275,33 @@ fn event_number(event: &KeyEvent) -> u64 {
     event.keycode as u64 | (event.released as u64) << 8 | (event.flags as u64) << 9
 }
 
-/// A record's prefix, flags and number of waiting events.
+/// A record's prefix, flags and numbers of waiting events and of waiting bytes.
 fn record_number(handler: &Handler) -> u64 {
-    handler.ext as u64 | (handler.flags as u64) << 1 | (handler.queue.len() as u64) << 17
+    let events = handler.queue.len() as u64;
+    handler.ext as u64 | (handler.flags as u64) << 1 | events << 17 | (handler.waiting() as u64) << 33
 }
 
-fn handler_of(number: u64, queue: Vec<KeyEvent>) -> Result<Handler, String> {
-    if number >> 17 != queue.len() as u64 {
-        return Err(format!("{} events wait, and {} were told", number >> 17, queue.len()));
+/// The bytes that wait as two numbers, low byte first; 0 stands where none waits.
+fn byte_numbers(handler: &Handler) -> [u64; 2] {
+    let mut bytes = handler.kept.clone();
+    bytes.resize(WAITING_PLACES, 0);
+    [0, 8].map(|at| u64::from_le_bytes(bytes[at..at + 8].try_into().unwrap()))
+}
+
+/// A record by its number, its events and its bytes that wait.
+fn handler_of(number: u64, queue: Vec<KeyEvent>, bytes: [u64; 2]) -> Result<Handler, String> {
+    let (events, waits) = (number >> 17 & 0xFFFF, (number >> 33) as u8);
+    if events != queue.len() as u64 {
+        return Err(format!("{events} events wait, and {} were told", queue.len()));
     }
-    Ok(Handler { ext: number & 1 == 1, flags: (number >> 1) as u16, queue })
+    let mut kept = bytes.map(u64::to_le_bytes).concat();
+    kept.truncate(waits as usize);
+    let waits = (waits as usize > WAITING_PLACES).then_some(waits);
+    let handler = Handler { ext: number & 1 == 1, flags: (number >> 1) as u16, queue, kept, waits };
+    match record_number(&handler) == number && byte_numbers(&handler) == bytes {
+        true => Ok(handler),
+        false => Err(format!("{number} is no record's number, or a byte was told that does not wait")),
+    }
 }
 
 /// Puts an answer as the port's program would. Only the answers to calls that it can make have a packed form.
@@ -292,6 +325,9 @@ pub fn put_answer(op: &Op, answer: &Answer, out: &mut Vec<u8>) -> Result<(), Str
                 put_done(handle_of(plan), d, out);
             }
             Packed { op: LEFT, value: record_number(left), ..Default::default() }.put(out);
+            for value in byte_numbers(left) {
+                Packed { op: BYTES_LEFT, value, ..Default::default() }.put(out);
+            }
             if left.is_malformed() {
                 // Nothing can be taken from it.
                 not_taken(WAITING, MALFORMED).put(out);
@@ -303,7 +339,9 @@ pub fn put_answer(op: &Op, answer: &Answer, out: &mut Vec<u8>) -> Result<(), Str
             taken(WAITING, None).put(out);
         }
         // The port alone answers these, so no answer to one is recorded.
-        Answer::Bytes { .. } | Answer::Salvaged(_) => return Err(format!("an answer to {} is not packed", op.name())),
+        Answer::Bytes { .. } | Answer::Salvaged(_) | Answer::Kept(_) => {
+            return Err(format!("an answer to {} is not packed", op.name()))
+        }
     }
     Ok(())
 }
@@ -330,8 +368,9 @@ fn handle_of(plan: &[Step]) -> u8 {
 
 fn put_done(handle: u8, done: &Done, out: &mut Vec<u8>) {
     let packed = match done {
-        Done::Handled { used, log, end, lamps_failed } => {
-            Packed { op: handle, number: *end, left: *lamps_failed as u8, used: *used, value: 0, log: log.clone() }
+        Done::Handled { used, log, end, lamps_failed, dropped } => {
+            let (left, value) = (*lamps_failed as u8, *dropped as u64);
+            Packed { op: handle, number: *end, left, used: *used, value, log: log.clone() }
         }
         Done::Taken(event) => taken(TAKE, event.as_ref()),
         Done::NotTaken(number) => not_taken(TAKE, *number),
@@ -353,6 +392,7 @@ pub fn read_answer(op: &Op, from: &mut impl Read) -> io::Result<Result<Answer, S
     match op {
         Op::Handle(passed, plan) => read_run(passed, plan, from),
         Op::Salvage(salvage) => salvage.read_answer(from),
+        Op::Kept(op) => kept::read_answer(op, from),
         op if op.takes_bytes() => read_bytes(op, from),
         _ => Ok(answer_of(op, Packed::read(from)?)),
     }
@@ -381,7 +421,7 @@ fn read_bytes(op: &Op, from: &mut impl Read) -> io::Result<Result<Answer, String
     })
 }
 
-fn answer_of(op: &Op, packed: Packed) -> Result<Answer, String> {
+pub fn answer_of(op: &Op, packed: Packed) -> Result<Answer, String> {
     let (number, ..) = operation(op);
     let bad = |packed: Packed| Err(format!("no answer to {}: {packed:?}", op.name()));
     if packed.number == NO_CALL {
@@ -409,7 +449,7 @@ fn answer_of(op: &Op, packed: Packed) -> Result<Answer, String> {
         Op::Init(_) => {
             record = Record::Controller(Controller { init: left & 1 != 0, kbd: left & 2 != 0, mouse: left & 4 != 0 })
         }
-        Op::KeyboardInit if end == 0 => record = Record::Handler(handler_of(value, Vec::new())?),
+        Op::KeyboardInit if end == 0 => record = Record::Handler(handler_of(value, Vec::new(), [0, 0])?),
         Op::KeyboardInit => record = Record::NoHandler,
         Op::Mouse(MouseOp::SetId, _) => record = Record::Mouse(left),
         // The others can't change the mouse's record: they are not given it, or don't give it back.
@@ -430,23 +470,25 @@ fn answer_of(op: &Op, packed: Packed) -> Result<Answer, String> {
 
 fn read_run(passed: &Handler, plan: &[Step], from: &mut impl Read) -> io::Result<Result<Answer, String>> {
     let handle = handle_of(plan);
-    let (mut done, mut queue, mut record) = (Vec::new(), Vec::new(), None);
+    let (mut done, mut queue, mut record, mut bytes) = (Vec::new(), Vec::new(), None, Vec::new());
     loop {
         let packed = Packed::read(from)?;
         let empty = packed.used == 0 && packed.log.is_empty();
         let plain = packed.number == 0 && empty;
         let malformed = packed.number == MALFORMED && empty;
         match (packed.op, packed.left, packed.value) {
-            (op, 0 | 1, 0) if op == handle && packed.number != NO_CALL => done.push(Done::Handled {
+            (op, 0 | 1, dropped) if op == handle && packed.number != NO_CALL => done.push(Done::Handled {
                 used: packed.used,
                 log: packed.log,
                 end: packed.number,
                 lamps_failed: packed.left == 1,
+                dropped: dropped as u32,
             }),
             (TAKE, NONE_TAKEN, 0) if plain => done.push(Done::Taken(None)),
             (TAKE, NONE_TAKEN, 0) if malformed => done.push(Done::NotTaken(MALFORMED)),
             (TAKE, TAKEN, event) if plain => done.push(Done::Taken(Some(event_of(event)))),
             (LEFT, 0, left) if plain => record = Some(left),
+            (BYTES_LEFT, 0, eight) if plain => bytes.push(eight),
             (WAITING, TAKEN, event) if plain => queue.push(event_of(event)),
             (WAITING, NONE_TAKEN, 0) if plain => break,
             // Nothing can be taken from a malformed record: of its events only the number is told, and they are shown as passed in.
@@ -457,6 +499,6 @@ fn read_run(passed: &Handler, plan: &[Step], from: &mut impl Read) -> io::Result
             _ => return Ok(Err(format!("no answer to a call of a run: {packed:?}"))),
         }
     }
-    let record = record.ok_or_else(|| "the run tells no record".to_string());
-    Ok(record.and_then(|number| handler_of(number, queue)).map(|left| Answer::Run { done, left }))
+    let record = record.zip(bytes.try_into().ok()).ok_or_else(|| "the run tells no record".to_string());
+    Ok(record.and_then(|(number, bytes)| handler_of(number, queue, bytes)).map(|left| Answer::Run { done, left }))
 }

@@ -1,9 +1,11 @@
 -- `keyboard::lock_pressed` meets its contract: the lamp exchange, then the event; a lack of a byte or room ends both.
 -- Assumes nothing.
 use borrow.Author.Needs.{needs}
+use native.Mathlib.Omega.{arith}
 use mathlib.Core.Path.{refl, ap, _∙_}
 use Rattle.ps2_answers.specs.Refusals.{refused, saidDone}
 use Rattle.keyboard.specs.KeyboardLamps.{keyboardLamps}
+use Rattle.keyboard.proofs.Bounds.{lamps-within}
 use Rattle.keyboard.proofs.Outcomes.{gives-back, lamps-answer, lamps-lack}
 use Rattle.keyboard.proofs.lock_pressed.Statement.{statement}
 use Rattle.keyboard.proofs.lock_pressed.Tie as tie
@@ -11,37 +13,49 @@ use Rattle.keyboard.proofs.lock_pressed.Tie as tie
 returns : tie.Need-returns
 returns c =
     let m = c .before in
-    let w = m .before .before .before .before in
+    let w = m .before .before .before .before .before in
     let x = w .before .before .before .before .before in
     let a = x .args in
-    gives-back (a .state) _ _ _
-    (lamps-answer keyboardLamps (a .state) (a .scan-code) (a .modifiers .bits) _ _ (x .pre) (w .before .leds .ensures) (w .set-keyboard-led .ensures)
-    (ap saidDone (m .enum-told .given .1)))
-    (c .queue-event .ensures)
+    record {
+      at = λ rest is few.
+          gives-back (a .state) _ _ _
+          (lamps-answer keyboardLamps (a .state) (a .scan-code) (a .modifiers .bits) rest _ _ (x .pre) (w .before .leds .ensures)
+          (lamps-within _) (omega (arith, few)) is (w .set-keyboard-led-onto .ensures)
+          (ap saidDone (m .enum-told .given .1)))
+          (c .queue-event .ensures);
+    }
 
 returns-2 : tie.Need-returns-2
 returns-2 c =
     let f = c .before in
     let m = f .before .before .before in
-    let w = m .before .before .before .before in
+    let w = m .before .before .before .before .before in
     let x = w .before .before .before .before .before in
     let a = x .args in
-    gives-back (a .state) _ _ _
-    (lamps-lack keyboardLamps (a .state) (a .scan-code) (a .modifiers .bits) _ _ (x .pre) (w .before .leds .ensures) (w .set-keyboard-led .ensures)
-    (ap saidDone (m .answer .given .1) ∙ ap refused (f .e .given .1)))
-    refl
+    record {
+      at = λ rest is few.
+          gives-back (a .state) _ _ _
+          (lamps-lack keyboardLamps (a .state) (a .scan-code) (a .modifiers .bits) rest _ _ (x .pre) (w .before .leds .ensures)
+          (lamps-within _) (omega (arith, few)) is (w .set-keyboard-led-onto .ensures)
+          (ap saidDone (m .answer .given .1) ∙ ap refused (f .e .given .1)))
+          refl;
+    }
 
 returns-3 : tie.Need-returns-3
 returns-3 c =
     let f = c .before in
     let m = f .before .before .before in
-    let w = m .before .before .before .before in
+    let w = m .before .before .before .before .before in
     let x = w .before .before .before .before .before in
     let a = x .args in
-    gives-back (a .state) _ _ _
-    (lamps-answer keyboardLamps (a .state) (a .scan-code) (a .modifiers .bits) _ _ (x .pre) (w .before .leds .ensures) (w .set-keyboard-led .ensures)
-    (ap saidDone (m .answer .given .1) ∙ ap refused (f .enum-told2 .given .1)))
-    (c .queue-event2 .ensures)
+    record {
+      at = λ rest is few.
+          gives-back (a .state) _ _ _
+          (lamps-answer keyboardLamps (a .state) (a .scan-code) (a .modifiers .bits) rest _ _ (x .pre) (w .before .leds .ensures)
+          (lamps-within _) (omega (arith, few)) is (w .set-keyboard-led-onto .ensures)
+          (ap saidDone (m .answer .given .1) ∙ ap refused (f .enum-told2 .given .1)))
+          (c .queue-event2 .ensures);
+    }
 
 pub lock-pressed-spec : {M : Type 1} → statement M
 lock-pressed-spec =

@@ -9,11 +9,15 @@ use Rattle.keyboard.proofs.on_byte.Tie as tie
 
 returns : tie.Need-returns
 returns c =
-    let t = c .before .before in
+    let p = c .before in
+    let t = p .before .before in
     let i = t .before in
     let a = i .before .before .before .before .args in
-    rw (c .is-prefix .ensures)
-    (gives-back (a .state) _ _ _ (silent-byte keyboardLamps (a .state) (a .scan-code) _ _ (sym (i .is-silent .ensures) ∙ t .if1 .taken)) refl)
+    rw (c .from-kept .ensures, p .is-prefix .ensures)
+    (record {
+      at = λ rest is few.
+          gives-back (a .state) _ _ _ (silent-byte keyboardLamps (a .state) (a .scan-code) rest _ _ is (sym (i .is-silent .ensures) ∙ t .if1 .taken)) refl;
+    })
 
 lock-pressed-requires : tie.Need-lock-pressed-requires
 lock-pressed-requires c κs =
@@ -28,8 +32,11 @@ returns-2 c =
     let t = n .before in
     let i = t .before in
     let a = i .before .before .before .before .args in
-    rw (← key-byte keyboardLamps (a .state) (a .scan-code) (n .modifiers-after .ensures) (sym (i .is-silent .ensures) ∙ t .if1 .left))
-    (p .lock-pressed .ensures)
+    record {
+      at = λ rest is few.
+          rw (← key-byte keyboardLamps (a .state) (a .scan-code) rest (n .modifiers-after .ensures) (sym (i .is-silent .ensures) ∙ t .if1 .left))
+          (p .lock-pressed .ensures .at rest is few);
+    }
 
 returns-3 : tie.Need-returns-3
 returns-3 c =
@@ -39,15 +46,19 @@ returns-3 c =
     let t = n .before in
     let i = t .before in
     let a = i .before .before .before .before .args in
-    rw (← key-byte keyboardLamps (a .state) (a .scan-code) (n .modifiers-after .ensures) (sym (i .is-silent .ensures) ∙ t .if1 .left))
-    (gives-back (a .state) _ _ _
-    (no-lamps keyboardLamps (a .state) (a .scan-code) (n .modifiers-after .result .bits) _ _ (sym (k .is-lock-press .ensures) ∙ f .if2 .left))
-    (c .queue-event .ensures))
+    record {
+      at = λ rest is few.
+          rw (← key-byte keyboardLamps (a .state) (a .scan-code) rest (n .modifiers-after .ensures) (sym (i .is-silent .ensures) ∙ t .if1 .left))
+          (gives-back (a .state) _ _ _
+          (no-lamps keyboardLamps (a .state) (a .scan-code) (n .modifiers-after .result .bits) rest _ _ is (sym (k .is-lock-press .ensures) ∙ f .if2 .left))
+          (c .queue-event .ensures));
+    }
 
 pub on-byte-spec : {M : Type 1} → statement M
 on-byte-spec =
     tie.close
     (tie.spec
+    (λ c κs. search needs)
     (λ c κs. search needs)
     (λ c κs. search needs)
     returns

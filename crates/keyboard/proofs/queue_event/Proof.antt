@@ -12,7 +12,11 @@ returns : tie.Need-returns
 unfolding queued
 returns c =
     let k = c .before .before in
-    rw (known-low _ (k .before .before .from-byte .ensures) (k .keycode .given .1), le-ltb _ 128 (c .if1 .taken))
+    rw (
+      k .before .before .before .from-kept .ensures,
+      known-low _ (k .before .before .from-byte .ensures) (k .keycode .given .1),
+      le-ltb _ 128 (c .if1 .taken),
+    )
 
 event-of-requires : tie.Need-event-of-requires
 event-of-requires c κs =
@@ -25,6 +29,7 @@ returns-2 c =
     let f = c .before in
     let k = f .before .before in
     rw (
+      k .before .before .before .from-kept .ensures,
       known-low _ (k .before .before .from-byte .ensures) (k .keycode .given .1),
       lt-ltb _ 128 (f .if1 .left),
       c .event-of .ensures,
@@ -32,12 +37,13 @@ returns-2 c =
 
 returns-3 : tie.Need-returns-3
 unfolding queued
-returns-3 c = rw (unknown-low _ (c .before .before .from-byte .ensures) (c .enum-told .given .1))
+returns-3 c = rw (c .before .before .before .from-kept .ensures, unknown-low _ (c .before .before .from-byte .ensures) (c .enum-told .given .1))
 
 pub queue-event-spec : {M : Type 1} → statement M
 queue-event-spec =
     tie.close
     (tie.spec
+    (λ c κs. search needs)
     (λ c κs. search needs)
     (λ c. search needs)
     returns

@@ -12,6 +12,7 @@ use Rattle.ps2_bytes.specs.declared.command.HostToKeyboardCommand.the-variants.
 use Rattle.ps2_answers.specs.Refusals.{Success}
 use Rattle.ps2_answers.proofs.Then.{done-then, refused-then}
 use Rattle.ps2_keyboard.specs.Keyboard.{commandToKeyboard, keyboardCommand}
+use Rattle.ps2_kept.proofs.Contracts.{plays-forgets}
 use Rattle.ps2_detect.specs.Detection.{keyboardDetect}
 use Rattle.ps2_detect.specs.Parts.{identification}
 use Rattle.ps2_detect.proofs.keyboard_detect.Statement.{statement}
@@ -29,27 +30,27 @@ mul-at : tie.Need-mul-at
 unfolding commandToKeyboard
 mul-at c =
     let w = c .before .before .before .before in
-    omega (arith, call-pairs-le pair _ _ (w .command-pair .ensures), w .before .before .before .before .good)
+    omega (arith, call-pairs-le pair _ _ (plays-forgets _ (w .command-pair .ensures)), w .before .before .before .before .good)
 
 sub-script : tie.Need-sub-identify
-sub-script c = call-used-le _ _ _ (c .before .before .before .before .command-pair .ensures)
+sub-script c = call-used-le _ _ _ (plays-forgets _ (c .before .before .before .before .command-pair .ensures))
 
 sub-log : tie.Need-sub-identify-2
-sub-log c = call-tail-le _ _ _ (c .before .before .before .before .before .command-pair .ensures)
+sub-log c = call-tail-le _ _ _ (plays-forgets _ (c .before .before .before .before .before .command-pair .ensures))
 
 add-t22 : tie.Need-add-t22
 unfolding commandToKeyboard
 add-t22 c =
     let d = c .before .before .before in
     let w = d .before .before .before .before .before .before .before in
-    omega (arith, two-used-le pair _ _ _ (w .command-pair .ensures) refl (d .identify .ensures), w .before .before .before .before .good)
+    omega (arith, two-used-le pair _ _ _ (plays-forgets _ (w .command-pair .ensures)) refl (d .identify .ensures), w .before .before .before .before .good)
 
 add-t26 : tie.Need-add-t26
 unfolding commandToKeyboard
 add-t26 c =
     let d = c .before .before .before .before in
     let w = d .before .before .before .before .before .before .before in
-    omega (arith, two-pairs-le pair _ _ _ (w .command-pair .ensures) refl (d .identify .ensures), w .before .before .before .before .good)
+    omega (arith, two-pairs-le pair _ _ _ (plays-forgets _ (w .command-pair .ensures)) refl (d .identify .ensures), w .before .before .before .before .good)
 
 returns : tie.Need-returns
 unfolding commandToKeyboard
@@ -57,14 +58,14 @@ returns c =
     let d = c .before .before .before .before in
     let m = d .before .before .before in
     rw detect-pair at
-    (done-then pair (λ _. identification) _ _ _ (m .before .before .before .before .command-pair .ensures) (m .enum-told .given .1) refl (d .identify .ensures))
+    (done-then pair (λ _. identification) _ _ _ (plays-forgets _ (m .before .before .before .before .command-pair .ensures)) (m .enum-told .given .1) refl (d .identify .ensures))
 
 returns-2 : tie.Need-returns-2
 unfolding commandToKeyboard
 returns-2 c =
     let w = c .before .before .before .before .before in
     rw detect-pair at
-    (refused-then pair (λ _. identification) _ _ _ (w .command-pair .ensures) (c .before .accepted .given .0 .0) (c .before .accepted .given .1))
+    (refused-then pair (λ _. identification) _ _ _ (plays-forgets _ (w .command-pair .ensures)) (c .before .accepted .given .0 .0) (c .before .accepted .given .1))
 
 pub keyboard-detect-spec : {M : Type 1} → statement M
 keyboard-detect-spec =

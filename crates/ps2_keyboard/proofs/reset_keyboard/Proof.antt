@@ -4,6 +4,7 @@ use borrow.Author.Needs.{needs}
 use native.Mathlib.Omega.{arith}
 use Rattle.exchange.proofs.Position.{call-used-le}
 use Rattle.exchange.proofs.Calls.{two-used-le-reads}
+use Rattle.ps2_kept.proofs.Contracts.{plays-forgets}
 use Rattle.ps2_command.specs.Search.{selfTestWithin}
 use Rattle.ps2_answers.proofs.Then.{done-then-reads, refused-then}
 use Rattle.ps2_keyboard.specs.Keyboard.{resetReads, resetKeyboard}
@@ -11,27 +12,27 @@ use Rattle.ps2_keyboard.proofs.reset_keyboard.Statement.{statement}
 use Rattle.ps2_keyboard.proofs.reset_keyboard.Tie as tie
 
 sub-read-self-test-result : tie.Need-sub-read-self-test-result
-sub-read-self-test-result c = call-used-le _ _ _ (c .before .before .before .before .command-to-keyboard .ensures)
+sub-read-self-test-result c = call-used-le _ _ _ (plays-forgets _ (c .before .before .before .before .command-to-keyboard .ensures))
 
 add-t16 : tie.Need-add-t16
 add-t16 c =
     let d = c .before in
     let w = d .before .before .before .before .before .before in
-    omega (arith, two-used-le-reads _ _ _ _ (w .command-to-keyboard .ensures) (d .read-self-test-result .ensures), w .before .before .before .before .good)
+    omega (arith, two-used-le-reads _ _ _ _ (plays-forgets _ (w .command-to-keyboard .ensures)) (d .read-self-test-result .ensures), w .before .before .before .before .good)
 
 returns : tie.Need-returns
 unfolding resetKeyboard
 returns c =
     let d = c .before in
     let m = d .before .before in
-    done-then-reads _ (λ _. selfTestWithin resetReads) _ _ _ (m .before .before .before .before .command-to-keyboard .ensures) (m .enum-told .given .1)
+    done-then-reads _ (λ _. selfTestWithin resetReads) _ _ _ (plays-forgets _ (m .before .before .before .before .command-to-keyboard .ensures)) (m .enum-told .given .1)
     (d .read-self-test-result .ensures)
 
 returns-2 : tie.Need-returns-2
 unfolding resetKeyboard
 returns-2 c =
     let w = c .before .before .before .before .before in
-    refused-then _ (λ _. selfTestWithin resetReads) _ _ _ (w .command-to-keyboard .ensures) (c .before .accepted .given .0 .0) (c .before .accepted .given .1)
+    refused-then _ (λ _. selfTestWithin resetReads) _ _ _ (plays-forgets _ (w .command-to-keyboard .ensures)) (c .before .accepted .given .0 .0) (c .before .accepted .given .1)
 
 pub reset-keyboard-spec : {M : Type 1} → statement M
 reset-keyboard-spec =

@@ -7,7 +7,7 @@ use Rattle.ps2_mouse.proofs.PS2Mouse.command_to_mouse.Tie as tie
 
 returns : tie.Need-returns
 unfolding commandToMouse
-returns c = c .before .before .command-to-port2 .ensures
+returns c = c .before .before .command-by .ensures
 
 pub command-to-mouse-spec : {M : Type 1} → statement M
 command-to-mouse-spec = tie.close (tie.spec (λ c κs. search needs) (λ c. search needs) returns)

@@ -6,28 +6,29 @@ use Rattle.exchange.proofs.Position.{call-used-le}
 use Rattle.exchange.proofs.Calls.{part-used-le}
 use Rattle.ps2_bytes.specs.declared.command.HostToMouseCommand.the-variants.{Reset}
 use Rattle.ps2_answers.proofs.Then.{done-then-reads, refused-then}
+use Rattle.ps2_kept.proofs.Contracts.{plays-forgets}
 use Rattle.ps2_mouse.specs.Mouse.{mouseCommand, resetMouse}
 use Rattle.ps2_mouse.proofs.PS2Mouse.reset.Statement.{statement}
 use Rattle.ps2_mouse.proofs.PS2Mouse.reset.Tie as tie
 
 sub-read-self-test-and-id : tie.Need-sub-read-self-test-and-id
-sub-read-self-test-and-id c = call-used-le _ _ _ (c .before .before .before .before .command-to-mouse .ensures)
+sub-read-self-test-and-id c = call-used-le _ _ _ (plays-forgets _ (c .before .before .before .before .command-to-mouse .ensures))
 
 add-t16 : tie.Need-add-t16
 add-t16 c =
     let a = c .before .before .before .before .before .before .before in
-    omega (arith, part-used-le (a .before .before .before .before .args .script .now) _ (call-used-le _ _ _ (a .command-to-mouse .ensures)) (c .before .read-self-test-and-id .ensures), a .before .before .before .before .good)
+    omega (arith, part-used-le (a .before .before .before .before .args .script .now) _ (call-used-le _ _ _ (plays-forgets _ (a .command-to-mouse .ensures))) (c .before .read-self-test-and-id .ensures), a .before .before .before .before .good)
 
 returns : tie.Need-returns
 unfolding resetMouse
 returns c =
     let t = c .before .before .before in
-    done-then-reads (mouseCommand Reset) _ _ _ _ (t .before .before .before .before .command-to-mouse .ensures) (t .enum-told .given .1) (c .before .read-self-test-and-id .ensures)
+    done-then-reads (mouseCommand Reset) _ _ _ _ (plays-forgets _ (t .before .before .before .before .command-to-mouse .ensures)) (t .enum-told .given .1) (c .before .read-self-test-and-id .ensures)
 
 returns-2 : tie.Need-returns-2
 unfolding resetMouse
 returns-2 c =
-    refused-then (mouseCommand Reset) _ _ _ _ (c .before .before .before .before .before .command-to-mouse .ensures)
+    refused-then (mouseCommand Reset) _ _ _ _ (plays-forgets _ (c .before .before .before .before .before .command-to-mouse .ensures))
     (c .before .accepted .given .0 .0) (c .before .accepted .given .1)
 
 pub reset-spec : {M : Type 1} → statement M

@@ -7,7 +7,7 @@ use Rattle.ps2_mouse.proofs.PS2Mouse.set_mouse_sampling_rate.Tie as tie
 
 returns : tie.Need-returns
 unfolding setSamplingRate commandToMouse
-returns c = c .failing-as .ensures _ _ _ _ (c .before .before .before .command-pair .ensures)
+returns c = c .completed-as .ensures _ _ _ _ (c .before .before .before .command-pair .ensures)
 
 pub set-mouse-sampling-rate-spec : {M : Type 1} → statement M
 set-mouse-sampling-rate-spec = tie.close (tie.spec (λ c κs. search needs) (λ c κs. search needs) (λ c. search needs) returns)

@@ -1,0 +1,101 @@
+-- Every scancode that a list of calls counts, and every one that waits after it, is a byte of its scripts.
+-- Assumes nothing.
+use mathlib.Core.Bool.{Bool, true, false, not, cond}
+use mathlib.Core.List.{List, [], _∷_, _++_}
+use mathlib.Core.Option.{Option, none, some}
+use Prim.Native.Nat.{ℕ, zero, suc, _<_}
+use lib.ListN.{take, getD}
+use Rattle.exchange.specs.Exchange.{p60, p64, Exchange, done, read, write, play}
+use Rattle.exchange.specs.Answer.{Answer}
+use Rattle.exchange.specs.Attains.{Bytes}
+use Rattle.exchange.specs.Keeping.{keeping}
+use Rattle.ps2_kept.specs.Thrown.{unlisted, thrown}
+use Rattle.keyboard_scancodes.specs.FlagTable.{isLockPress}
+use Rattle.keyboard_scancodes.specs.Lamps.{lampsLit}
+use Rattle.keyboard.specs.Scancode.{Took, took, takes, thrownAt, lampsRanOut, caught, scancode}
+use Rattle.keyboard_history.specs.Past.{Past, _▸_}
+use Rattle.keyboard_history.specs.Said.{flagsSaid}
+use Rattle.keyboard_history.specs.Counted.{Call, count, behind, room, scancodeAfter, thrownBy, thrownAfter, behindAfter, joinedAfter, waitingAfter, counted, waits}
+use Rattle.keyboard_history.specs.Bytes.{AllBytes, no-bytes, one-more, ByteCalls, no-calls, one-handling, one-taking}
+
+-- ---- lists of bytes
+
+bytes-append : (x y : List ℕ) → Bytes x → Bytes y → Bytes (x ++ y)
+bytes-append [] y hx hy = hy
+bytes-append (b ∷ x) y hx hy = (hx .0, bytes-append x y (hx .1) hy)
+
+bytes-take : (n : ℕ) (x : List ℕ) → Bytes x → Bytes (take n x)
+bytes-take zero x h = tt
+bytes-take (suc n) [] h = tt
+bytes-take (suc n) (b ∷ x) h = (h .0, bytes-take n x (h .1))
+
+bytes-behind : (sc : Option ℕ) (x : List ℕ) → Bytes x → Bytes (behind sc x)
+bytes-behind none x h = h
+bytes-behind (some c) [] h = tt
+bytes-behind (some c) (b ∷ x) h = h .1
+
+bytes-script : (s : List ℕ) → ((n : ℕ) → getD s n 0 < 256) → Bytes s
+bytes-script [] h = tt
+bytes-script (b ∷ s) h = (h 0, bytes-script s (λ n. h (suc n)))
+
+-- ---- an operation throws away bytes of its script
+
+bytes-thrown : (c : Bool) (m : List ℕ) (b : ℕ) → Bytes m → b < 256 → Bytes (cond c (m ++ (b ∷ [])) m)
+bytes-thrown true m b hm hb = bytes-append m (b ∷ []) hm (hb, tt)
+bytes-thrown false m b hm hb = hm
+
+thrown-bytes : {A : Type 0} (t : Exchange A) (m s l : List ℕ) → Bytes m → Bytes s → Bytes (thrownAt (play (keeping thrown m t) s l .end))
+unfolding keeping play
+thrown-bytes (done a) m s l hm hs = hm
+thrown-bytes (read p f) m [] l hm hs = tt
+thrown-bytes (read p60 f) m (b ∷ s) l hm hs = thrown-bytes (f b) (thrown m b) s l (bytes-thrown (unlisted b) m b hm (hs .0)) (hs .1)
+thrown-bytes (read p64 f) m (b ∷ s) l hm hs = thrown-bytes (f b) m s l hm (hs .1)
+thrown-bytes (write p v t) m s [] hm hs = tt
+thrown-bytes (write p v t) m s (x ∷ []) hm hs = tt
+thrown-bytes (write p v t) m s (x ∷ y ∷ l) hm hs = thrown-bytes t m s l hm hs
+
+module _ {A : Type 0} (lamps : ℕ → Exchange (Answer A)) where
+  caught-bytes : (flags : ℕ → ℕ) (t : Took) (l : List ℕ) → Bytes (t .script) → Bytes (caught lamps flags t l)
+  unfolding caught
+  caught-bytes flags t l h = by (isLockPress (t .byte))
+    where
+      by : (c : Bool) → Bytes (cond c (thrownAt (play (keeping thrown [] (lamps (lampsLit (flags (t .byte))))) (t .script) l .end)) [])
+      by true = thrown-bytes (lamps (lampsLit (flags (t .byte)))) [] (t .script) l tt h
+      by false = tt
+
+  -- ---- a call counts a byte that waits, or one of its script
+
+  module _ (bytes : Past ℕ) (l : List ℕ) where
+    count-bytes : (c : Bool) (b : ℕ) → AllBytes bytes → b < 256 → AllBytes (count bytes (cond c (some b) none))
+    count-bytes true b all h = one-more all h
+    count-bytes false b all h = all
+
+    scanned-bytes : (ws s : List ℕ) → AllBytes bytes → Bytes ws → Bytes s → AllBytes (count bytes (scancodeAfter lamps bytes ws s l))
+    unfolding scancodeAfter scancode
+    scanned-bytes [] [] all hw hs = all
+    scanned-bytes [] (b ∷ s) all hw hs = count-bytes (not (lampsRanOut lamps (λ b. flagsSaid (bytes ▸ b)) (took b [] s) l)) b all (hs .0)
+    scanned-bytes (b ∷ ws) s all hw hs = count-bytes (not (lampsRanOut lamps (λ b. flagsSaid (bytes ▸ b)) (took b ws s) l)) b all (hw .0)
+
+    by-took : (ws s : List ℕ) → Bytes s → Bytes (thrownBy lamps (λ b. flagsSaid (bytes ▸ b)) (takes ws s) l)
+    by-took [] [] h = tt
+    by-took [] (b ∷ s) h = caught-bytes (λ b. flagsSaid (bytes ▸ b)) (took b [] s) l (h .1)
+    by-took (b ∷ ws) s h = caught-bytes (λ b. flagsSaid (bytes ▸ b)) (took b ws s) l h
+
+    waited-bytes : (ws s : List ℕ) → Bytes ws → Bytes s → Bytes (waitingAfter lamps bytes ws s l)
+    unfolding behindAfter joinedAfter thrownAfter
+    waited-bytes ws s hw hs =
+        let sc = scancodeAfter lamps bytes ws s l in
+        bytes-append (behind sc ws) (joinedAfter lamps bytes ws s l) (bytes-behind sc ws hw)
+        (bytes-take (room (behind sc ws)) (thrownAfter lamps bytes ws s l) (by-took ws s hs))
+
+  -- ---- so do all calls of a list
+
+  pub counted-bytes : {calls : Past Call} → ByteCalls calls → AllBytes (counted lamps calls) × Bytes (waits lamps calls)
+  unfolding counted waits
+  counted-bytes no-calls = (no-bytes, tt)
+  counted-bytes (one-handling {past = past} {script = s} {log = l} all h) =
+      let r = counted-bytes all in (
+        scanned-bytes (counted lamps past) l (waits lamps past) s (r .0) (r .1) (bytes-script s h),
+        waited-bytes (counted lamps past) l (waits lamps past) s (r .1) (bytes-script s h),
+      )
+  counted-bytes (one-taking all) = counted-bytes all

@@ -1,0 +1,55 @@
+-- Nothing is lost (request 2.3), for every lamp exchange and every list of calls.
+-- Assumes nothing.
+use mathlib.Core.Path.{_≡_, refl, ap, sym, subst, _∙_}
+use mathlib.Core.List.{List, _++_, append-assoc}
+use Prim.Native.Nat.{ℕ}
+use lib.ListN.{length, take, drop, take-append-drop}
+use Rattle.exchange.specs.Exchange.{Exchange}
+use Rattle.exchange.specs.Answer.{Answer}
+use Rattle.keyboard_history.specs.Past.{Past, nothing, _▸_, each}
+use Rattle.keyboard_history.specs.Counted.{Call, handling, taking, behind, room, scancodeAfter, thrownAfter, behindAfter, joinedAfter, droppedAfter, counted, waits}
+use Rattle.keyboard_history.specs.Waited.{fromWaiting, thrownAway, joined, dropped, takenWaiting}
+use Rattle.keyboard_history.specs.NothingLost.{inOrder, Reported, no-call, one-call, NothingLost}
+use Rattle.keyboard_history.proofs.Waited.{oldest-taken}
+use Rattle.keyboard_history.proofs.History.{history}
+
+module _ {A : Type 0} (lamps : ℕ → Exchange (Answer A)) where
+  -- ---- those that found room, and the others
+
+  one-reported : {thrown joined : Past (List ℕ)} {reported : Past ℕ} → Reported thrown joined reported → (bytes : Past ℕ) (ws s l : List ℕ)
+      → Reported (thrown ▸ thrownAfter lamps bytes ws s l) (joined ▸ joinedAfter lamps bytes ws s l) (reported ▸ length (droppedAfter lamps bytes ws s l))
+  unfolding joinedAfter droppedAfter
+  one-reported {thrown = thrown} {joined = joined} {reported = reported} r bytes ws s l =
+      let n = room (behindAfter lamps bytes ws s l) in
+      let all = thrownAfter lamps bytes ws s l in
+      subst (λ (x : List ℕ). Reported (thrown ▸ x) (joined ▸ take n all) (reported ▸ length (drop n all))) (take-append-drop n all)
+      (one-call r (drop n all))
+
+  all-reported : (calls : Past Call) → Reported (thrownAway lamps calls) (joined lamps calls) (each length (dropped lamps calls))
+  unfolding thrownAway joined dropped each
+  all-reported nothing = no-call
+  all-reported (past ▸ handling s l) = one-reported (all-reported past) (counted lamps past) (waits lamps past) s l
+  all-reported (past ▸ taking) = all-reported past
+
+  -- ---- those that were taken, and those that wait
+
+  all-waited : (calls : Past Call) → takenWaiting lamps calls ++ waits lamps calls ≡ inOrder (joined lamps calls)
+  unfolding takenWaiting waits joined inOrder behindAfter
+  all-waited nothing = refl
+  all-waited (past ▸ handling s l) =
+      let bytes = counted lamps past in
+      let ws = waits lamps past in
+      let sc = scancodeAfter lamps bytes ws s l in
+      let new = joinedAfter lamps bytes ws s l in
+      append-assoc (takenWaiting lamps past) (fromWaiting sc ws) (behind sc ws ++ new)
+      ∙ ap (λ (x : List ℕ). takenWaiting lamps past ++ x) (sym (append-assoc (fromWaiting sc ws) (behind sc ws) new) ∙ ap (λ (x : List ℕ). x ++ new) (oldest-taken lamps bytes ws s l))
+      ∙ sym (append-assoc (takenWaiting lamps past) ws new)
+      ∙ ap (λ (x : List ℕ). x ++ new) (all-waited past)
+  all-waited (past ▸ taking) = all-waited past
+
+  pub nothing-lost : (calls : Past Call) → NothingLost lamps calls
+  nothing-lost calls =
+      record {
+        others-reported = rw (history lamps calls .drops) (all-reported calls);
+        taken-then-waiting = rw (history lamps calls .waiting-bytes) (all-waited calls);
+      }

@@ -1,0 +1,94 @@
+-- The history rule speaks of bytes that wait: a letter typed during a lamp exchange, 17 of them, a lock among them, and a 2 that leaves one where it was. What the list says is computed; the record and the answers follow by the rule.
+-- Assumes nothing.
+use mathlib.Core.Path.{_≡_, refl, _∙_}
+use mathlib.Core.Bool.{true, false}
+use mathlib.Core.List.{[], _∷_}
+use Rattle.bits.specs.Bits.{odd, bit, putBit}
+use Rattle.bits.specs.Table.{decode}
+use Rattle.exchange.specs.Exchange.{play}
+use Rattle.exchange.specs.Keeping.{keeping}
+use Rattle.keycodes_ascii.specs.declared.Keycode.{Keycode}
+use Rattle.keycodes_ascii.specs.Keycode.{keycodeOf, numbered, keycodes}
+use Rattle.keyboard_scancodes.specs.FlagTable.{flagTable, isOf, pressesLock}
+use Rattle.keyboard_scancodes.specs.Lamps.{lampsLit}
+use Rattle.keyboard_scancodes.specs.Events.{keycodeAt, eventOf}
+use Rattle.keyboard_scancodes.specs.Waiting.{waitingBytes}
+use Rattle.keyboard_record.specs.Queue.{waiting}
+use Rattle.keyboard.specs.Answers.{ends2-3-21}
+use Rattle.keyboard.specs.Scancode.{caught, scancode}
+use Rattle.keyboard_history.specs.Past.{nothing, _▸_, each}
+use Rattle.keyboard_history.specs.Said.{prefixSaid, strokes, times, lastWasPress, saidOf, wordOf, flagsSaid, eventGiven}
+use Rattle.keyboard_history.specs.Counted.{scancodeAfter, thrownAfter, behindAfter, joinedAfter, droppedAfter, counted, waits, counts}
+use Rattle.keyboard_history.specs.Waited.{dropped}
+use Rattle.keyboard_history.specs.Row.{lessMet, givenTo, newly, row}
+use Rattle.keyboard_history.specs.Run.{after, answers, reported}
+use Rattle.keyboard_history.specs.Examples.{press, untilFA, patientLamps, letterInLamps, seventeen, lockWaits, lockFirstOf16, waitingCut, waitingLit}
+use Rattle.keyboard_history.proofs.History.{history}
+
+-- ---- a letter typed during Caps Lock's lamp exchange gives its event in the next call, which has no script
+
+letter-row : row patientLamps letterInLamps ≡ press Keycode.CapsLock 0x80 ∷ press Keycode.A 0x80 ∷ []
+unfolding row newly givenTo lessMet counted waits behindAfter joinedAfter thrownAfter caught scancodeAfter scancode keeping decode play untilFA flagsSaid wordOf saidOf times lastWasPress strokes prefixSaid flagTable isOf pressesLock lampsLit putBit odd bit eventGiven eventOf keycodeAt keycodeOf numbered keycodes
+letter-row = refl
+
+pub letter-waits : waiting (after patientLamps letterInLamps) ≡ press Keycode.CapsLock 0x80 ∷ press Keycode.A 0x80 ∷ []
+letter-waits = history patientLamps letterInLamps .queue ∙ letter-row
+
+-- ---- 17 bytes come: the earliest 16 wait, and one is reported
+
+seventeen-said :
+    (waits patientLamps seventeen ≡ 0x10 ∷ 0x11 ∷ 0x12 ∷ 0x13 ∷ 0x14 ∷ 0x15 ∷ 0x16 ∷ 0x17 ∷ 0x18 ∷ 0x19 ∷ 0x1A ∷ 0x1B ∷ 0x1C ∷ 0x1D ∷ 0x1E ∷ 0x1F ∷ [])
+    × (dropped patientLamps seventeen ≡ nothing ▸ (0x20 ∷ []))
+unfolding dropped droppedAfter counted waits behindAfter joinedAfter thrownAfter caught scancodeAfter scancode keeping decode play untilFA flagTable isOf pressesLock
+seventeen-said = (refl, refl)
+
+pub seventeen-wait : waitingBytes (after patientLamps seventeen .state .keyboard .waiting)
+    ≡ 0x10 ∷ 0x11 ∷ 0x12 ∷ 0x13 ∷ 0x14 ∷ 0x15 ∷ 0x16 ∷ 0x17 ∷ 0x18 ∷ 0x19 ∷ 0x1A ∷ 0x1B ∷ 0x1C ∷ 0x1D ∷ 0x1E ∷ 0x1F ∷ []
+seventeen-wait = history patientLamps seventeen .waiting-bytes ∙ seventeen-said .0
+
+pub seventeen-reported : reported patientLamps seventeen ≡ nothing ▸ 1
+unfolding each
+seventeen-reported = history patientLamps seventeen .drops ∙ rw (seventeen-said .1)
+
+-- ---- a lock waits among the bytes, and what its own lamp exchange catches waits behind those that waited
+
+lock-row : row patientLamps lockWaits ≡ press Keycode.CapsLock 0x80 ∷ press Keycode.NumLock 0x180 ∷ press Keycode.A 0x180 ∷ press Keycode.B 0x180 ∷ []
+unfolding row newly givenTo lessMet counted waits behindAfter joinedAfter thrownAfter caught scancodeAfter scancode keeping decode play untilFA flagsSaid wordOf saidOf times lastWasPress strokes prefixSaid flagTable isOf pressesLock lampsLit putBit odd bit eventGiven eventOf keycodeAt keycodeOf numbered keycodes
+lock-row = refl
+
+pub lock-waits : waiting (after patientLamps lockWaits) ≡ press Keycode.CapsLock 0x80 ∷ press Keycode.NumLock 0x180 ∷ press Keycode.A 0x180 ∷ press Keycode.B 0x180 ∷ []
+lock-waits = history patientLamps lockWaits .queue ∙ lock-row
+
+-- ---- 16 wait, and the oldest is a lock: of two bytes that its exchange catches one finds its place, and one is reported
+
+first-said :
+    (waits patientLamps lockFirstOf16 ≡ 0x10 ∷ 0x11 ∷ 0x12 ∷ 0x13 ∷ 0x14 ∷ 0x15 ∷ 0x16 ∷ 0x17 ∷ 0x18 ∷ 0x19 ∷ 0x1A ∷ 0x1B ∷ 0x1C ∷ 0x1D ∷ 0x1F ∷ 0x1E ∷ [])
+    × (dropped patientLamps lockFirstOf16 ≡ nothing ▸ [] ▸ (0x30 ∷ []))
+unfolding dropped droppedAfter counted waits behindAfter joinedAfter thrownAfter caught scancodeAfter scancode keeping decode play untilFA flagTable isOf pressesLock
+first-said = (refl, refl)
+
+pub first-wait : waitingBytes (after patientLamps lockFirstOf16 .state .keyboard .waiting)
+    ≡ 0x10 ∷ 0x11 ∷ 0x12 ∷ 0x13 ∷ 0x14 ∷ 0x15 ∷ 0x16 ∷ 0x17 ∷ 0x18 ∷ 0x19 ∷ 0x1A ∷ 0x1B ∷ 0x1C ∷ 0x1D ∷ 0x1F ∷ 0x1E ∷ []
+first-wait = history patientLamps lockFirstOf16 .waiting-bytes ∙ first-said .0
+
+pub first-reported : reported patientLamps lockFirstOf16 ≡ nothing ▸ 0 ▸ 1
+unfolding each
+first-reported = history patientLamps lockFirstOf16 .drops ∙ rw (first-said .1)
+
+-- ---- a call that ends in 2 inside the exchange of a lock that waited leaves it waiting, and drops nothing; the next call takes it
+
+lock-cut-said :
+    (counts patientLamps waitingCut ≡ nothing ▸ true ▸ false) × (waits patientLamps waitingCut ≡ 0x45 ∷ [])
+    × (counted patientLamps waitingLit ≡ nothing ▸ 0x3A ▸ 0x45) × (waits patientLamps waitingLit ≡ [])
+unfolding counts counted waits behindAfter joinedAfter thrownAfter caught scancodeAfter scancode keeping decode play untilFA flagTable isOf pressesLock
+lock-cut-said = (refl, refl, refl, refl)
+
+pub lock-cut-ends : each ends2-3-21 (answers patientLamps waitingCut) ≡ nothing ▸ false ▸ true
+unfolding each
+lock-cut-ends = history patientLamps waitingCut .left-out ∙ rw (lock-cut-said .0)
+
+pub lock-cut-waits : waitingBytes (after patientLamps waitingCut .state .keyboard .waiting) ≡ 0x45 ∷ []
+lock-cut-waits = history patientLamps waitingCut .waiting-bytes ∙ lock-cut-said .1
+
+pub lock-lit-waits : waitingBytes (after patientLamps waitingLit .state .keyboard .waiting) ≡ []
+lock-lit-waits = history patientLamps waitingLit .waiting-bytes ∙ lock-cut-said .3
