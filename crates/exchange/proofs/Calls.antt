@@ -40,7 +40,7 @@ module _ {A : Type 0} (t : Exchange A) where
   left-used-le : (s : List ℕ) (u : ℕ) (x : List ℕ) {e : End A} {u₂ w₂ : ℕ} {m : List ℕ} → u ≤ length s → played e u₂ w₂ m ≡ play t (part u s) x → u + u₂ ≤ length s
   left-used-le s u x h r = omega (arith, length-drop u s, rw (part-drop u s) at (call-used-le t (part u s) x r))
 
-  left-pairs-le : (x l : List ℕ) (w : ℕ) {e : End A} {k u₂ w₂ : ℕ} {m : List ℕ} → 2 * w ≤ length l → k ≡ 2 * w → played e u₂ w₂ m ≡ play t x (part k l)
+  pub left-pairs-le : (x l : List ℕ) (w : ℕ) {e : End A} {k u₂ w₂ : ℕ} {m : List ℕ} → 2 * w ≤ length l → k ≡ 2 * w → played e u₂ w₂ m ≡ play t x (part k l)
       → 2 * (w + w₂) ≤ length l
   left-pairs-le x l w {k = k} p h r = omega (arith, length-drop k l, rw (part-drop k l) at (call-pairs-le t x (part k l) r))
 

@@ -6,6 +6,7 @@ pub mod Kept
 pub mod Sequence
 pub mod Position
 pub mod Calls
+pub mod Counts
 pub mod Told
 pub mod Left
 pub mod Repeat

@@ -5,7 +5,8 @@ use native.Mathlib.Omega.{arith}
 use mathlib.Core.Path.{refl, ap}
 use Rattle.exchange.specs.Answer.{andThen}
 use Rattle.exchange.specs.Keeping.{NoData, no-data-done, no-data-write}
-use Rattle.exchange.proofs.Position.{call-pairs-le, writes-pairs-le, writes-tail-le}
+use Rattle.exchange.proofs.Position.{call-pairs-le}
+use Rattle.exchange.proofs.Counts.{counts}
 use Rattle.ps2_bytes.specs.declared.command.HostToControllerCommand.the-variants.{WriteByteToPort2InputBuffer}
 use Rattle.ps2_answers.specs.Refusals.{saidDone}
 use Rattle.ps2_kept.proofs.Sequence.{writes-then-keeps, no-data-refused}
@@ -17,14 +18,6 @@ use Rattle.ps2_command.proofs.command_to_port2_onto.Tie as tie
 no-data-d4 : NoData (writeCommand WriteByteToPort2InputBuffer)
 unfolding writePort
 no-data-d4 = no-data-write no-data-done
-
-mul-at : tie.Need-mul-at
-mul-at c =
-    let w = c .before .before .before .before in
-    omega (arith, writes-pairs-le (w .write-command .ensures), w .before .before .before .before .good)
-
-sub-command : tie.Need-sub-command-onto
-sub-command c = writes-tail-le (c .before .before .before .before .write-command .ensures)
 
 returns : tie.Need-returns
 unfolding commandToPort2 andThen
@@ -52,5 +45,5 @@ pub command-to-port2-onto-spec : {M : Type 1} → statement M
 command-to-port2-onto-spec =
     tie.close
     (tie.spec
-    (λ c κs. search needs) (λ c. search needs) mul-at sub-command sub-command (λ c. search needs) (λ c κs. search needs) add-t18 (λ c. search needs)
-    (λ c κs. search needs) (λ c. search needs) returns (λ c. search needs) returns-2)
+    (λ c κs. search needs) (λ c. search needs) (λ c. search counts) (λ c. search counts) (λ c. search counts) (λ c. search needs)
+    (λ c κs. search needs) add-t18 (λ c. search needs) (λ c κs. search needs) (λ c. search needs) returns (λ c. search needs) returns-2)

@@ -6,8 +6,8 @@ use mathlib.Core.Path.{_≡_, refl}
 use Rattle.exchange.specs.Exchange.{Exchange}
 use Rattle.exchange.specs.Answer.{Answer, andThen}
 use Rattle.exchange.proofs.Grouping.{andThen-assoc}
-use Rattle.exchange.proofs.Position.{call-used-le, call-pairs-le, call-tail-le}
 use Rattle.exchange.proofs.Calls.{two-used-le, two-pairs-le}
+use Rattle.exchange.proofs.Counts.{counts}
 use Rattle.ps2_bytes.specs.declared.command.HostToKeyboardCommand.the-variants.{DisableScanning, IdentifyKeyboard}
 use Rattle.ps2_answers.specs.Refusals.{Success}
 use Rattle.ps2_answers.proofs.Then.{done-then, refused-then}
@@ -25,18 +25,6 @@ pair = andThen (keyboardCommand DisableScanning) (λ _. keyboardCommand Identify
 detect-pair : andThen pair (λ _. identification) ≡ keyboardDetect
 unfolding keyboardDetect
 detect-pair = andThen-assoc (keyboardCommand DisableScanning) (λ _. keyboardCommand IdentifyKeyboard) (λ _. identification)
-
-mul-at : tie.Need-mul-at
-unfolding commandToKeyboard
-mul-at c =
-    let w = c .before .before .before .before in
-    omega (arith, call-pairs-le pair _ _ (plays-forgets _ (w .command-pair .ensures)), w .before .before .before .before .good)
-
-sub-script : tie.Need-sub-identify
-sub-script c = call-used-le _ _ _ (plays-forgets _ (c .before .before .before .before .command-pair .ensures))
-
-sub-log : tie.Need-sub-identify-2
-sub-log c = call-tail-le _ _ _ (plays-forgets _ (c .before .before .before .before .before .command-pair .ensures))
 
 add-t22 : tie.Need-add-t22
 unfolding commandToKeyboard
@@ -71,5 +59,6 @@ pub keyboard-detect-spec : {M : Type 1} → statement M
 keyboard-detect-spec =
     tie.close
     (tie.spec
-    (λ c κs. search needs) (λ c. search needs) mul-at sub-script sub-script (λ c. search needs) sub-log sub-log (λ c. search needs)
-    (λ c κs. search needs) add-t22 add-t26 (λ c. search needs) (λ c. search needs) returns (λ c. search needs) returns-2)
+    (λ c κs. search needs) (λ c. search needs) (λ c. search counts) (λ c. search counts) (λ c. search counts) (λ c. search needs) (λ c. search counts)
+    (λ c. search counts) (λ c. search needs) (λ c κs. search needs) add-t22 add-t26 (λ c. search needs) (λ c. search needs) returns
+    (λ c. search needs) returns-2)

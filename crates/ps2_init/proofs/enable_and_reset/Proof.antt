@@ -2,10 +2,11 @@
 -- Assumes nothing.
 use borrow.Author.Needs.{needs}
 use native.Mathlib.Omega.{arith}
-use mathlib.Core.Path.{refl, ap}
-use Rattle.exchange.specs.Answer.{onGiven, andThen}
-use Rattle.exchange.proofs.Position.{call-pairs-le, writes-pairs-le, writes-tail-le}
+use mathlib.Core.Path.{ap}
+use Rattle.exchange.specs.Answer.{andThen}
+use Rattle.exchange.proofs.Position.{call-pairs-le}
 use Rattle.exchange.proofs.Calls.{writes-then}
+use Rattle.exchange.proofs.Counts.{counts}
 use Rattle.ps2_answers.proofs.Refusals.{bind-refused}
 use Rattle.exchange.specs.Exchange.{bind}
 use Rattle.ps2_answers.specs.Refusals.{saidDone}
@@ -15,22 +16,9 @@ use Rattle.ps2_setup.specs.Answers.{portsOf}
 use Rattle.ps2_init.proofs.enable_and_reset.Statement.{statement}
 use Rattle.ps2_init.proofs.enable_and_reset.Tie as tie
 
-mul-at : tie.Need-mul-at
-mul-at c =
-    let w = c .before .before .before .before in
-    omega (arith, writes-pairs-le (w .enable-ports .ensures), w .before .before .before .before .good)
-
-sub-reset-devices : tie.Need-sub-reset-devices
-sub-reset-devices c = writes-tail-le (c .before .before .before .before .enable-ports .ensures)
-
 returns : tie.Need-returns
 unfolding andThen
-returns c =
-    let a = c .before .before .before .before .before .before .before .before .before .before .before .before .before .args in
-    let d = c .before .before .before in
-    let m = d .before .before in
-    writes-then (enablePorts (portsOf (a .ports)) (a .config)) (onGiven (λ _. bind resetDevices readLast)) _ (m .before .before .before .before .enable-ports .ensures) _
-    (ap saidDone (m .enum-told .given .1)) refl (d .reset-devices .ensures)
+returns c = search (writes-then, ap saidDone (c .before .before .before .before .before .enum-told .given .1))
 
 add-t16 : tie.Need-add-t16
 add-t16 c = omega (arith, call-pairs-le _ _ _ (returns c), c .before .before .before .before .before .before .before .before .before .before .before .before .before .good)
@@ -46,5 +34,5 @@ pub enable-and-reset-spec : {M : Type 1} → statement M
 enable-and-reset-spec =
     tie.close
     (tie.spec
-    (λ c κs. search needs) (λ c. search needs) mul-at sub-reset-devices sub-reset-devices (λ c. search needs) (λ c κs. search needs) add-t16
-    (λ c. search needs) (λ c. search needs) returns (λ c. search needs) returns-2)
+    (λ c κs. search needs) (λ c. search needs) (λ c. search counts) (λ c. search counts) (λ c. search counts) (λ c. search needs)
+    (λ c κs. search needs) add-t16 (λ c. search needs) (λ c. search needs) returns (λ c. search needs) returns-2)

@@ -2,16 +2,12 @@
 -- Assumes nothing.
 use borrow.Author.Needs.{needs}
 use native.Mathlib.Omega.{arith}
-use Rattle.exchange.proofs.Position.{call-used-le}
 use Rattle.exchange.proofs.Calls.{two-used-le-reads}
+use Rattle.exchange.proofs.Counts.{counts}
 use Rattle.ps2_answers.proofs.Then.{done-then-reads, refused-then}
 use Rattle.ps2_keyboard.specs.Keyboard.{getScancodeSet}
-use Rattle.ps2_keyboard.specs.Parts.{setSearch}
 use Rattle.ps2_keyboard.proofs.get_keyboard_scancode_set.Statement.{statement}
 use Rattle.ps2_keyboard.proofs.get_keyboard_scancode_set.Tie as tie
-
-sub-poll-scancode-set : tie.Need-sub-poll-scancode-set
-sub-poll-scancode-set c = call-used-le _ _ _ (c .before .before .before .before .command-scancode-set .ensures)
 
 add-t15 : tie.Need-add-t15
 add-t15 c =
@@ -21,20 +17,15 @@ add-t15 c =
 
 returns : tie.Need-returns
 unfolding getScancodeSet
-returns c =
-    let d = c .before in
-    let m = d .before .before in
-    done-then-reads _ (λ _. setSearch) _ _ _ (m .before .before .before .before .command-scancode-set .ensures) (m .enum-told .given .1) (d .poll-scancode-set .ensures)
+returns c = search done-then-reads
 
 returns-2 : tie.Need-returns-2
 unfolding getScancodeSet
-returns-2 c =
-    let w = c .before .before .before .before .before in
-    refused-then _ (λ _. setSearch) _ _ _ (w .command-scancode-set .ensures) (c .before .accepted .given .0 .0) (c .before .accepted .given .1)
+returns-2 c = search refused-then
 
 pub get-keyboard-scancode-set-spec : {M : Type 1} → statement M
 get-keyboard-scancode-set-spec =
     tie.close
     (tie.spec
-    (λ c κs. search needs) (λ c. search needs) sub-poll-scancode-set sub-poll-scancode-set (λ c. search needs) (λ c κs. search needs) add-t15
+    (λ c κs. search needs) (λ c. search needs) (λ c. search counts) (λ c. search counts) (λ c. search needs) (λ c κs. search needs) add-t15
     (λ c. search needs) (λ c. search needs) returns (λ c. search needs) returns-2)

@@ -2,17 +2,13 @@
 -- Assumes nothing.
 use borrow.Author.Needs.{needs}
 use native.Mathlib.Omega.{arith}
-use Rattle.exchange.proofs.Position.{call-used-le}
 use Rattle.exchange.proofs.Calls.{two-used-le-reads}
+use Rattle.exchange.proofs.Counts.{counts}
 use Rattle.ps2_kept.proofs.Contracts.{plays-forgets}
-use Rattle.ps2_command.specs.Search.{selfTestWithin}
 use Rattle.ps2_answers.proofs.Then.{done-then-reads, refused-then}
-use Rattle.ps2_keyboard.specs.Keyboard.{resetReads, resetKeyboard}
+use Rattle.ps2_keyboard.specs.Keyboard.{resetKeyboard}
 use Rattle.ps2_keyboard.proofs.reset_keyboard.Statement.{statement}
 use Rattle.ps2_keyboard.proofs.reset_keyboard.Tie as tie
-
-sub-read-self-test-result : tie.Need-sub-read-self-test-result
-sub-read-self-test-result c = call-used-le _ _ _ (plays-forgets _ (c .before .before .before .before .command-to-keyboard .ensures))
 
 add-t16 : tie.Need-add-t16
 add-t16 c =
@@ -22,21 +18,15 @@ add-t16 c =
 
 returns : tie.Need-returns
 unfolding resetKeyboard
-returns c =
-    let d = c .before in
-    let m = d .before .before in
-    done-then-reads _ (λ _. selfTestWithin resetReads) _ _ _ (plays-forgets _ (m .before .before .before .before .command-to-keyboard .ensures)) (m .enum-told .given .1)
-    (d .read-self-test-result .ensures)
+returns c = search (done-then-reads, plays-forgets)
 
 returns-2 : tie.Need-returns-2
 unfolding resetKeyboard
-returns-2 c =
-    let w = c .before .before .before .before .before in
-    refused-then _ (λ _. selfTestWithin resetReads) _ _ _ (plays-forgets _ (w .command-to-keyboard .ensures)) (c .before .accepted .given .0 .0) (c .before .accepted .given .1)
+returns-2 c = search (refused-then, plays-forgets)
 
 pub reset-keyboard-spec : {M : Type 1} → statement M
 reset-keyboard-spec =
     tie.close
     (tie.spec
-    (λ c κs. search needs) (λ c. search needs) sub-read-self-test-result sub-read-self-test-result (λ c. search needs) (λ c κs. search needs) add-t16
+    (λ c κs. search needs) (λ c. search needs) (λ c. search counts) (λ c. search counts) (λ c. search needs) (λ c κs. search needs) add-t16
     (λ c. search needs) (λ c. search needs) returns (λ c. search needs) returns-2)

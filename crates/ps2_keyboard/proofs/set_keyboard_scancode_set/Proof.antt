@@ -5,8 +5,8 @@ use native.Mathlib.Omega.{arith}
 use mathlib.Core.Path.{refl, ap}
 use Rattle.exchange.specs.Answer.{gives, andThen, onGiven}
 use Rattle.exchange.specs.Exchange.{done}
-use Rattle.exchange.proofs.Position.{call-used-le, call-pairs-le, call-tail-le}
-use Rattle.exchange.proofs.Calls.{bind-done, two-used-le, two-pairs-le}
+use Rattle.exchange.proofs.Calls.{bind-done, two-used-le}
+use Rattle.exchange.proofs.Counts.{counts, pairs-fit}
 use Rattle.ps2_answers.specs.Refusals.{success}
 use Rattle.ps2_answers.proofs.Refusals.{bind-refused}
 use Rattle.ps2_answers.proofs.Then.{done-then, refused-then}
@@ -15,28 +15,11 @@ use Rattle.ps2_keyboard.specs.Answers.{saidSet}
 use Rattle.ps2_keyboard.proofs.set_keyboard_scancode_set.Statement.{statement}
 use Rattle.ps2_keyboard.proofs.set_keyboard_scancode_set.Tie as tie
 
-mul-at : tie.Need-mul-at
-mul-at c =
-    let w = c .before .before .before .before in
-    omega (arith, call-pairs-le _ _ _ (w .command-scancode-set .ensures), w .before .before .before .before .good)
-
-sub-script : tie.Need-sub-get-keyboard-scancode-set
-sub-script c = call-used-le _ _ _ (c .before .before .before .before .command-scancode-set .ensures)
-
-sub-log : tie.Need-sub-get-keyboard-scancode-set-2
-sub-log c = call-tail-le _ _ _ (c .before .before .before .before .before .command-scancode-set .ensures)
-
 add-both : tie.Need-add-both
 add-both c =
     let d = c .before .before .before in
     let w = d .before .before .before .before .before .before .before in
     omega (arith, two-used-le _ _ _ _ (w .command-scancode-set .ensures) refl (d .get-keyboard-scancode-set .ensures), w .before .before .before .before .good)
-
-add-all : tie.Need-add-all
-add-all c =
-    let d = c .before .before .before .before in
-    let w = d .before .before .before .before .before .before .before in
-    omega (arith, two-pairs-le _ _ _ _ (w .command-scancode-set .ensures) refl (d .get-keyboard-scancode-set .ensures), w .before .before .before .before .good)
 
 returns : tie.Need-returns
 unfolding setScancodeSet andThen
@@ -57,14 +40,12 @@ returns-2 c =
 
 returns-3 : tie.Need-returns-3
 unfolding setScancodeSet
-returns-3 c =
-    let w = c .before .before .before .before .before in
-    refused-then _ (λ _. andThen getScancodeSet (λ _. done (gives success))) _ _ _ (w .command-scancode-set .ensures) (c .before .accepted .given .0 .0) (c .before .accepted .given .1)
+returns-3 c = search refused-then
 
 pub set-keyboard-scancode-set-spec : {M : Type 1} → statement M
 set-keyboard-scancode-set-spec =
     tie.close
     (tie.spec
-    (λ c κs. search needs) (λ c. search needs) mul-at sub-script sub-script (λ c. search needs) sub-log sub-log (λ c. search needs)
-    (λ c κs. search needs) add-both add-all (λ c. search needs) (λ c. search needs) (λ c. search needs) (λ c. search needs) returns
-    (λ c. search needs) returns-2 (λ c. search needs) returns-3)
+    (λ c κs. search needs) (λ c. search needs) (λ c. search counts) (λ c. search counts) (λ c. search counts) (λ c. search needs) (λ c. search counts)
+    (λ c. search counts) (λ c. search needs) (λ c κs. search needs) add-both (λ c. search pairs-fit) (λ c. search needs) (λ c. search needs)
+    (λ c. search needs) (λ c. search needs) returns (λ c. search needs) returns-2 (λ c. search needs) returns-3)

@@ -4,37 +4,20 @@ use borrow.Author.Needs.{needs}
 use native.Mathlib.Omega.{arith}
 use mathlib.Core.Path.{refl}
 use Rattle.exchange.specs.Answer.{gives}
-use Rattle.exchange.proofs.Position.{call-used-le, call-pairs-le, call-tail-le}
-use Rattle.exchange.proofs.Calls.{two-used-le, two-pairs-le}
+use Rattle.exchange.proofs.Calls.{two-used-le}
 use Rattle.exchange.proofs.Told.{bind-told}
+use Rattle.exchange.proofs.Counts.{counts, pairs-fit}
 use Rattle.ps2_answers.proofs.Then.{done-then, refused-then}
 use Rattle.ps2_mouse.specs.Mouse.{mouseId}
 use Rattle.ps2_mouse_identity.specs.Identity.{setRates, identityAfter}
 use Rattle.ps2_mouse_identity.proofs.identity_after.Statement.{statement}
 use Rattle.ps2_mouse_identity.proofs.identity_after.Tie as tie
 
-mul-at : tie.Need-mul-at
-mul-at c =
-    let a = c .before .before .before .before in
-    omega (arith, call-pairs-le _ _ _ (a .set-rates .ensures), a .before .before .before .before .good)
-
-sub-mouse-id : tie.Need-sub-mouse-id
-sub-mouse-id c = call-used-le _ _ _ (c .before .before .before .before .set-rates .ensures)
-
-sub-mouse-id-2 : tie.Need-sub-mouse-id-2
-sub-mouse-id-2 c = call-tail-le _ _ _ (c .before .before .before .before .before .set-rates .ensures)
-
 add-t16 : tie.Need-add-t16
 add-t16 c =
     let m = c .before .before .before in
     let a = m .before .before .before .before .before .before .before in
     omega (arith, two-used-le _ _ _ _ (a .set-rates .ensures) refl (m .mouse-id .ensures), a .before .before .before .before .good)
-
-add-t20 : tie.Need-add-t20
-add-t20 c =
-    let m = c .before .before .before .before in
-    let a = m .before .before .before .before .before .before .before in
-    omega (arith, two-pairs-le _ _ _ _ (a .set-rates .ensures) refl (m .mouse-id .ensures), a .before .before .before .before .good)
 
 returns : tie.Need-returns
 unfolding identityAfter
@@ -47,13 +30,12 @@ returns c =
 
 returns-2 : tie.Need-returns-2
 unfolding identityAfter
-returns-2 c =
-    let a = c .before .before .before .before .before in
-    refused-then (setRates (a .before .before .before .before .args .rates)) _ _ _ _ (a .set-rates .ensures) (c .before .set .given .0 .0) (c .before .set .given .1)
+returns-2 c = search refused-then
 
 pub identity-after-spec : {M : Type 1} → statement M
 identity-after-spec =
     tie.close
     (tie.spec
-    (λ c κs. search needs) (λ c. search needs) mul-at sub-mouse-id sub-mouse-id (λ c. search needs) sub-mouse-id-2 sub-mouse-id-2 (λ c. search needs)
-    (λ c κs. search needs) add-t16 add-t20 (λ c. search needs) (λ c. search needs) returns (λ c. search needs) returns-2)
+    (λ c κs. search needs) (λ c. search needs) (λ c. search counts) (λ c. search counts) (λ c. search counts) (λ c. search needs) (λ c. search counts)
+    (λ c. search counts) (λ c. search needs) (λ c κs. search needs) add-t16 (λ c. search pairs-fit) (λ c. search needs) (λ c. search needs) returns
+    (λ c. search needs) returns-2)

@@ -3,25 +3,14 @@
 use borrow.Author.Needs.{needs}
 use native.Mathlib.Omega.{arith}
 use mathlib.Core.Path.{refl, ap}
-use Rattle.exchange.proofs.Position.{call-used-le, call-pairs-le, call-tail-le}
 use Rattle.exchange.proofs.Calls.{bind-yields, two-used-le, two-pairs-le}
 use Rattle.exchange.proofs.Left.{record-after, record-told}
+use Rattle.exchange.proofs.Counts.{counts}
 use Rattle.ps2_mouse_identity.specs.Identity.{newIdentity, startPackets, setMouseId}
 use Rattle.ps2_mouse.specs.Answers.{saidId}
 use Rattle.ps2_mouse_identity.proofs.Record.{set-refused}
 use Rattle.ps2_mouse_identity.proofs.set_mouse_id.Statement.{statement}
 use Rattle.ps2_mouse_identity.proofs.set_mouse_id.Tie as tie
-
-mul-at : tie.Need-mul-at
-mul-at c =
-    let a = c .before .before .before .before .before in
-    omega (arith, call-pairs-le _ _ _ (a .new-identity .ensures), a .before .before .before .before .good)
-
-sub-start-packets : tie.Need-sub-start-packets
-sub-start-packets c = call-used-le _ _ _ (c .before .before .before .before .before .new-identity .ensures)
-
-sub-start-packets-2 : tie.Need-sub-start-packets-2
-sub-start-packets-2 c = call-tail-le _ _ _ (c .before .before .before .before .before .before .new-identity .ensures)
 
 add-t19 : tie.Need-add-t19
 add-t19 c =
@@ -57,5 +46,6 @@ pub set-mouse-id-spec : {M : Type 1} → statement M
 set-mouse-id-spec =
     tie.close
     (tie.spec
-    (λ c κs. search needs) (λ c. search needs) mul-at sub-start-packets sub-start-packets (λ c. search needs) sub-start-packets-2 sub-start-packets-2
-    (λ c. search needs) (λ c κs. search needs) add-t19 add-t23 (λ c. search needs) (λ c. search needs) returns (λ c. search needs) returns-2)
+    (λ c κs. search needs) (λ c. search needs) (λ c. search counts) (λ c. search counts) (λ c. search counts) (λ c. search needs) (λ c. search counts)
+    (λ c. search counts) (λ c. search needs) (λ c κs. search needs) add-t19 add-t23 (λ c. search needs) (λ c. search needs) returns
+    (λ c. search needs) returns-2)

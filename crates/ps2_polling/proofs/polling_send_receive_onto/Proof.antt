@@ -5,15 +5,13 @@ use mathlib.Core.Path.{ap}
 use Rattle.exchange.specs.Answer.{andThen}
 use Rattle.exchange.proofs.Position.{call-used-le}
 use Rattle.exchange.proofs.Calls.{part-used-le}
+use Rattle.exchange.proofs.Counts.{counts}
 use Rattle.ps2_answers.specs.Refusals.{Success, saidDone}
 use Rattle.ps2_kept.proofs.Sequence.{no-data-then-reads, no-data-refused}
 use Rattle.ps2_polling.specs.Polling.{pollingReceive, pollingSendReceive}
 use Rattle.ps2_polling.proofs.Receiving.{no-data-send}
 use Rattle.ps2_polling.proofs.polling_send_receive_onto.Statement.{statement}
 use Rattle.ps2_polling.proofs.polling_send_receive_onto.Tie as tie
-
-sub-receive : tie.Need-sub-polling-receive-onto
-sub-receive c = call-used-le _ _ _ (c .before .before .before .before .polling-send .ensures)
 
 add-t17 : tie.Need-add-t17
 add-t17 c =
@@ -40,5 +38,5 @@ pub polling-send-receive-onto-spec : {M : Type 1} → statement M
 polling-send-receive-onto-spec =
     tie.close
     (tie.spec
-    (λ c κs. search needs) (λ c. search needs) sub-receive sub-receive (λ c. search needs) (λ c κs. search needs) add-t17
+    (λ c κs. search needs) (λ c. search needs) (λ c. search counts) (λ c. search counts) (λ c. search needs) (λ c κs. search needs) add-t17
     (λ c. search needs) (λ c κs. search needs) (λ c. search needs) returns (λ c. search needs) returns-2)

@@ -4,8 +4,9 @@ use borrow.Author.Needs.{needs}
 use mathlib.Core.Path.{refl, ap}
 use Rattle.exchange.specs.Exchange.{bind}
 use Rattle.exchange.specs.Answer.{onGiven}
-use Rattle.exchange.proofs.Position.{writes-pairs-le, writes-tail-le}
+use Rattle.exchange.proofs.Position.{writes-pairs-le}
 use Rattle.exchange.proofs.Calls.{writes-yields}
+use Rattle.exchange.proofs.Counts.{counts}
 use Rattle.ps2_bytes.specs.declared.command.HostToControllerCommand.the-variants.{WriteToInternalRAMByte0}
 use Rattle.ps2_bytes.specs.declared.writable.WritableData.{WritableData}
 use Rattle.ps2_answers.specs.Refusals.{saidDone}
@@ -20,14 +21,6 @@ returns c =
     let value = c .before .before .before .before .before .before .before .before .args .value in
     let write-command = c .before .before .before .before .before .write-command .ensures in
     writes-refused (writeCommand WriteToInternalRAMByte0) (λ _. writeData (WritableData.Configuration value)) _ write-command (c .before .written .given .0 .0) (ap saidDone (c .before .written .given .1))
-
-mul-at : tie.Need-mul-at
-mul-at c =
-    let write-command = c .before .before .before .before .write-command .ensures in
-    omega (arith, writes-pairs-le write-command, c .before .before .before .before .before .before .before .good)
-
-sub-write-data : tie.Need-sub-write-data
-sub-write-data c = writes-tail-le (c .before .before .before .before .write-command .ensures)
 
 returns-2 : tie.Need-returns-2
 unfolding writeConfig writePort bind
@@ -45,5 +38,5 @@ pub write-config-spec : {M : Type 1} → statement M
 write-config-spec =
     tie.close
     (tie.spec
-    (λ c κs. search needs) (λ c. search needs) (λ c. search needs) (λ c. search needs) returns mul-at sub-write-data sub-write-data
-    (λ c. search needs) (λ c κs. search needs) add-t15 (λ c. search needs) returns-2)
+    (λ c κs. search needs) (λ c. search needs) (λ c. search needs) (λ c. search needs) returns (λ c. search counts) (λ c. search counts)
+    (λ c. search counts) (λ c. search needs) (λ c κs. search needs) add-t15 (λ c. search needs) returns-2)

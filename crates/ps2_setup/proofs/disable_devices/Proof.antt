@@ -11,6 +11,7 @@ use Rattle.exchange.specs.Parts.{part, restored}
 use Rattle.exchange.proofs.Position.{call-pairs-le, writes-pairs-le, writes-tail-le}
 use Rattle.exchange.proofs.Calls.{writes-then, writes-yields}
 use Rattle.exchange.proofs.Grouping.{andThen-assoc}
+use Rattle.exchange.proofs.Counts.{counts}
 use Rattle.ps2_bytes.specs.declared.command.HostToControllerCommand.the-variants.{DisablePort1, DisablePort2}
 use Rattle.ps2_layouts.specs.declared.configuration.ControllerConfigurationByte.{ControllerConfigurationByte}
 use Rattle.ps2_ports.specs.Ports.{writeCommand, flushOutputBuffer, readConfig}
@@ -35,14 +36,6 @@ both : (l : List ℕ) {e e₂ : End (Answer Success)} {u u₂ w w₂ : ℕ} {l�
     → Writes (writeCommand DisablePort2) (part (2 * w) l′) e₂ u₂ w₂ m → Writes commands l e₂ 0 (w + w₂) (restored (2 * w) l′ m)
 unfolding andThen
 both l r q x = writes-yields (writeCommand DisablePort1) (onGiven (λ _. writeCommand DisablePort2)) l r q refl x
-
-mul-at : tie.Need-mul-at
-mul-at c =
-    let w = c .before .before .before .before in
-    omega (arith, writes-pairs-le (w .write-command .ensures), w .before .before .before .before .good)
-
-sub-write-command : tie.Need-sub-write-command
-sub-write-command c = writes-tail-le (c .before .before .before .before .write-command .ensures)
 
 add-both : tie.Need-add-both
 add-both c =
@@ -98,6 +91,6 @@ pub disable-devices-spec : {M : Type 1} → statement M
 disable-devices-spec =
     tie.close
     (tie.spec
-    (λ c κs. search needs) (λ c. search needs) (λ c. search needs) (λ c. search needs) returns mul-at sub-write-command sub-write-command
-    (λ c. search needs) (λ c κs. search needs) add-both (λ c. search needs) (λ c. search needs) (λ c. search needs) returns-2 mul-from
-    sub-flush-and-read-config sub-flush-and-read-config (λ c. search needs) (λ c κs. search needs) add-t20 (λ c. search needs) returns-3)
+    (λ c κs. search needs) (λ c. search needs) (λ c. search needs) (λ c. search needs) returns (λ c. search counts) (λ c. search counts)
+    (λ c. search counts) (λ c. search needs) (λ c κs. search needs) add-both (λ c. search needs) (λ c. search needs) (λ c. search needs) returns-2
+    mul-from sub-flush-and-read-config sub-flush-and-read-config (λ c. search needs) (λ c κs. search needs) add-t20 (λ c. search needs) returns-3)

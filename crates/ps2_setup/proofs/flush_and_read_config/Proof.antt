@@ -4,16 +4,14 @@ use borrow.Author.Needs.{needs}
 use native.Mathlib.Omega.{arith}
 use mathlib.Core.Path.{ap}
 use Rattle.exchange.specs.Answer.{onGiven, andThen}
-use Rattle.exchange.proofs.Position.{call-used-le, reads-used-le}
+use Rattle.exchange.proofs.Position.{call-used-le}
 use Rattle.exchange.proofs.Calls.{reads-then}
+use Rattle.exchange.proofs.Counts.{counts}
 use Rattle.ps2_ports.specs.Ports.{flushOutputBuffer, readConfig}
 use Rattle.ps2_answers.specs.Refusals.{saidDone}
 use Rattle.ps2_answers.proofs.Refusals.{bind-refused}
 use Rattle.ps2_setup.proofs.flush_and_read_config.Statement.{statement}
 use Rattle.ps2_setup.proofs.flush_and_read_config.Tie as tie
-
-sub-read-config : tie.Need-sub-read-config
-sub-read-config c = reads-used-le (c .before .before .flush-output-buffer .ensures)
 
 returns : tie.Need-returns
 unfolding andThen
@@ -35,5 +33,5 @@ pub flush-and-read-config-spec : {M : Type 1} → statement M
 flush-and-read-config-spec =
     tie.close
     (tie.spec
-    (λ c κs. search needs) (λ c. search needs) sub-read-config sub-read-config (λ c. search needs) (λ c κs. search needs) add-t11 (λ c. search needs)
-    (λ c. search needs) returns returns-2)
+    (λ c κs. search needs) (λ c. search needs) (λ c. search counts) (λ c. search counts) (λ c. search needs) (λ c κs. search needs) add-t11
+    (λ c. search needs) (λ c. search needs) returns returns-2)

@@ -4,15 +4,12 @@ use borrow.Author.Needs.{needs}
 use native.Mathlib.Omega.{arith}
 use Rattle.exchange.proofs.Position.{call-used-le}
 use Rattle.exchange.proofs.Calls.{part-used-le}
-use Rattle.ps2_bytes.specs.declared.command.HostToMouseCommand.the-variants.{GetDeviceID}
+use Rattle.exchange.proofs.Counts.{counts}
 use Rattle.ps2_answers.proofs.Then.{done-then-reads, refused-then}
 use Rattle.ps2_kept.proofs.Contracts.{plays-forgets}
-use Rattle.ps2_mouse.specs.Mouse.{mouseCommand, mouseId}
+use Rattle.ps2_mouse.specs.Mouse.{mouseId}
 use Rattle.ps2_mouse.proofs.PS2Mouse.mouse_id.Statement.{statement}
 use Rattle.ps2_mouse.proofs.PS2Mouse.mouse_id.Tie as tie
-
-sub-receive-mouse-id : tie.Need-sub-receive-mouse-id
-sub-receive-mouse-id c = call-used-le _ _ _ (plays-forgets _ (c .before .before .before .before .command-to-mouse .ensures))
 
 add-t16 : tie.Need-add-t16
 add-t16 c =
@@ -21,19 +18,15 @@ add-t16 c =
 
 returns : tie.Need-returns
 unfolding mouseId
-returns c =
-    let t = c .before .before .before in
-    done-then-reads (mouseCommand GetDeviceID) _ _ _ _ (plays-forgets _ (t .before .before .before .before .command-to-mouse .ensures)) (t .enum-told .given .1) (c .before .receive-mouse-id .ensures)
+returns c = search (done-then-reads, plays-forgets)
 
 returns-2 : tie.Need-returns-2
 unfolding mouseId
-returns-2 c =
-    refused-then (mouseCommand GetDeviceID) _ _ _ _ (plays-forgets _ (c .before .before .before .before .before .command-to-mouse .ensures))
-    (c .before .accepted .given .0 .0) (c .before .accepted .given .1)
+returns-2 c = search (refused-then, plays-forgets)
 
 pub mouse-id-spec : {M : Type 1} → statement M
 mouse-id-spec =
     tie.close
     (tie.spec
-    (λ c κs. search needs) (λ c. search needs) sub-receive-mouse-id sub-receive-mouse-id (λ c. search needs) (λ c κs. search needs) add-t16
+    (λ c κs. search needs) (λ c. search needs) (λ c. search counts) (λ c. search counts) (λ c. search needs) (λ c κs. search needs) add-t16
     (λ c. search needs) (λ c. search needs) returns (λ c. search needs) returns-2)
