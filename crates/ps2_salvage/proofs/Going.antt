@@ -113,6 +113,12 @@ module _ {id : MouseId} {bytes packets₀ positions₀ packets positions : List 
             ∙ ap₂ (λ (k m : ℕ). after (g .wrote ++ taken) (g .listed) (written k m places (pieces id (drop (used + packetLength id) bytes)))) (omega arith) (omega arith);
       }
 
+  -- the same as the code has it: the length is a number p, and the packets are what the copying left
+  pub going-copies : {p : ℕ} {packets′ : List ℕ} → p ≡ packetLength id → packets′ ≡ paste packets packet-bytes (drop used bytes) (packetLength id)
+      → used + p ≤ length bytes → used < length bytes → starts (getD bytes used 0) ≡ true → packet-bytes + p ≤ length packets
+      → Going id bytes packets₀ positions₀ packets′ positions (used + p) (packet-bytes + p) dropped-bytes
+  going-copies q r t h e s = rw (r, q) (going-takes (rw q at t) h e (rw q at s))
+
   -- the code's answer here, and its outputs, are what the whole pass leaves
   abbrev pub Ends : SalvageAnswer → Type 0
   Ends a = Leaves (salvaged id (length packets₀) (length positions₀) bytes) packets₀ positions₀ (record { answer = a; used = used; «packet_bytes» = packet-bytes; dropped = dropped-bytes }) packets positions
@@ -155,3 +161,10 @@ module _ {id : MouseId} {bytes packets₀ positions₀ packets positions : List 
   ends-for-place h e s =
       let l = positions-length in
       going-ends NoRoom (ap (written used room places) (at-dropped id bytes used h e) ∙ no-place-for-position used room places _ _ (omega arith))
+
+-- Packets that follow one another: a pass that had come to used₁ has come to used, with no byte dropped, and there are more bytes.
+pub record Onward (id : MouseId) (bytes packets₁ positions : List ℕ) (used₁ packet-bytes₁ dropped-bytes : ℕ) (packets : List ℕ) (used packet-bytes : ℕ) : Type 0 where
+  pub goes : {packets₀ positions₀ : List ℕ} → Going id bytes packets₀ positions₀ packets₁ positions used₁ packet-bytes₁ dropped-bytes
+      → Going id bytes packets₀ positions₀ packets positions used packet-bytes dropped-bytes
+  pub more : used < length bytes
+  pub since : used₁ ≤ used

@@ -105,46 +105,36 @@ fn pass(id: MouseId, bytes: &[u8], packets: &mut [u8], positions: &mut [u64]) ->
     let mut used: usize = 0;
     let mut packet_bytes: usize = 0;
     let mut dropped: usize = 0;
-    while used < bytes.len() {
-        if starts_packet(bytes, used) {
+    let answer = 'pass: loop {
+        if bytes.len() <= used {
+            break SalvageAnswer::Done;
+        }
+        // Packets that follow one another have a loop of their own, with one jump to a packet.
+        while starts_packet(bytes, used) {
             let end = used + packet;
             if bytes.len() < end {
-                return Salvaged {
-                    answer: SalvageAnswer::Done,
-                    used,
-                    packet_bytes,
-                    dropped,
-                };
+                break 'pass SalvageAnswer::Done;
             }
             let full = packet_bytes + packet;
             if packets.len() < full {
-                return Salvaged {
-                    answer: SalvageAnswer::NoRoom,
-                    used,
-                    packet_bytes,
-                    dropped,
-                };
+                break 'pass SalvageAnswer::NoRoom;
             }
             copy_packet(id, bytes, used, packets, packet_bytes);
             used = end;
             packet_bytes = full;
-        } else {
-            let next = used + 1;
-            if positions.len() <= dropped {
-                return Salvaged {
-                    answer: SalvageAnswer::NoRoom,
-                    used,
-                    packet_bytes,
-                    dropped,
-                };
+            if bytes.len() <= used {
+                break 'pass SalvageAnswer::Done;
             }
-            positions[dropped] = used as u64;
-            dropped += 1;
-            used = next;
         }
-    }
+        if positions.len() <= dropped {
+            break SalvageAnswer::NoRoom;
+        }
+        positions[dropped] = used as u64;
+        dropped += 1;
+        used += 1;
+    };
     Salvaged {
-        answer: SalvageAnswer::Done,
+        answer,
         used,
         packet_bytes,
         dropped,
@@ -156,7 +146,7 @@ fn pass(id: MouseId, bytes: &[u8], packets: &mut [u8], positions: &mut [u64]) ->
 pub fn salvage(id: MouseId, bytes: &[u8], packets: &mut [u8], positions: &mut [u64]) -> Salvaged
     ensures { λ r. ⌜ Leaves (salvaged id (length (now (packets .entry))) (length (now (positions .entry))) (now (bytes .entry))) (now (packets .entry)) (now (positions .entry)) r (now (packets .exit)) (now (positions .exit)) ⌝ }
 {
-    // Each identity has a pass of its own, in which the compiler knows how long a packet is.
+    // Each call names its identity: the compiler splits the loop by it, and knows how many bytes to move.
     match id {
         MouseId::Zero => pass(MouseId::Zero, bytes, packets, positions),
         MouseId::Three => pass(MouseId::Three, bytes, packets, positions),
