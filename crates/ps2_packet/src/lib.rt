@@ -22,9 +22,11 @@ ghost use Rattle.ps2_packet.specs.Packet.{
   signedWheel,
   common,
   sideButton,
+  packetLength,
 };
 use bits::bit_of;
 use bits::has;
+use ps2_bytes::MouseId;
 
 // The bits of byte 1, in the order of the Rust's fields.
 const BUTTON_LEFT: u8 = 0;
@@ -321,5 +323,16 @@ impl SignedPacket {
             MousePacket::Four(m) => m.signed_scroll_movement(),
             _ => packet.scroll_movement(),
         }
+    }
+}
+
+// A packet's bytes at each identity.
+pub fn packet_length(id: MouseId) -> usize
+    ensures { λ r. ⌜ r ≡ packetLength id ⌝ }
+{
+    match id {
+        MouseId::Zero => 3,
+        MouseId::Three => 4,
+        MouseId::Four => 4,
     }
 }

@@ -8,6 +8,7 @@ ghost use Rattle.ps2_salvage.specs.Pieces.{starts};
 ghost use Rattle.ps2_salvage.specs.Salvage.{answerNumber, salvaged, Leaves};
 use bits::has;
 use ps2_bytes::MouseId;
+use ps2_packet::packet_length;
 
 // The bit of a packet's first byte that is always set.
 const ALWAYS_ONE: u8 = 3;
@@ -35,17 +36,6 @@ impl SalvageAnswer {
             SalvageAnswer::Done => 0,
             SalvageAnswer::NoRoom => 30,
         }
-    }
-}
-
-// A packet's bytes at each identity.
-fn packet_length(id: MouseId) -> usize
-    ensures { λ r. ⌜ r ≡ packetLength id ⌝ }
-{
-    match id {
-        MouseId::Zero => 3,
-        MouseId::Three => 4,
-        MouseId::Four => 4,
     }
 }
 

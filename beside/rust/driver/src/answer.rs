@@ -3,6 +3,7 @@
 
 use crate::call::*;
 use crate::kept::Kept;
+use crate::report::Reported;
 use crate::salvage::Salvaged;
 use std::fmt;
 
@@ -22,6 +23,7 @@ pub enum Answer {
         left: Handler,
     },
     Salvaged(Salvaged),
+    Reported(Reported),
     /// Of an operation on lent bytes: the input's bytes used, where it counts them, and those written to the output.
     Bytes {
         end: u8,
@@ -207,6 +209,7 @@ impl fmt::Display for Answer {
                 write!(f, "{} rec={left}", if done.is_empty() { "-" } else { "" })
             }
             Answer::Salvaged(salvaged) => write!(f, "{salvaged}"),
+            Answer::Reported(reported) => write!(f, "{reported}"),
             Answer::Kept(kept) => write!(f, "{kept}"),
         }
     }

@@ -1,5 +1,5 @@
 //! How long the port takes for a call, and the Rust, as a table. Each side makes the same calls in a loop of its own. Handler
-//! calls and passes over a recording are measured by the programs `calls` and `recording`, which link the port's.
+//! calls, passes over a recording and sessions are measured by the programs `calls`, `recording` and `session`, which link the port's.
 
 use crate::answer::Answer;
 use crate::call::{self, Call, Hex, ALL_FLAGS, LAST_KEYCODE};
@@ -248,7 +248,7 @@ fn packed_error(calls: &[Call], answers: &[Answer], mut output: &[u8]) -> Option
     })
 }
 
-/// What the programs `calls` and `recording` measured: a line is a name, the least and the median.
+/// What the programs `calls`, `recording` and `session` measured: a line is a name, the least and the median.
 fn linked_measures(program: &Path, rounds: usize) -> io::Result<BTreeMap<String, Spread>> {
     let output = Command::new(program).arg(rounds.to_string()).stderr(Stdio::inherit()).output()?;
     if !output.status.success() {
@@ -299,6 +299,7 @@ pub fn bench(port: Paths, tablekeys: &str, rounds: usize) -> io::Result<ExitCode
     // Handler calls are measured by a program of their own, both sides in turn, in many short rounds.
     let mut measures = linked_measures(&Path::new(own).with_file_name("calls"), 100 * rounds)?;
     measures.extend(linked_measures(&Path::new(own).with_file_name("recording"), 10 * rounds)?);
+    measures.extend(linked_measures(&Path::new(own).with_file_name("session"), 10 * rounds)?);
     let measured = |name: &str| measures.get(name).copied().ok_or_else(|| io::Error::other(format!("no {name}")));
     let handler_calls =
         [("key", "plain key", ""), ("lock", "lock", ", each with its lamp exchange of 6 reads and 2 writes")];
@@ -389,6 +390,14 @@ pub fn bench(port: Paths, tablekeys: &str, rounds: usize) -> io::Result<ExitCode
         table.row(&format!("`salvage` {recording}"), Ok(both), &contents);
     }
 
+    // Sessions added to a report, beside plain Rust.
+    for (name, identity) in [("packets-0", 0), ("packets-4", 4)] {
+        let both = (measured(&format!("{name}-rust"))?, measured(&format!("{name}-port"))?);
+        let contents = "one session of 1,000,000 packets and 1,000 events, bytes by chance, added to a fresh report. \
+                        The Rust is beside/rust/session/src/plain.rs";
+        table.row(&format!("`Report::add` at identity {identity}"), Ok(both), contents);
+    }
+
     let direct = |name: &str| {
         let of = |what: &str| measured(&format!("{name}-{what}"));
         Ok::<_, io::Error>(of("direct")?.without(1.0, of("ready")?))
@@ -399,6 +408,10 @@ pub fn bench(port: Paths, tablekeys: &str, rounds: usize) -> io::Result<ExitCode
          {} ns on a plain key and {} ns on a lock.",
         direct("key")?,
         direct("lock")?
+    );
+    println!(
+        "The port added a session of 100,000 packets at identity 0 in {} ns, a tenth of the one of 1,000,000.",
+        measured("session-tenth-0-port")?
     );
     println!(
         "The port salvaged 1,000,000 bytes at identity 0 in {} ns, a tenth of the recording of 10,000,000.",

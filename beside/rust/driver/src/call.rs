@@ -1,6 +1,7 @@
 //! A call line of the trace format (tests/traces/README.md), read and written.
 
 use crate::kept;
+use crate::report::{self, Season};
 use crate::salvage::{self, Salvage};
 use std::fmt::{self, Write};
 
@@ -35,6 +36,7 @@ pub enum Op {
     ConvertSet2,
     TypeText,
     Salvage(Salvage),
+    Season(Season),
     /// A call whose line ends in `show=kept`.
     Kept(Box<Op>),
 }
@@ -129,6 +131,9 @@ pub fn parse(line: &str) -> Result<Call, String> {
     let name = words.next().ok_or("an empty line")?;
     if name == salvage::NAME {
         return salvage::parse(words);
+    }
+    if let Some(call) = report::parse(name, words.clone()) {
+        return call;
     }
     let mut args = Vec::new();
     while let Some(word) = words.next_if(|word| !word.contains('=')) {
@@ -535,6 +540,7 @@ impl Op {
             Op::ConvertSet2 => return Some("the Rust converts no set 2"),
             Op::TypeText => return Some("the Rust types no text"),
             Op::Salvage(_) => return Some("the Rust salvages no recording"),
+            Op::Season(_) => return Some("the Rust makes no report"),
             _ => false,
         };
         has_other_flags.then_some("the Rust has no flag above bit 9")
@@ -607,6 +613,7 @@ impl Op {
             Op::ConvertSet2 => "convert_set2",
             Op::TypeText => "type_text",
             Op::Salvage(_) => salvage::NAME,
+            Op::Season(season) => season.name(),
             Op::Kept(op) => op.name(),
         }
     }
@@ -638,6 +645,10 @@ impl Call {
         out += self.op.name();
         if let Op::Salvage(salvage) = &self.op {
             salvage.push_fields(self, &mut out);
+            return out;
+        }
+        if let Op::Season(season) = &self.op {
+            season.push_fields(&mut out);
             return out;
         }
         self.op.push_args(&mut out);

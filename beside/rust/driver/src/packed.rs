@@ -7,16 +7,17 @@ use crate::kept;
 use std::io::{self, Read};
 
 /// The port's programs: crates/replay makes the calls on the ports, crates/replay_keys those on keys, crates/replay_bytes those on
-/// lent bytes.
+/// lent bytes, crates/replay_report those on reports.
 #[derive(Clone, Copy)]
 pub enum Program {
     Ports,
     Keys,
     Bytes,
+    Reports,
 }
 
 /// How many programs the port has.
-pub const PROGRAMS: usize = 3;
+pub const PROGRAMS: usize = 4;
 
 impl Program {
     /// The program that makes an operation's calls.
@@ -24,6 +25,7 @@ impl Program {
         match op {
             Op::Handle(..) | Op::KeyboardInit | Op::ToAscii(..) => Program::Keys,
             Op::ConvertSet2 | Op::TypeText | Op::Salvage(_) => Program::Bytes,
+            Op::Season(_) => Program::Reports,
             _ => Program::Ports,
         }
     }
@@ -116,7 +118,7 @@ pub fn operation(op: &Op) -> (u8, u8, u16) {
         Op::ToAscii(keycode, flags) => (TO_ASCII, keycode, flags),
         Op::ConvertSet2 => (CONVERT_SET2, 0, 0),
         Op::TypeText => (TYPE_TEXT, 0, 0),
-        Op::Handle(..) | Op::Salvage(_) | Op::Kept(_) => unreachable!("it is packed by itself"),
+        Op::Handle(..) | Op::Salvage(_) | Op::Season(_) | Op::Kept(_) => unreachable!("it is packed by itself"),
     }
 }
 
@@ -145,6 +147,8 @@ pub fn put_call(call: &Call, out: &mut Vec<u8>) -> Result<(), String> {
         put_run(call, handler, plan, out);
     } else if let Op::Salvage(salvage) = &call.op {
         return salvage.put_call(call, out);
+    } else if let Op::Season(season) = &call.op {
+        season.put_call(out);
     } else if let Op::Kept(op) = &call.op {
         return kept::put_call(op, call, out);
     } else {
@@ -155,7 +159,7 @@ pub fn put_call(call: &Call, out: &mut Vec<u8>) -> Result<(), String> {
 }
 
 /// Puts a script as parts, each with the number of bytes that it fills beyond its own; the first begins it anew.
-fn put_script(script: &[u8], out: &mut Vec<u8>) {
+pub fn put_script(script: &[u8], out: &mut Vec<u8>) {
     let mut argument = 1;
     let mut put = |bytes: &[u8], times: usize| {
         let (state, beyond) = (bytes.len() as u16, bytes.len() * (times - 1));
@@ -339,7 +343,7 @@ pub fn put_answer(op: &Op, answer: &Answer, out: &mut Vec<u8>) -> Result<(), Str
             taken(WAITING, None).put(out);
         }
         // The port alone answers these, so no answer to one is recorded.
-        Answer::Bytes { .. } | Answer::Salvaged(_) | Answer::Kept(_) => {
+        Answer::Bytes { .. } | Answer::Salvaged(_) | Answer::Reported(_) | Answer::Kept(_) => {
             return Err(format!("an answer to {} is not packed", op.name()))
         }
     }
@@ -392,6 +396,7 @@ pub fn read_answer(op: &Op, from: &mut impl Read) -> io::Result<Result<Answer, S
     match op {
         Op::Handle(passed, plan) => read_run(passed, plan, from),
         Op::Salvage(salvage) => salvage.read_answer(from),
+        Op::Season(season) => season.read_answer(from),
         Op::Kept(op) => kept::read_answer(op, from),
         op if op.takes_bytes() => read_bytes(op, from),
         _ => Ok(answer_of(op, Packed::read(from)?)),

@@ -1,0 +1,37 @@
+-- `replay_report::narrow::tell_narrow` is safe and ends.
+-- Assumes nothing.
+use mathlib.Core.Path.{_≡_}
+use Prim.Native.Nat.{_-_, _+_, _≤_}
+use borrow.Author.Needs.{needs}
+use lib.ListN.{length}
+use Rattle.replay_report.proofs.narrow.tell_narrow.Statement.{statement}
+use Rattle.replay_report.proofs.narrow.tell_narrow.Tie as tie
+
+abbrev Inv-loop : tie.InvT-loop
+Inv-loop r op totals presses i₀ i = i ≤ 94
+
+abbrev μ-loop : tie.MeasureT-loop
+μ-loop r op totals presses i₀ i = 94 - i
+
+pub tell-narrow-spec : {M : Type 1} → statement M
+tell-narrow-spec =
+    tie.close
+    (tie.spec
+    Inv-loop
+    μ-loop
+    (λ c κs. search needs)
+    (λ c. search needs)
+    (λ c. search needs)
+    (λ c. search needs)
+    (λ c κs. search needs)
+    (λ c. search needs)
+    (λ c. search needs)
+    (λ c. search needs)
+    (λ c κs. search needs)
+    (λ c κs. search needs)
+    (λ c κs. search needs)
+    (λ c κs. search needs)
+    (λ c κs. search needs)
+    (λ c κs. search needs)
+    (λ c κs. search needs)
+    (λ c. search needs))

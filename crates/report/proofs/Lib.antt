@@ -1,0 +1,12 @@
+pub mod Signed64
+pub mod Ranges
+pub mod Settling
+pub mod Copying
+pub mod TooLong
+pub mod Narrowing
+pub mod Together
+pub mod Joining
+pub mod AnyOrder
+pub mod MeanAlone
+pub mod Exactly
+pub mod Worked

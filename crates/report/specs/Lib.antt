@@ -1,0 +1,6 @@
+-- Reports over sessions.
+pub mod Adding
+pub mod Mean
+pub mod Narrow
+pub mod Sessions
+pub mod Within

@@ -1,0 +1,2 @@
+-- A session reported on, by plain numbers.
+pub mod Numbers
