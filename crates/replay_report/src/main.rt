@@ -2,6 +2,7 @@
 ghost use Prim.Native.Nat.{_≤_, _+_};
 ghost use lib.ListN.{length};
 
+mod long;
 mod narrow;
 mod numbers;
 
@@ -10,6 +11,8 @@ use keycodes_ascii::FoundKeycode;
 use keycodes_ascii::KeyAction;
 use keycodes_ascii::KeyEvent;
 use keycodes_ascii::Keycode;
+use long::tell_long;
+use long::told_long;
 use narrow::tell_narrow;
 use narrow::told_narrow;
 use packed_calls::END;
@@ -25,6 +28,7 @@ use packed_calls::write_answer;
 use ps2_bytes::MouseId;
 use ps2_bytes::MouseIdByte;
 use report::Report;
+use report_long::LongReport;
 use report_totals::event_code;
 
 // The operations: a report is told, a session is added to it, and it is asked for.
@@ -34,8 +38,23 @@ const NARROW_ADD: u8 = 46;
 
 const NARROW_ASKED: u8 = 47;
 
+// The same in 64 bits, and the conversion of an old report.
+const LONG: u8 = 48;
+
+const LONG_ADD: u8 = 49;
+
+const LONG_ASKED: u8 = 50;
+
+const WIDEN: u8 = 51;
+
 // Room for the longest input.
 const INPUT_SPACE: usize = 1200000;
+
+// The report of each width.
+struct Reports {
+    narrow: Report,
+    long: LongReport,
+}
 
 // What is no event's code.
 const NO_KEY: u8 = 255;
@@ -96,18 +115,46 @@ fn add_told_narrow(r: Report, i: Instruction, input: &[u8], codes: &mut [u8]) ->
     r
 }
 
-// Answers an instruction, and gives the report after it: a part of an input and the end have no answer.
-fn answer(r: Report, i: Instruction, input: &[u8], out: &mut [u8]) -> Report {
+fn add_long(r: LongReport, id: MouseId, events: &[u8], mouse: &[u8]) -> LongReport {
+    let added = r.add(id, events, mouse);
+    let answer = added.answer;
+    let report = added.report;
+    write_answer(LONG_ADD, ending(answer.number(), 0, 0, 0), events);
+    report
+}
+
+fn add_told_long(r: LongReport, i: Instruction, input: &[u8], codes: &mut [u8]) -> LongReport {
+    if let MouseIdByte::Listed(id) = MouseId::from_byte(i.argument) {
+        let n = take_codes(input, i.state, codes);
+        return add_long(r, id, &codes[..n], &input[n + n..]);
+    }
+    write_answer(LONG_ADD, ending(NO_CALL, 0, 0, 0), codes);
+    r
+}
+
+fn with_narrow(r: Reports, narrow: Report) -> Reports {
+    let long = r.long;
+    Reports { narrow, long }
+}
+
+fn with_long(r: Reports, long: LongReport) -> Reports {
+    let narrow = r.narrow;
+    Reports { narrow, long }
+}
+
+// Answers an instruction on a report of 64 bits, and gives the reports after it.
+fn answer_long(r: Reports, i: Instruction, input: &[u8], out: &mut [u8]) -> Reports {
     let op = i.op;
+    let narrow = r.narrow;
+    let long = r.long;
     match op {
-        PART => r,
-        END => r,
-        NARROW => told_narrow(input),
-        NARROW_ADD => add_told_narrow(r, i, input, out),
-        NARROW_ASKED => {
-            tell_narrow(r, NARROW_ASKED);
+        LONG => with_long(r, told_long(input)),
+        LONG_ADD => with_long(r, add_told_long(long, i, input, out)),
+        LONG_ASKED => {
+            tell_long(long, LONG_ASKED);
             r
         }
+        WIDEN => with_long(r, LongReport::widen(narrow)),
         _ => {
             write_answer(op, ending(NO_CALL, 0, 0, 0), out);
             r
@@ -115,22 +162,46 @@ fn answer(r: Report, i: Instruction, input: &[u8], out: &mut [u8]) -> Report {
     }
 }
 
+// Answers an instruction, and gives the reports after it: a part of an input and the end have no answer.
+fn answer(r: Reports, i: Instruction, input: &[u8], out: &mut [u8]) -> Reports {
+    let op = i.op;
+    let narrow = r.narrow;
+    match op {
+        PART => r,
+        END => r,
+        NARROW => with_narrow(r, told_narrow(input)),
+        NARROW_ADD => with_narrow(r, add_told_narrow(narrow, i, input, out)),
+        NARROW_ASKED => {
+            tell_narrow(narrow, NARROW_ASKED);
+            r
+        }
+        _ => answer_long(r, i, input, out),
+    }
+}
+
 // Answers an instruction on the input's bytes.
-fn answer_held(r: Report, i: Instruction, bytes: usize, input: &[u8], out: &mut [u8]) -> Report {
+fn answer_held(r: Reports, i: Instruction, bytes: usize, input: &[u8], out: &mut [u8]) -> Reports {
     let count = within(bytes, input);
     answer(r, i, &input[..count], out)
 }
 
+fn no_sessions() -> Reports {
+    Reports {
+        narrow: Report::empty(),
+        long: LongReport::empty(),
+    }
+}
+
 // Answers every instruction.
 fn replay(input: &mut [u8], out: &mut [u8]) {
-    let mut report = Report::empty();
+    let mut reports = no_sessions();
     let mut bytes = 0;
     let mut left = u64::MAX;
     while 0 < left {
         let i = read_instruction();
         bytes = read_script(input, bytes, i);
-        let next = answer_held(report, i, bytes, input, out);
-        report = next;
+        let next = answer_held(reports, i, bytes, input, out);
+        reports = next;
         left = fewer(left, i.op == END);
     }
 }

@@ -1,21 +1,20 @@
 // The report in 32 bits, by numbers.
 use crate::numbers::byte_at;
 use crate::numbers::number_at;
-use crate::numbers::tell;
 use crate::numbers::tell_mean;
-use crate::numbers::tell_signed;
+use crate::numbers::tell_totals;
 use report::Report;
 
 // The bytes of a report: 97 numbers of 8, presses, packets, x and y, and a byte for each sum that is 1 where it is below 0.
-const PACKETS_AT: usize = 752;
+pub const PACKETS_AT: usize = 752;
 
-const X_AT: usize = 760;
+pub const X_AT: usize = 760;
 
-const Y_AT: usize = 768;
+pub const Y_AT: usize = 768;
 
-const X_SIGN: usize = 776;
+pub const X_SIGN: usize = 776;
 
-const Y_SIGN: usize = 777;
+pub const Y_SIGN: usize = 777;
 
 fn count_at(bytes: &[u8], at: usize) -> u32 {
     (number_at(bytes, at) % 4294967296) as u32
@@ -50,16 +49,7 @@ pub fn told_narrow(bytes: &[u8]) -> Report {
 
 // Tells a report: its numbers, then both means.
 pub fn tell_narrow(r: Report, op: u8) {
-    let totals = r.numbers();
-    let presses = totals.presses;
-    let mut i: usize = 0;
-    while i < 94 {
-        tell(op, presses[i]);
-        i += 1;
-    }
-    tell(op, totals.packets);
-    tell_signed(op, totals.x);
-    tell_signed(op, totals.y);
+    tell_totals(op, r.numbers());
     tell_mean(op, r.mean_x());
     tell_mean(op, r.mean_y());
 }

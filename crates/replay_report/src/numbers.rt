@@ -4,6 +4,7 @@ use packed_calls::write_answer;
 use report::Mean;
 use report::is_negative;
 use report::magnitude;
+use report_totals::Totals;
 ghost use Prim.Native.Nat.{_≤_, _+_};
 ghost use lib.ListN.{length};
 
@@ -70,6 +71,19 @@ pub fn tell_signed(op: u8, z: i64) {
         return;
     }
     write_answer(op, ending(0, 0, 0, magnitude(z)), &nothing);
+}
+
+// Tells the numbers of a report: presses, packets, x and y.
+pub fn tell_totals(op: u8, totals: Totals) {
+    let presses = totals.presses;
+    let mut i: usize = 0;
+    while i < 94 {
+        tell(op, presses[i]);
+        i += 1;
+    }
+    tell(op, totals.packets);
+    tell_signed(op, totals.x);
+    tell_signed(op, totals.y);
 }
 
 // A mean is told by two answers, and its absence by one, whose number is 2.

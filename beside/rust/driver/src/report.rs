@@ -19,8 +19,13 @@ pub struct Width {
     high: i64,
 }
 
-const WIDTHS: [Width; 1] =
-    [Width { name: "season32", told: 45, most: u32::MAX as u64, low: i32::MIN as i64, high: i32::MAX as i64 }];
+const NARROW: Width =
+    Width { name: "season32", told: 45, most: u32::MAX as u64, low: i32::MIN as i64, high: i32::MAX as i64 };
+const LONG: Width = Width { name: "season64", told: 48, most: u64::MAX, low: i64::MIN, high: i64::MAX };
+
+/// The call that converts an old report, and its instruction.
+const WIDENING: &str = "season_widen";
+const WIDEN: u8 = 51;
 
 #[derive(Clone, Debug, PartialEq)]
 pub struct Numbers {
@@ -39,7 +44,10 @@ struct Session {
 
 #[derive(Clone, Debug, PartialEq)]
 pub struct Season {
+    /// The width of the report that is told.
     width: &'static Width,
+    /// Whether it is converted then, and nothing is added.
+    widens: bool,
     from: Numbers,
     sessions: Vec<Session>,
 }
@@ -50,6 +58,8 @@ pub struct Reported {
     ends: Vec<u8>,
     report: Numbers,
     means: Option<[(i64, u64); 2]>,
+    /// Whether a report was converted, which is told without its means.
+    widened: bool,
 }
 
 fn parse_numbers(text: &str, width: &Width) -> Result<Numbers, String> {
@@ -59,7 +69,8 @@ fn parse_numbers(text: &str, width: &Width) -> Result<Numbers, String> {
     }
     for part in text.split(',') {
         let (key, value) = part.split_once(':').ok_or_else(|| format!("'{part}' is no number of a report"))?;
-        let count = || decimal(value).and_then(|n| if n <= width.most { Ok(n) } else { Err(format!("{n} is no count")) });
+        let count =
+            || decimal(value).and_then(|n| if n <= width.most { Ok(n) } else { Err(format!("{n} is no count")) });
         let sum = || match value.parse() {
             Ok(z) if (width.low..=width.high).contains(&z) => Ok(z),
             _ => Err(format!("'{value}' is no sum")),
@@ -106,19 +117,27 @@ fn parse_session(text: &str) -> Result<Session, String> {
 
 /// Reads a call line behind its name, where the name is one of a report's: NAME from=REPORT add=ID/EVENTS/HEX add=..
 pub fn parse<'a>(name: &str, words: impl Iterator<Item = &'a str>) -> Option<Result<Call, String>> {
-    let width = WIDTHS.iter().find(|width| width.name == name)?;
+    let (width, widens) = match name {
+        WIDENING => (&NARROW, true),
+        _ => ([&NARROW, &LONG].into_iter().find(|width| width.name == name)?, false),
+    };
     let (mut from, mut sessions) = (None, Vec::new());
     let read = (|| {
         for word in words {
             match word.split_once('=') {
                 Some(("from", report)) if from.is_none() => from = Some(parse_numbers(report, width)?),
-                Some(("add", session)) => sessions.push(parse_session(session)?),
+                Some(("add", session)) if !widens => sessions.push(parse_session(session)?),
                 _ => return Err(format!("{name} has no '{word}'")),
             }
         }
         from.ok_or("the field 'from=' is missing".to_string())
     })();
-    Some(read.map(|from| Call { op: Op::Season(Season { width, from, sessions }), script: Vec::new(), room: 0, repeat: 1 }))
+    Some(read.map(|from| Call {
+        op: Op::Season(Season { width, widens, from, sessions }),
+        script: Vec::new(),
+        room: 0,
+        repeat: 1,
+    }))
 }
 
 fn push_numbers(numbers: &Numbers, out: &mut impl Write) -> fmt::Result {
@@ -131,16 +150,33 @@ fn push_numbers(numbers: &Numbers, out: &mut impl Write) -> fmt::Result {
 
 /// A number from 0 up, and one below 0 as far as it is from -1.
 fn magnitude(z: i64) -> u64 {
-    if z < 0 { !z as u64 } else { z as u64 }
+    if z < 0 {
+        !z as u64
+    } else {
+        z as u64
+    }
 }
 
 fn signed(is_below: bool, magnitude: u64) -> i64 {
-    if is_below { !(magnitude as i64) } else { magnitude as i64 }
+    if is_below {
+        !(magnitude as i64)
+    } else {
+        magnitude as i64
+    }
 }
 
 impl Season {
     pub fn name(&self) -> &'static str {
-        self.width.name
+        if self.widens {
+            WIDENING
+        } else {
+            self.width.name
+        }
+    }
+
+    /// The instruction that asks for the report.
+    fn asked(&self) -> u8 {
+        2 + if self.widens { LONG.told } else { self.width.told }
     }
 
     pub fn push_fields(&self, out: &mut String) {
@@ -172,7 +208,10 @@ impl Season {
             put_script(&events.chain(session.mouse.iter().copied()).collect::<Vec<_>>(), out);
             put(out, told + 1, session.id, session.events.len());
         }
-        put(out, told + 2, 0, 0);
+        if self.widens {
+            put(out, WIDEN, 0, 0);
+        }
+        put(out, self.asked(), 0, 0);
     }
 
     /// Reads the port's answers: one for each session, then the report's numbers and its means.
@@ -180,12 +219,14 @@ impl Season {
         let mut ends = Vec::new();
         for _ in &self.sessions {
             let added = Packed::read(from)?;
-            if added != (Packed { op: self.width.told + 1, number: added.number, ..Default::default() }) || added.number == 255 {
+            if added != (Packed { op: self.width.told + 1, number: added.number, ..Default::default() })
+                || added.number == 255
+            {
                 return Ok(Err(format!("no answer to {}: {added:?}", self.name())));
             }
             ends.push(added.number);
         }
-        let asked = self.width.told + 2;
+        let asked = self.asked();
         let mut number = || -> io::Result<Packed> {
             let told = Packed::read(from)?;
             match told == (Packed { op: asked, number: told.number, value: told.value, ..Default::default() }) {
@@ -212,7 +253,7 @@ impl Season {
             (None, None) => None,
             _ => return Ok(Err("a mean of one sum alone".to_string())),
         };
-        Ok(Ok(Answer::Reported(Reported { ends, report, means })))
+        Ok(Ok(Answer::Reported(Reported { ends, report, means, widened: self.widens })))
     }
 }
 
@@ -224,7 +265,7 @@ impl Reported {
 
 impl fmt::Display for Reported {
     fn fmt(&self, f: &mut fmt::Formatter) -> fmt::Result {
-        f.write_str("out=")?;
+        f.write_str(if self.widened { "out=ok" } else { "out=" })?;
         for (i, end) in self.ends.iter().enumerate() {
             f.write_str(if i == 0 { "" } else { "," })?;
             match end {
@@ -235,6 +276,7 @@ impl fmt::Display for Reported {
         f.write_str(" ")?;
         push_numbers(&self.report, f)?;
         match self.means {
+            _ if self.widened => Ok(()),
             Some([(qx, rx), (qy, ry)]) => write!(f, " mean={qx}:{rx}/{qy}:{ry}"),
             None => f.write_str(" mean=-"),
         }

@@ -7,10 +7,10 @@ use Rattle.replay_report.proofs.replay.Statement.{statement}
 use Rattle.replay_report.proofs.replay.Tie as tie
 
 abbrev Inv-loop : tie.InvT-loop
-Inv-loop input₀ out₀ report₀ bytes₀ left₀ input out report bytes left = (length input ≡ length input₀) × (length out ≡ length out₀)
+Inv-loop input₀ out₀ reports₀ bytes₀ left₀ input out reports bytes left = (length input ≡ length input₀) × (length out ≡ length out₀)
 
 abbrev μ-loop : tie.MeasureT-loop
-μ-loop input₀ out₀ report₀ bytes₀ left₀ input out report bytes left = left
+μ-loop input₀ out₀ reports₀ bytes₀ left₀ input out reports bytes left = left
 
 pub replay-spec : {M : Type 1} → statement M
 replay-spec =

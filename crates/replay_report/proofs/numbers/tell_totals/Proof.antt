@@ -1,25 +1,24 @@
--- `replay_report::narrow::tell_narrow` is safe and ends.
+-- `replay_report::numbers::tell_totals` is safe and ends.
 -- Assumes nothing.
 use mathlib.Core.Path.{_≡_}
 use Prim.Native.Nat.{_-_, _+_, _≤_}
 use borrow.Author.Needs.{needs}
 use lib.ListN.{length}
-use Rattle.replay_report.proofs.narrow.tell_narrow.Statement.{statement}
-use Rattle.replay_report.proofs.narrow.tell_narrow.Tie as tie
+use Rattle.replay_report.proofs.numbers.tell_totals.Statement.{statement}
+use Rattle.replay_report.proofs.numbers.tell_totals.Tie as tie
 
 abbrev Inv-loop : tie.InvT-loop
-Inv-loop r op totals presses i₀ i = i ≤ 94
+Inv-loop op totals presses i₀ i = i ≤ 94
 
 abbrev μ-loop : tie.MeasureT-loop
-μ-loop r op totals presses i₀ i = 94 - i
+μ-loop op totals presses i₀ i = 94 - i
 
-pub tell-narrow-spec : {M : Type 1} → statement M
-tell-narrow-spec =
+pub tell-totals-spec : {M : Type 1} → statement M
+tell-totals-spec =
     tie.close
     (tie.spec
     Inv-loop
     μ-loop
-    (λ c κs. search needs)
     (λ c. search needs)
     (λ c. search needs)
     (λ c. search needs)
@@ -27,10 +26,6 @@ tell-narrow-spec =
     (λ c. search needs)
     (λ c. search needs)
     (λ c. search needs)
-    (λ c κs. search needs)
-    (λ c κs. search needs)
-    (λ c κs. search needs)
-    (λ c κs. search needs)
     (λ c κs. search needs)
     (λ c κs. search needs)
     (λ c κs. search needs)

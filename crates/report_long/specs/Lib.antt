@@ -1,0 +1,3 @@
+-- The report in 64 bits.
+pub mod Long
+pub mod Widened
