@@ -1,0 +1,10 @@
+-- Laws of the application.
+pub mod Turns
+pub mod Bytes
+pub mod Settings
+pub mod Sent
+pub mod Steps
+pub mod Outside
+pub mod Refuses
+pub mod Bounds
+pub mod Worked
