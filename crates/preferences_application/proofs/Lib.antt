@@ -2,6 +2,7 @@
 pub mod Turns
 pub mod Bytes
 pub mod Settings
+pub mod Listed
 pub mod Sent
 pub mod Steps
 pub mod Outside
