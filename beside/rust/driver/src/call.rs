@@ -1,6 +1,7 @@
 //! A call line of the trace format (tests/traces/README.md), read and written.
 
 use crate::kept;
+use crate::prefs_apply::{self, Preferences};
 use crate::salvage::{self, Salvage};
 use std::fmt::{self, Write};
 
@@ -35,6 +36,7 @@ pub enum Op {
     ConvertSet2,
     TypeText,
     Salvage(Salvage),
+    ApplyPreferences(Preferences),
     /// A call whose line ends in `show=kept`.
     Kept(Box<Op>),
 }
@@ -250,6 +252,10 @@ fn parse_op(name: &str, args: &[&str], state: Option<&str>, plan: Option<&str>) 
         }
         "convert_set2" => none(Op::ConvertSet2),
         "type_text" => none(Op::TypeText),
+        prefs_apply::NAME => {
+            count(2)?;
+            Ok(Op::ApplyPreferences(Preferences::parse(args[0], args[1])?))
+        }
         _ => return Err(format!("there is no operation '{name}'")),
     }?;
     if plan.is_some() && !matches!(op, Op::Handle(..)) {
@@ -535,6 +541,7 @@ impl Op {
             Op::ConvertSet2 => return Some("the Rust converts no set 2"),
             Op::TypeText => return Some("the Rust types no text"),
             Op::Salvage(_) => return Some("the Rust salvages no recording"),
+            Op::ApplyPreferences(_) => return Some("the Rust applies no preferences"),
             _ => false,
         };
         has_other_flags.then_some("the Rust has no flag above bit 9")
@@ -607,6 +614,7 @@ impl Op {
             Op::ConvertSet2 => "convert_set2",
             Op::TypeText => "type_text",
             Op::Salvage(_) => salvage::NAME,
+            Op::ApplyPreferences(_) => prefs_apply::NAME,
             Op::Kept(op) => op.name(),
         }
     }
@@ -617,6 +625,7 @@ impl Op {
         use MouseOp as M;
         match *self {
             Op::Kept(ref op) => op.push_args(out),
+            Op::ApplyPreferences(ref preferences) => write!(out, " {preferences}").unwrap(),
             Op::WriteConfig(byte) | Op::Keyboard(K::Command(byte)) | Op::Mouse(M::Command(byte), _) => {
                 write!(out, " {byte:02X}").unwrap()
             }

@@ -12,6 +12,7 @@ mod oracle;
 mod packed;
 mod plain;
 mod port;
+mod prefs_apply;
 mod salvage;
 
 use packed::Program;
@@ -52,9 +53,9 @@ fn number(args: &[String], name: &str) -> Option<u64> {
 fn main() -> io::Result<ExitCode> {
     let args: Vec<String> = std::env::args().skip(1).collect();
     let (calls, seed) = (number(&args, "--calls"), number(&args, "--seed"));
-    let programs = ["--port", "--keys", "--bytes"].map(|name| option(&args, name));
+    let programs = ["--port", "--keys", "--bytes", "--preferences"].map(|name| option(&args, name));
     let port = match programs {
-        [Some(ports), Some(keys), Some(bytes)] => Some([ports, keys, bytes]),
+        [Some(ports), Some(keys), Some(bytes), Some(preferences)] => Some([ports, keys, bytes, preferences]),
         _ => None,
     };
     let but = option(&args, "--but").map_or(Ok(Default::default()), port::calls_of);
@@ -83,7 +84,7 @@ fn main() -> io::Result<ExitCode> {
             eprintln!("       beside pack [--keys] [--answers] [--but TRACE]");
             eprintln!("       beside compare --calls N --seed S PORT [--damage CALL]");
             eprintln!("       beside bench [--rounds N] PORT --tablekeys PROGRAM");
-            eprintln!("where PORT is --port PROGRAM --keys PROGRAM --bytes PROGRAM");
+            eprintln!("where PORT is --port PROGRAM --keys PROGRAM --bytes PROGRAM --preferences PROGRAM");
             Ok(ExitCode::from(2))
         }
     }

@@ -319,7 +319,13 @@ impl Oracle {
                 record = Record::NoHandler;
                 (end, Value::Nothing)
             }
-            Op::Handle(..) | Op::ToAscii(..) | Op::ConvertSet2 | Op::TypeText | Op::Salvage(_) | Op::Kept(_) => unreachable!(),
+            Op::Handle(..)
+            | Op::ToAscii(..)
+            | Op::ConvertSet2
+            | Op::TypeText
+            | Op::Salvage(_)
+            | Op::ApplyPreferences(_)
+            | Op::Kept(_) => unreachable!(),
         };
         (end, value, record)
     }

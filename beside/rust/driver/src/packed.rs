@@ -4,19 +4,21 @@
 use crate::answer::*;
 use crate::call::*;
 use crate::kept;
+use crate::prefs_apply;
 use std::io::{self, Read};
 
 /// The port's programs: crates/replay makes the calls on the ports, crates/replay_keys those on keys, crates/replay_bytes those on
-/// lent bytes.
+/// lent bytes, crates/replay_preferences applies preferences.
 #[derive(Clone, Copy)]
 pub enum Program {
     Ports,
     Keys,
     Bytes,
+    Preferences,
 }
 
 /// How many programs the port has.
-pub const PROGRAMS: usize = 3;
+pub const PROGRAMS: usize = 4;
 
 impl Program {
     /// The program that makes an operation's calls.
@@ -24,6 +26,7 @@ impl Program {
         match op {
             Op::Handle(..) | Op::KeyboardInit | Op::ToAscii(..) => Program::Keys,
             Op::ConvertSet2 | Op::TypeText | Op::Salvage(_) => Program::Bytes,
+            Op::ApplyPreferences(_) => Program::Preferences,
             _ => Program::Ports,
         }
     }
@@ -116,6 +119,7 @@ pub fn operation(op: &Op) -> (u8, u8, u16) {
         Op::ToAscii(keycode, flags) => (TO_ASCII, keycode, flags),
         Op::ConvertSet2 => (CONVERT_SET2, 0, 0),
         Op::TypeText => (TYPE_TEXT, 0, 0),
+        Op::ApplyPreferences(_) => (prefs_apply::APPLYING, 0, 0),
         Op::Handle(..) | Op::Salvage(_) | Op::Kept(_) => unreachable!("it is packed by itself"),
     }
 }
@@ -134,6 +138,9 @@ pub fn put_call(call: &Call, out: &mut Vec<u8>) -> Result<(), String> {
     }
     if call.repeat > u32::MAX as u64 {
         return Err(format!("the port's program repeats no call {} times", call.repeat));
+    }
+    if let Op::ApplyPreferences(preferences) = &call.op {
+        return preferences.put_call(call, out);
     }
     if call.op.takes_script() || call.op.takes_bytes() {
         put_script(&call.script, out);
@@ -155,7 +162,7 @@ pub fn put_call(call: &Call, out: &mut Vec<u8>) -> Result<(), String> {
 }
 
 /// Puts a script as parts, each with the number of bytes that it fills beyond its own; the first begins it anew.
-fn put_script(script: &[u8], out: &mut Vec<u8>) {
+pub fn put_script(script: &[u8], out: &mut Vec<u8>) {
     let mut argument = 1;
     let mut put = |bytes: &[u8], times: usize| {
         let (state, beyond) = (bytes.len() as u16, bytes.len() * (times - 1));

@@ -37,8 +37,8 @@ impl Running {
 
 /// Starts the port's programs.
 pub fn start(paths: Paths) -> io::Result<[Running; PROGRAMS]> {
-    let [ports, keys, bytes] = paths.map(Running::start);
-    Ok([ports?, keys?, bytes?])
+    let [ports, keys, bytes, preferences] = paths.map(Running::start);
+    Ok([ports?, keys?, bytes?, preferences?])
 }
 
 /// Answers each call line of standard input. A bad line gets an error with its number, and the exit status 1.
@@ -65,12 +65,12 @@ pub fn answer_lines(mut answer: impl FnMut(&Call) -> Result<Answer, String>) -> 
 /// The port's programs, each started by the first call that it makes.
 struct Programs<'a> {
     paths: Paths<'a>,
-    running: [Option<Running>; 3],
+    running: [Option<Running>; PROGRAMS],
 }
 
 impl<'a> Programs<'a> {
     fn new(paths: Paths<'a>) -> Programs<'a> {
-        Programs { paths, running: [None, None, None] }
+        Programs { paths, running: [const { None }; PROGRAMS] }
     }
 
     fn answer(&mut self, call: &Call) -> Result<Answer, String> {
