@@ -13,6 +13,7 @@ mod packed;
 mod plain;
 mod port;
 mod prefs_apply;
+mod prefs_code;
 mod salvage;
 
 use packed::Program;

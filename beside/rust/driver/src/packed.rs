@@ -5,6 +5,7 @@ use crate::answer::*;
 use crate::call::*;
 use crate::kept;
 use crate::prefs_apply;
+use crate::prefs_code::{self, FieldsRead};
 use std::io::{self, Read};
 
 /// The port's programs: crates/replay makes the calls on the ports, crates/replay_keys those on keys, crates/replay_bytes those on
@@ -25,7 +26,8 @@ impl Program {
     pub fn of(op: &Op) -> Program {
         match op {
             Op::Handle(..) | Op::KeyboardInit | Op::ToAscii(..) => Program::Keys,
-            Op::ConvertSet2 | Op::TypeText | Op::Salvage(_) => Program::Bytes,
+            Op::Salvage(_) => Program::Bytes,
+            op if op.takes_bytes() => Program::Bytes,
             Op::ApplyPreferences(_) => Program::Preferences,
             _ => Program::Ports,
         }
@@ -120,6 +122,8 @@ pub fn operation(op: &Op) -> (u8, u8, u16) {
         Op::ConvertSet2 => (CONVERT_SET2, 0, 0),
         Op::TypeText => (TYPE_TEXT, 0, 0),
         Op::ApplyPreferences(_) => (prefs_apply::APPLYING, 0, 0),
+        Op::WritePreferences(ref preferences) => (prefs_code::WRITING, preferences.version, 0),
+        Op::ReadPreferences(reader) => (prefs_code::READING, reader, 0),
         Op::Handle(..) | Op::Salvage(_) | Op::Kept(_) => unreachable!("it is packed by itself"),
     }
 }
@@ -142,8 +146,10 @@ pub fn put_call(call: &Call, out: &mut Vec<u8>) -> Result<(), String> {
     if let Op::ApplyPreferences(preferences) = &call.op {
         return preferences.put_call(call, out);
     }
-    if call.op.takes_script() || call.op.takes_bytes() {
-        put_script(&call.script, out);
+    match &call.op {
+        Op::WritePreferences(preferences) => put_script(&preferences.field_bytes(), out),
+        op if op.takes_script() || op.takes_bytes() => put_script(&call.script, out),
+        _ => {}
     }
     if call.repeat > 1 && matches!(call.op, Op::Handle(..) | Op::KeyboardInit) {
         return Err(format!("the port's program repeats no {}", call.op.name()));
@@ -156,7 +162,8 @@ pub fn put_call(call: &Call, out: &mut Vec<u8>) -> Result<(), String> {
         return kept::put_call(op, call, out);
     } else {
         let (op, argument, state) = operation(&call.op);
-        Instruction { op, argument, state, room: call.room, times: call.repeat as usize }.put(out);
+        let room = if let Op::ReadPreferences(_) = call.op { prefs_code::FIELDS_ROOM } else { call.room };
+        Instruction { op, argument, state, room, times: call.repeat as usize }.put(out);
     }
     Ok(())
 }
@@ -346,7 +353,7 @@ pub fn put_answer(op: &Op, answer: &Answer, out: &mut Vec<u8>) -> Result<(), Str
             taken(WAITING, None).put(out);
         }
         // The port alone answers these, so no answer to one is recorded.
-        Answer::Bytes { .. } | Answer::Salvaged(_) | Answer::Kept(_) => {
+        Answer::Bytes { .. } | Answer::Salvaged(_) | Answer::Fields(_) | Answer::Kept(_) => {
             return Err(format!("an answer to {} is not packed", op.name()))
         }
     }
@@ -424,6 +431,7 @@ fn read_bytes(op: &Op, from: &mut impl Read) -> io::Result<Result<Answer, String
     let rest = bytes.split_off(written as usize);
     Ok(match rest.iter().position(|&byte| byte != UNTOUCHED) {
         Some(at) => Err(format!("place {} of the output, which was not written, has changed", written as usize + at)),
+        None if matches!(op, Op::ReadPreferences(_)) => FieldsRead::of_bytes(end, &bytes).map(Answer::Fields),
         None => Ok(Answer::Bytes { end, used: op.counts_used().then_some(used as usize), bytes }),
     })
 }

@@ -15,8 +15,8 @@ const FIELDS: usize = 5;
 /// A record: four fields in version 1, and five in version 2.
 #[derive(Clone, Debug, PartialEq)]
 pub struct Preferences {
-    version: u8,
-    fields: Vec<u32>,
+    pub version: u8,
+    pub fields: Vec<u32>,
 }
 
 impl Preferences {
@@ -38,13 +38,19 @@ impl Preferences {
         }
     }
 
-    /// Puts the call. The fields go before the script, each as four bytes; where there is no fifth, zeros.
+    /// The fields, each as four bytes, the low one first; where there is no fifth, zeros.
+    pub fn field_bytes(&self) -> Vec<u8> {
+        let mut bytes: Vec<u8> = self.fields.iter().flat_map(|field| field.to_le_bytes()).collect();
+        bytes.resize(4 * FIELDS, 0);
+        bytes
+    }
+
+    /// Puts the call. The fields go before the script.
     pub fn put_call(&self, call: &Call, out: &mut Vec<u8>) -> Result<(), String> {
         if call.repeat != 1 {
             return Err(format!("the port's program repeats no {NAME}"));
         }
-        let mut script: Vec<u8> = self.fields.iter().flat_map(|field| field.to_le_bytes()).collect();
-        script.resize(4 * FIELDS, 0);
+        let mut script = self.field_bytes();
         script.extend(&call.script);
         if script.len() > LONGEST_SCRIPT {
             return Err(format!("the port's program takes no script of {} bytes here", call.script.len()));
