@@ -21,9 +21,9 @@ use Rattle.preferences_coding.specs.declared.ReadRefusal.{ReadRefusal}
 use Rattle.preferences_coding.specs.declared.Taken.{Taken}
 use Rattle.preferences_coding.specs.declared.Head.{Head}
 use Rattle.preferences_coding.specs.declared.Four.{Four}
-use Rattle.preferences_coding.specs.declared.Common.{Common}
-use Rattle.preferences_coding.specs.Reading.{behind, asking, atEnd, numbersRead, isVersion, isCount, questionsOf, versionIn, recordRead, refusalNumber}
-use Rattle.preferences_coding.specs.Steps.{behindAll, Takes, Heads, Fours, Commons}
+use Rattle.preferences_coding.specs.Format.{fieldCount}
+use Rattle.preferences_coding.specs.Reading.{behind, asking, atEnd, numbersRead, isVersion, anyNumber, isCount, questionsOf, versionIn, recordRead, refusalNumber}
+use Rattle.preferences_coding.specs.Steps.{behindAll, takenSays, valueIn, checkedAs, Takes, Heads, Fours}
 
 -- ---- one number
 
@@ -42,9 +42,6 @@ record Known (question : ℕ → Bool) (a : Answer Number) (v : ℕ) : Type 0 wh
 module _ {input : List ℕ} {at : ℕ} {question : ℕ → Bool} where
   pub takes-malformed : readNumber (drop at input) ≡ refuses 27 → Takes input at question (Taken.Refused ReadRefusal.Malformed)
   takes-malformed e = record { says = λ next. rw e }
-
-  pub takes-outside : {v n : ℕ} → readNumber (drop at input) ≡ gives (taking v n) → question v ≡ false → Takes input at question (Taken.Refused ReadRefusal.OutsideValues)
-  takes-outside e q = record { says = λ next. rw (e, q) }
 
   pub takes-number : {v n : ℕ} → readNumber (drop at input) ≡ gives (taking v n) → question v ≡ true → Takes input at question (Taken.Number v (at + n))
   takes-number {v} {n} e q = record { says = λ next. rw (e, q, drop-drop n at input) }
@@ -69,6 +66,26 @@ module _ {input : List ℕ} {at : ℕ} {question : ℕ → Bool} where
       by (refuses k) e = let z : _≡_ {A = ℕ} 0 1 = cc in absurd (omega arith)
       by (gives r) e = judge r (question (r .value)) refl e
 
+-- a number that was read, with its question
+module _ {input : List ℕ} {at : ℕ} (question : ℕ → Bool) where
+  with-question : (t : Taken) → Takes input at anyNumber t → Takes input at question (checkedAs t (question (valueIn t)))
+  with-question t r = record { says = λ next. by t (readNumber (drop at input)) next (r .says (λ rest. gives [])) (r .says next) }
+    where
+      told : (n : Number) (v end : ℕ) (next : List ℕ → Answer (List ℕ)) → behind (n .value) (next (drop (n .count) (drop at input))) ≡ behind v (next (drop end input)) → (b : Bool) → question (n .value) ≡ b → question v ≡ b
+          → asking question next (drop at input) (gives n) ≡ takenSays input next (checkedAs (Taken.Number v end) (question v))
+      told n v end next s true p q = rw (p, q) s
+      told n v end next s false p q = rw (p, q)
+
+      by : (t : Taken) (a : Answer Number) (next : List ℕ → Answer (List ℕ)) → asking anyNumber (λ rest. gives []) (drop at input) a ≡ takenSays input (λ rest. gives []) t
+          → asking anyNumber next (drop at input) a ≡ takenSays input next t → asking question next (drop at input) a ≡ takenSays input next (checkedAs t (question (valueIn t)))
+      by (Taken.Refused x) (refuses k) next f s = s
+      by (Taken.Refused x) (gives n) next f s = absurd (let z : _≡_ {A = ℕ} 0 1 = cc in omega arith)
+      by (Taken.Number v end) (refuses k) next f s = absurd (let z : _≡_ {A = ℕ} 0 1 = cc in omega arith)
+      by (Taken.Number v end) (gives n) next f s = let z : n .value ≡ v = cc in told n v end next s (question v) (ap question z) refl
+
+  pub takes-checked : {t u : Taken} {v : ℕ} {accepted : Bool} → Takes input at anyNumber t → v ≡ valueIn t → accepted ≡ question v → u ≡ checkedAs t accepted → Takes input at question u
+  takes-checked {t} r p q e = subst (Takes input at question) (sym (e ∙ ap (checkedAs t) (q ∙ ap question p))) (with-question t r)
+
 -- ---- version and count
 
 second-version : (n : ℕ) → isVersion n ≡ true → (n ≡ 1 → ⊥) → n ≡ 2
@@ -77,28 +94,31 @@ second-version n e other = eqb-true n 2 (rw (ne-eqb n 1 other) at e)
 module _ {input : List ℕ} where
   pub head-refused : {x : ReadRefusal} → Takes input 0 isVersion (Taken.Refused x) → Heads input (Head.Refused x)
   unfolding recordRead
-  head-refused t = record { says = λ fifth. then-refused t (isCount (versionIn (readNumber input)) ∷ fourValues ++ cond (eqb (versionIn (readNumber input)) 1) [] (fifth ∷ [])) }
+  head-refused t =
+      record {
+        says = λ fifth. then-refused t (isCount (versionIn (readNumber input)) ∷ fourValues ++ cond (eqb (versionIn (readNumber input)) 1) [] (fifth ∷ []));
+        version = tt;
+      }
 
   module _ {v at : ℕ} (t : Takes input 0 isVersion (Taken.Number v at)) where
-    by-version : (w : ℕ) → v ≡ w → (fifth : ℕ → Bool) → recordRead fifth input ≡ behind w (numbersRead (isCount w ∷ fourValues ++ cond (eqb w 1) [] (fifth ∷ [])) (drop at input))
+    by-version : (fifth : ℕ → Bool) → recordRead fifth input ≡ behind v (numbersRead (isCount v ∷ fourValues ++ cond (eqb v 1) [] (fifth ∷ [])) (drop at input))
     unfolding recordRead
-    by-version w e fifth = rw (known t .value ∙ e) (then-others (subst (λ (n : ℕ). Takes input 0 isVersion (Taken.Number n at)) e t) (isCount w ∷ fourValues ++ cond (eqb w 1) [] (fifth ∷ [])))
+    by-version fifth = rw (known t .value) (then-others t (isCount v ∷ fourValues ++ cond (eqb v 1) [] (fifth ∷ [])))
 
-    pub count-refused-1 : {x : ReadRefusal} → v ≡ 1 → Takes input at (isCount 1) (Taken.Refused x) → Heads input (Head.Refused x)
-    count-refused-1 e c = record { says = λ fifth. by-version 1 e fifth ∙ ap (behind 1) (then-refused c fourValues) }
+    pub count-refused : {x : ReadRefusal} → Takes input at (isCount v) (Taken.Refused x) → Heads input (Head.Refused x)
+    count-refused c = record { says = λ fifth. by-version fifth ∙ ap (behind v) (then-refused c (fourValues ++ cond (eqb v 1) [] (fifth ∷ []))); version = tt }
 
-    pub head-one : {n end : ℕ} → v ≡ 1 → Takes input at (isCount 1) (Taken.Number n end) → Heads input (Head.One end)
-    head-one {n} {end} e c =
-        let z : n ≡ 4 = eqb-true n 4 (known c .accepted) in
-        record { says = λ fifth. by-version 1 e fifth ∙ ap (behind 1) (then-others c fourValues) ∙ ap (λ (m : ℕ). behind 1 (behind m (numbersRead fourValues (drop end input)))) z }
-
-    pub count-refused-2 : {x : ReadRefusal} → (v ≡ 1 → ⊥) → Takes input at (isCount 2) (Taken.Refused x) → Heads input (Head.Refused x)
-    count-refused-2 other c = record { says = λ fifth. by-version 2 (second-version v (known t .accepted) other) fifth ∙ ap (behind 2) (then-refused c (fourValues ++ fifth ∷ [])) }
-
-    pub head-two : {n end : ℕ} → (v ≡ 1 → ⊥) → Takes input at (isCount 2) (Taken.Number n end) → Heads input (Head.Two end)
-    head-two {n} {end} other c =
-        let z : n ≡ 5 = eqb-true n 5 (known c .accepted) in
-        record { says = λ fifth. by-version 2 (second-version v (known t .accepted) other) fifth ∙ ap (behind 2) (then-others c (fourValues ++ fifth ∷ [])) ∙ ap (λ (m : ℕ). behind 2 (behind m (numbersRead (fourValues ++ fifth ∷ []) (drop end input)))) z }
+    pub head-read : {n end : ℕ} → Takes input at (isCount v) (Taken.Number n end) → Heads input (Head.Version v end)
+    head-read {n} {end} c =
+        let z : n ≡ fieldCount v = eqb-true n (fieldCount v) (known c .accepted) in
+        record {
+          says =
+              λ fifth.
+              by-version fifth
+              ∙ ap (behind v) (then-others c (fourValues ++ cond (eqb v 1) [] (fifth ∷ [])))
+              ∙ ap (λ (m : ℕ). behind v (behind m (numbersRead (fourValues ++ cond (eqb v 1) [] (fifth ∷ [])) (drop end input)))) z;
+          version = known t .accepted;
+        }
 
 -- ---- the four fields
 
@@ -127,26 +147,6 @@ module _ {input : List ℕ} {at : ℕ} where
         pub four-read : {lamps end : ℕ} → Takes input at4 isLamps (Taken.Number lamps end) → Fours input at (Four.Fields (record { set = set; rate = rate; resolution = resolution; lamps = lamps }) end)
         four-read w = record { says = λ qs. to-fourth qs ∙ ap (λ (a : Answer (List ℕ)). behind set (behind rate (behind resolution a))) (then-others w qs) }
 
--- ---- both
-
-module _ {input : List ℕ} where
-  pub common-refused : {x : ReadRefusal} → Heads input (Head.Refused x) → Commons input (Common.Refused x)
-  common-refused h = record { says = h .says }
-
-  module _ {at : ℕ} (h : Heads input (Head.One at)) where
-    pub one-refused : {x : ReadRefusal} → Fours input at (Four.Refused x) → Commons input (Common.Refused x)
-    one-refused f = record { says = λ fifth. h .says fifth ∙ ap (λ (a : Answer (List ℕ)). behind 1 (behind 4 a)) (f .says []) }
-
-    pub one-read : {four : Fields} {end : ℕ} → Fours input at (Four.Fields four end) → Commons input (Common.One four end)
-    one-read f = record { says = λ fifth. h .says fifth ∙ ap (λ (a : Answer (List ℕ)). behind 1 (behind 4 a)) (f .says []) }
-
-  module _ {at : ℕ} (h : Heads input (Head.Two at)) where
-    pub two-refused : {x : ReadRefusal} → Fours input at (Four.Refused x) → Commons input (Common.Refused x)
-    two-refused f = record { says = λ fifth. h .says fifth ∙ ap (λ (a : Answer (List ℕ)). behind 2 (behind 5 a)) (f .says (fifth ∷ [])) }
-
-    pub two-read : {four : Fields} {end : ℕ} → Fours input at (Four.Fields four end) → Commons input (Common.Two four end)
-    two-read f = record { says = λ fifth. h .says fifth ∙ ap (λ (a : Answer (List ℕ)). behind 2 (behind 5 a)) (f .says (fifth ∷ [])) }
-
 -- ---- the end
 
 module _ (input : List ℕ) (end : ℕ) where
@@ -159,23 +159,39 @@ module _ (input : List ℕ) (end : ℕ) where
   bytes-follow h = rw (drop-cons input end 0 (leb-false (length input) end h))
 
 module _ {input : List ℕ} (fifth : ℕ → Bool) where
-  pub read-refused : {x : ReadRefusal} → Commons input (Common.Refused x) → recordRead fifth input ≡ refuses (refusalNumber x)
-  read-refused c = c .says fifth
+  pub head-ends : {x : ReadRefusal} → Heads input (Head.Refused x) → recordRead fifth input ≡ refuses (refusalNumber x)
+  head-ends h = h .says fifth
 
-  module _ {four : Fields} {end : ℕ} (c : Commons input (Common.One four end)) where
-    pub one-follows : leb (length input) end ≡ false → recordRead fifth input ≡ refuses 29
-    one-follows h = c .says fifth ∙ ap (behindAll (1 ∷ 4 ∷ fourFields four)) (bytes-follow input end h)
+  module _ {v at : ℕ} (h : Heads input (Head.Version v at)) where
+    pub four-ends : {x : ReadRefusal} → Fours input at (Four.Refused x) → recordRead fifth input ≡ refuses (refusalNumber x)
+    four-ends f = h .says fifth ∙ ap (behindAll (v ∷ fieldCount v ∷ [])) (f .says (cond (eqb v 1) [] (fifth ∷ [])))
 
-    pub one-ends : leb (length input) end ≡ true → recordRead fifth input ≡ gives (1 ∷ 4 ∷ fourFields four)
-    one-ends h = c .says fifth ∙ ap (behindAll (1 ∷ 4 ∷ fourFields four)) (nothing-follows input end h)
+    module _ {four : Fields} {end : ℕ} (f : Fours input at (Four.Fields four end)) where
+      behind-four : recordRead fifth input ≡ behindAll (v ∷ fieldCount v ∷ fourFields four) (numbersRead (cond (eqb v 1) [] (fifth ∷ [])) (drop end input))
+      behind-four = h .says fifth ∙ ap (behindAll (v ∷ fieldCount v ∷ [])) (f .says (cond (eqb v 1) [] (fifth ∷ [])))
 
-  module _ {four : Fields} {at : ℕ} (c : Commons input (Common.Two four at)) where
-    pub fifth-refused : {x : ReadRefusal} → Takes input at fifth (Taken.Refused x) → recordRead fifth input ≡ refuses (refusalNumber x)
-    fifth-refused t = c .says fifth ∙ ap (behindAll (2 ∷ 5 ∷ fourFields four)) (then-refused t [])
+      module _ (e : v ≡ 1) where
+        behind-1 : recordRead fifth input ≡ behindAll (1 ∷ 4 ∷ fourFields four) (numbersRead [] (drop end input))
+        behind-1 = behind-four ∙ ap (λ (w : ℕ). behindAll (w ∷ fieldCount w ∷ fourFields four) (numbersRead (cond (eqb w 1) [] (fifth ∷ [])) (drop end input))) e
 
-    module _ {again end : ℕ} (t : Takes input at fifth (Taken.Number again end)) where
-      pub two-follows : leb (length input) end ≡ false → recordRead fifth input ≡ refuses 29
-      two-follows h = c .says fifth ∙ ap (behindAll (2 ∷ 5 ∷ fourFields four)) (then-others t [] ∙ ap (behind again) (bytes-follow input end h))
+        pub one-follows : leb (length input) end ≡ false → recordRead fifth input ≡ refuses 29
+        one-follows l = behind-1 ∙ ap (behindAll (1 ∷ 4 ∷ fourFields four)) (bytes-follow input end l)
 
-      pub two-ends : leb (length input) end ≡ true → recordRead fifth input ≡ gives (2 ∷ 5 ∷ fourFields four ++ again ∷ [])
-      two-ends h = c .says fifth ∙ ap (behindAll (2 ∷ 5 ∷ fourFields four)) (then-others t [] ∙ ap (behind again) (nothing-follows input end h))
+        pub one-ends : leb (length input) end ≡ true → recordRead fifth input ≡ gives (1 ∷ 4 ∷ fourFields four)
+        one-ends l = behind-1 ∙ ap (behindAll (1 ∷ 4 ∷ fourFields four)) (nothing-follows input end l)
+
+      module _ (other : v ≡ 1 → ⊥) where
+        behind-2 : recordRead fifth input ≡ behindAll (2 ∷ 5 ∷ fourFields four) (numbersRead (fifth ∷ []) (drop end input))
+        behind-2 =
+            behind-four
+            ∙ ap (λ (w : ℕ). behindAll (w ∷ fieldCount w ∷ fourFields four) (numbersRead (cond (eqb w 1) [] (fifth ∷ [])) (drop end input))) (second-version v (h .version) other)
+
+        pub fifth-ends : {x : ReadRefusal} → Takes input end fifth (Taken.Refused x) → recordRead fifth input ≡ refuses (refusalNumber x)
+        fifth-ends t = behind-2 ∙ ap (behindAll (2 ∷ 5 ∷ fourFields four)) (then-refused t [])
+
+        module _ {again last : ℕ} (t : Takes input end fifth (Taken.Number again last)) where
+          pub two-follows : leb (length input) last ≡ false → recordRead fifth input ≡ refuses 29
+          two-follows l = behind-2 ∙ ap (behindAll (2 ∷ 5 ∷ fourFields four)) (then-others t [] ∙ ap (behind again) (bytes-follow input last l))
+
+          pub two-ends : leb (length input) last ≡ true → recordRead fifth input ≡ gives (2 ∷ 5 ∷ fourFields four ++ again ∷ [])
+          two-ends l = behind-2 ∙ ap (behindAll (2 ∷ 5 ∷ fourFields four)) (then-others t [] ∙ ap (behind again) (nothing-follows input last l))

@@ -8,10 +8,10 @@ ghost use Rattle.exchange.specs.Answer.{numberAnswered};
 ghost use Rattle.number_coding.specs.Coding.{coding};
 ghost use Rattle.number_coding.specs.Writing.{outcome};
 ghost use Rattle.preferences.specs.Record.{fourFields};
-ghost use Rattle.preferences_coding.specs.Format.{codings};
-ghost use Rattle.preferences_coding.specs.Reading.{read1, read2, saidRead1, saidRead2, refusalNumber};
+ghost use Rattle.preferences_coding.specs.Format.{codings, fieldCount};
+ghost use Rattle.preferences_coding.specs.Reading.{isVersion, anyNumber, recordRead, read1, read2, saidRead1, saidRead2, refusalNumber};
 ghost use Rattle.preferences_coding.specs.Writing.{written, leaves, saidWritten};
-ghost use Rattle.preferences_coding.specs.Steps.{asks, Takes, Heads, Fours, Commons, Put, Puts};
+ghost use Rattle.preferences_coding.specs.Steps.{fifthFor, Takes, valueIn, checkedAs, Heads, Fours, Put, Puts};
 use number_coding::NumberRead;
 use number_coding::number_length;
 use number_coding::read_number;
@@ -56,19 +56,7 @@ pub struct PreferencesWritten {
     pub written: usize,
 }
 
-// What is asked of a number.
-enum Question {
-    Version,
-    Count(u32),
-    ScancodeSet,
-    SamplingRate,
-    Resolution,
-    Lamps,
-    RepeatByte,
-    Any,
-}
-
-// A number that its question accepted, with the place behind it.
+// A number that was read, and accepted by its question, with the place behind it.
 enum Taken {
     Number(u32, usize),
     Refused(ReadRefusal),
@@ -76,21 +64,13 @@ enum Taken {
 
 // The version of a record, with the place behind its count.
 enum Head {
-    One(usize),
-    Two(usize),
+    Version(u32, usize),
     Refused(ReadRefusal),
 }
 
 // The four fields that every record has, with the place behind them.
 enum Four {
     Fields(Fields, usize),
-    Refused(ReadRefusal),
-}
-
-// The same by the record's version.
-enum Common {
-    One(Fields, usize),
-    Two(Fields, usize),
     Refused(ReadRefusal),
 }
 
@@ -102,6 +82,9 @@ const VERSION_2: u32 = 2;
 const FIELDS_1: u32 = 4;
 
 const FIELDS_2: u32 = 5;
+
+// A byte below this is a number.
+const ONE_BYTE_END: u8 = 128;
 
 // Version and count take a byte each.
 const HEAD_LENGTH: usize = 2;
@@ -158,59 +141,98 @@ impl WriteAnswer {
 
 // ---- reading
 
-// Whether a number is what a question asks for.
-fn accepts(question: Question, value: u32) -> bool
-    ensures { λ r. ⌜ r ≡ asks question value ⌝ }
+// Whether a number is a version.
+fn is_version(value: u32) -> bool
+    ensures { λ r. ⌜ r ≡ isVersion value ⌝ }
 {
-    match question {
-        Question::Version => {
-            let one = value == VERSION_1;
-            let two = value == VERSION_2;
-            one | two
-        }
-        Question::Count(count) => value == count,
-        Question::ScancodeSet => is_scancode_set(value),
-        Question::SamplingRate => is_sampling_rate(value),
-        Question::Resolution => is_resolution(value),
-        Question::Lamps => is_lamps(value),
-        Question::RepeatByte => is_repeat_byte(value),
-        Question::Any => true,
-    }
+    let one = value == VERSION_1;
+    let two = value == VERSION_2;
+    one | two
 }
 
-// Reads a number and asks its question: its form is asked before its value.
-fn take(input: &[u8], at: usize, question: Question) -> Taken
-    ensures { λ r. ⌜ Takes (now (input .entry)) at (asks question) r ⌝ }
+// How many fields a record of a version has.
+fn field_count(version: u32) -> u32
+    ensures { λ r. ⌜ r ≡ fieldCount version ⌝ }
+{
+    if version == VERSION_1 {
+        return FIELDS_1;
+    }
+    FIELDS_2
+}
+
+// Whether the fifth field is what a reader asks for: that of version 1 checks no range.
+fn accepts_fifth(checks_range: bool, value: u32) -> bool
+    ensures { λ r. ⌜ r ≡ fifthFor «checks_range» value ⌝ }
+{
+    if checks_range {
+        return is_repeat_byte(value);
+    }
+    true
+}
+
+// Reads the number at a place.
+fn any_number_at(input: &[u8], at: usize) -> Taken
+    ensures { λ r. ⌜ Takes (now (input .entry)) at anyNumber r ⌝ }
 {
     let NumberRead::Number(value, count) = read_number(input, at) else {
         return Taken::Refused(ReadRefusal::Malformed);
     };
-    if accepts(question, value) {
-        return Taken::Number(value, at + count);
+    Taken::Number(value, at + count)
+}
+
+// The same. A number of one byte, as most are, is read here: that is short enough for a compiler to put it into each caller.
+fn number_at(input: &[u8], at: usize) -> Taken
+    ensures { λ r. ⌜ Takes (now (input .entry)) at anyNumber r ⌝ }
+{
+    if input.len() <= at {
+        return any_number_at(input, at);
     }
-    Taken::Refused(ReadRefusal::OutsideValues)
+    let byte = input[at];
+    if ONE_BYTE_END <= byte {
+        return any_number_at(input, at);
+    }
+    Taken::Number(byte as u32, at + 1)
+}
+
+// The number that was read, to be asked its question; 0 where there is none.
+fn value_of(read: Taken) -> u32
+    ensures { λ r. ⌜ r ≡ valueIn read ⌝ }
+{
+    match read {
+        Taken::Number(value, _) => value,
+        Taken::Refused(_) => 0,
+    }
+}
+
+// A number that was read, with the answer to its question: its form was asked before.
+fn checked(read: Taken, accepted: bool) -> Taken
+    ensures { λ r. ⌜ r ≡ checkedAs read «accepted» ⌝ }
+{
+    match read {
+        Taken::Refused(refusal) => Taken::Refused(refusal),
+        Taken::Number(value, end) => {
+            if accepted {
+                return Taken::Number(value, end);
+            }
+            Taken::Refused(ReadRefusal::OutsideValues)
+        }
+    }
 }
 
 // Reads version and count: the count is judged by the version.
 fn read_head(input: &[u8]) -> Head
     ensures { λ r. ⌜ Heads (now (input .entry)) r ⌝ }
 {
-    let version = take(input, 0, Question::Version);
-    match version {
+    let number = number_at(input, 0);
+    let first = checked(number, is_version(value_of(number)));
+    match first {
         Taken::Refused(refusal) => Head::Refused(refusal),
-        Taken::Number(number, at) => {
-            if number == VERSION_1 {
-                let count = take(input, at, Question::Count(FIELDS_1));
-                match count {
-                    Taken::Refused(refusal) => Head::Refused(refusal),
-                    Taken::Number(_, end) => Head::One(end),
-                }
-            } else {
-                let count = take(input, at, Question::Count(FIELDS_2));
-                match count {
-                    Taken::Refused(refusal) => Head::Refused(refusal),
-                    Taken::Number(_, end) => Head::Two(end),
-                }
+        Taken::Number(version, at) => {
+            let number = number_at(input, at);
+            let second = checked(number, value_of(number) == field_count(version));
+            match second {
+                Taken::Refused(refusal) => Head::Refused(refusal),
+                Taken::Number(_, end) => Head::Version(version, end),
             }
         }
     }
@@ -220,19 +242,23 @@ fn read_head(input: &[u8]) -> Head
 fn read_four(input: &[u8], at: usize) -> Four
     ensures { λ r. ⌜ Fours (now (input .entry)) at r ⌝ }
 {
-    let first = take(input, at, Question::ScancodeSet);
+    let number = number_at(input, at);
+    let first = checked(number, is_scancode_set(value_of(number)));
     match first {
         Taken::Refused(refusal) => Four::Refused(refusal),
         Taken::Number(set, rate_at) => {
-            let second = take(input, rate_at, Question::SamplingRate);
+            let number = number_at(input, rate_at);
+            let second = checked(number, is_sampling_rate(value_of(number)));
             match second {
                 Taken::Refused(refusal) => Four::Refused(refusal),
                 Taken::Number(rate, resolution_at) => {
-                    let third = take(input, resolution_at, Question::Resolution);
+                    let number = number_at(input, resolution_at);
+                    let third = checked(number, is_resolution(value_of(number)));
                     match third {
                         Taken::Refused(refusal) => Four::Refused(refusal),
                         Taken::Number(resolution, lamps_at) => {
-                            let fourth = take(input, lamps_at, Question::Lamps);
+                            let number = number_at(input, lamps_at);
+                            let fourth = checked(number, is_lamps(value_of(number)));
                             match fourth {
                                 Taken::Refused(refusal) => Four::Refused(refusal),
                                 Taken::Number(lamps, end) => Four::Fields(
@@ -253,30 +279,6 @@ fn read_four(input: &[u8], at: usize) -> Four
     }
 }
 
-// Reads all that records of both versions have.
-fn read_common(input: &[u8]) -> Common
-    ensures { λ r. ⌜ Commons (now (input .entry)) r ⌝ }
-{
-    let head = read_head(input);
-    match head {
-        Head::Refused(refusal) => Common::Refused(refusal),
-        Head::One(at) => {
-            let four = read_four(input, at);
-            match four {
-                Four::Refused(refusal) => Common::Refused(refusal),
-                Four::Fields(fields, end) => Common::One(fields, end),
-            }
-        }
-        Head::Two(at) => {
-            let four = read_four(input, at);
-            match four {
-                Four::Refused(refusal) => Common::Refused(refusal),
-                Four::Fields(fields, end) => Common::Two(fields, end),
-            }
-        }
-    }
-}
-
 // Whether no byte follows a place.
 fn ends(input: &[u8], end: usize) -> bool
     ensures { λ r. ⌜ r ≡ leb (length (now (input .entry))) end ⌝ }
@@ -284,29 +286,38 @@ fn ends(input: &[u8], end: usize) -> bool
     input.len() <= end
 }
 
-// The version 1 reader. Of a record of version 2 it gives the four fields; the fifth must be a number, and may be any.
-pub fn read_preferences_1(input: &[u8]) -> FieldsRead
-    ensures { λ r. ⌜ saidRead1 r ≡ read1 (now (input .entry)) ⌝ }
+// Reads a record of either version. The readers differ in what they ask of the fifth field. All of it is in one function, so that the fields are put together
+// where they are given.
+fn read_record(input: &[u8], checks_range: bool) -> PreferencesRead
+    ensures { λ r. ⌜ saidRead2 r ≡ recordRead (fifthFor «checks_range») (now (input .entry)) ⌝ }
 {
-    let common = read_common(input);
-    match common {
-        Common::Refused(refusal) => FieldsRead::Refused(refusal),
-        Common::One(fields, end) => {
-            if ends(input, end) {
-                FieldsRead::Fields(fields)
-            } else {
-                FieldsRead::Refused(ReadRefusal::BytesFollow)
-            }
-        }
-        Common::Two(fields, at) => {
-            let fifth = take(input, at, Question::Any);
-            match fifth {
-                Taken::Refused(refusal) => FieldsRead::Refused(refusal),
-                Taken::Number(_, end) => {
-                    if ends(input, end) {
-                        FieldsRead::Fields(fields)
-                    } else {
-                        FieldsRead::Refused(ReadRefusal::BytesFollow)
+    let head = read_head(input);
+    match head {
+        Head::Refused(refusal) => PreferencesRead::Refused(refusal),
+        Head::Version(version, at) => {
+            let four = read_four(input, at);
+            match four {
+                Four::Refused(refusal) => PreferencesRead::Refused(refusal),
+                Four::Fields(fields, end) => {
+                    if version == VERSION_1 {
+                        if ends(input, end) {
+                            return PreferencesRead::Preferences(Preferences::Version1(fields));
+                        }
+                        return PreferencesRead::Refused(ReadRefusal::BytesFollow);
+                    }
+                    let number = number_at(input, end);
+                    let fifth = checked(number, accepts_fifth(checks_range, value_of(number)));
+                    match fifth {
+                        Taken::Refused(refusal) => PreferencesRead::Refused(refusal),
+                        Taken::Number(repeat, last) => {
+                            if ends(input, last) {
+                                return PreferencesRead::Preferences(Preferences::Version2(
+                                    fields,
+                                    repeat,
+                                ));
+                            }
+                            PreferencesRead::Refused(ReadRefusal::BytesFollow)
+                        }
                     }
                 }
             }
@@ -314,34 +325,25 @@ pub fn read_preferences_1(input: &[u8]) -> FieldsRead
     }
 }
 
+// The version 1 reader. Of a record of version 2 it gives the four fields; the fifth must be a number, and may be any.
+pub fn read_preferences_1(input: &[u8]) -> FieldsRead
+    ensures { λ r. ⌜ saidRead1 r ≡ read1 (now (input .entry)) ⌝ }
+{
+    let read = read_record(input, false);
+    match read {
+        PreferencesRead::Refused(refusal) => FieldsRead::Refused(refusal),
+        PreferencesRead::Preferences(preferences) => match preferences {
+            Preferences::Version1(fields) => FieldsRead::Fields(fields),
+            Preferences::Version2(fields, _) => FieldsRead::Fields(fields),
+        },
+    }
+}
+
 // The version 2 reader, which takes records of both versions.
 pub fn read_preferences_2(input: &[u8]) -> PreferencesRead
     ensures { λ r. ⌜ saidRead2 r ≡ read2 (now (input .entry)) ⌝ }
 {
-    let common = read_common(input);
-    match common {
-        Common::Refused(refusal) => PreferencesRead::Refused(refusal),
-        Common::One(fields, end) => {
-            if ends(input, end) {
-                PreferencesRead::Preferences(Preferences::Version1(fields))
-            } else {
-                PreferencesRead::Refused(ReadRefusal::BytesFollow)
-            }
-        }
-        Common::Two(fields, at) => {
-            let fifth = take(input, at, Question::RepeatByte);
-            match fifth {
-                Taken::Refused(refusal) => PreferencesRead::Refused(refusal),
-                Taken::Number(repeat, end) => {
-                    if ends(input, end) {
-                        PreferencesRead::Preferences(Preferences::Version2(fields, repeat))
-                    } else {
-                        PreferencesRead::Refused(ReadRefusal::BytesFollow)
-                    }
-                }
-            }
-        }
-    }
+    read_record(input, true)
 }
 
 // ---- writing
