@@ -7,13 +7,13 @@ use Rattle.exchange.specs.Answer.{Answer, gives, refuses, lackNumber}
 use Rattle.ps2_answers.specs.declared.ReadPort.{ReadPort}
 use Rattle.ps2_answers.specs.declared.Lack.{Lack}
 use Rattle.ps2_answers.specs.declared.Failure.{Failure}
-use Rattle.ps2_answers.specs.declared.Failure.the-variants.{AlreadyInitialized, InputBufferFull, NoResponse, SelfTestFailed, NotAcknowledged, ControllerTestFailed, PortTestFailed, ResetFailed, NoSetOrIdentity, UnknownKeyboard, FirstIdentityFour, LedsNotSet, RateOrResolutionNotSet, PacketsNotStopped, PacketsNotStarted, KeyboardNotDetected}
+use Rattle.ps2_answers.specs.declared.Failure.the-variants.{AlreadyInitialized, InputBufferFull, NoResponse, SelfTestFailed, NotAcknowledged, ControllerTestFailed, PortTestFailed, ResetFailed, NoSetOrIdentity, UnknownKeyboard, FirstIdentityFour, LedsNotSet, RateOrResolutionNotSet, PacketsNotStopped, PacketsNotStarted, KeyboardNotDetected, FieldOutsideValues}
 use Rattle.ps2_answers.specs.declared.Refusal.{Refusal}
 use Rattle.ps2_answers.specs.declared.Refusal.the-variants.{Lacking, Failed}
 use Rattle.ps2_answers.specs.declared.Completion.{Completion}
 use Rattle.ps2_answers.specs.declared.Completion.the-variants.{Done, Refused}
 
--- The number of each failure in document 01's questions.
+-- The number of each failure in document 01's questions, and in document 02's where a request added it.
 abbrev pub numberOf : Failure → ℕ
 numberOf AlreadyInitialized = 1
 numberOf InputBufferFull = 4
@@ -31,6 +31,7 @@ numberOf RateOrResolutionNotSet = 15
 numberOf PacketsNotStopped = 16
 numberOf PacketsNotStarted = 17
 numberOf KeyboardNotDetected = 18
+numberOf FieldOutsideValues = 28
 
 -- The port of a read: data is 60, the status 64.
 abbrev pub portOf : ReadPort → Port

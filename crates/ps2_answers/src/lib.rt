@@ -18,7 +18,7 @@ pub enum Lack {
     Log,
 }
 
-// Why the controller or a device did not do what was asked. Document 01 numbers each.
+// Why the controller or a device did not do what was asked, or was not asked. Documents 01 and 02 number each.
 pub enum Failure {
     AlreadyInitialized,
     InputBufferFull,
@@ -36,6 +36,7 @@ pub enum Failure {
     PacketsNotStopped,
     PacketsNotStarted,
     KeyboardNotDetected,
+    FieldOutsideValues,
 }
 
 // Why a call ended without what it is for: it lacked a byte or room, or it failed.
@@ -69,7 +70,7 @@ impl Lack {
 }
 
 impl Failure {
-    // The number that document 01 gives to this failure.
+    // The number that document 01 gives to this failure, or document 02.
     pub fn number(self) -> u8
         ensures { λ r. ⌜ r ≡ numberOf self ⌝ }
     {
@@ -90,6 +91,7 @@ impl Failure {
             Failure::PacketsNotStopped => 16,
             Failure::PacketsNotStarted => 17,
             Failure::KeyboardNotDetected => 18,
+            Failure::FieldOutsideValues => 28,
         }
     }
 }

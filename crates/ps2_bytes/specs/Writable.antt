@@ -4,7 +4,7 @@ use Prim.Native.Nat.{ℕ}
 use Rattle.ps2_bytes.specs.Commands.{keyboardByte, mouseByte}
 use Rattle.ps2_bytes.specs.Data.{scancodeSetByte, sampleRateByte, resolutionByte}
 use Rattle.ps2_bytes.specs.declared.writable.HostToKeyboardCommandOrData.{HostToKeyboardCommandOrData}
-use Rattle.ps2_bytes.specs.declared.writable.HostToKeyboardCommandOrData.the-variants.{KeyboardCommand, LEDState, ScancodeSet}
+use Rattle.ps2_bytes.specs.declared.writable.HostToKeyboardCommandOrData.the-variants.{KeyboardCommand, LEDState, ScancodeSet, RepeatRateAndDelay}
 use Rattle.ps2_bytes.specs.declared.writable.HostToMouseCommandOrData.{HostToMouseCommandOrData}
 use Rattle.ps2_bytes.specs.declared.writable.HostToMouseCommandOrData.the-variants.{MouseCommand, SampleRate, MouseResolution}
 use Rattle.ps2_bytes.specs.declared.writable.HostToDevice.{HostToDevice}
@@ -12,11 +12,12 @@ use Rattle.ps2_bytes.specs.declared.writable.HostToDevice.the-variants.{
 use Rattle.ps2_bytes.specs.declared.writable.WritableData.{WritableData}
 use Rattle.ps2_bytes.specs.declared.writable.WritableData.the-variants as Written
 
--- To the keyboard: a command, the LEDs' byte, or a scancode set.
+-- To the keyboard: a command, the LEDs' byte, a scancode set, or the byte of repeat rate and delay.
 abbrev pub toKeyboard : HostToKeyboardCommandOrData → ℕ
 toKeyboard (KeyboardCommand c) = keyboardByte c
 toKeyboard (LEDState l) = l .bits
 toKeyboard (ScancodeSet s) = scancodeSetByte s
+toKeyboard (RepeatRateAndDelay b) = b
 
 -- To the mouse: a command, a sample rate, or a resolution.
 abbrev pub toMouse : HostToMouseCommandOrData → ℕ

@@ -48,6 +48,8 @@ pub enum HostToKeyboardCommandOrData {
     KeyboardCommand(HostToKeyboardCommand),
     LEDState(LEDState),
     ScancodeSet(ScancodeSet),
+    // Data of `SetRepeatRateAndDelay`.
+    RepeatRateAndDelay(u8),
 }
 
 impl HostToKeyboardCommandOrData {
@@ -58,6 +60,7 @@ impl HostToKeyboardCommandOrData {
             HostToKeyboardCommandOrData::KeyboardCommand(c) => c.to_byte(),
             HostToKeyboardCommandOrData::LEDState(l) => l.to_byte(),
             HostToKeyboardCommandOrData::ScancodeSet(s) => s.to_byte(),
+            HostToKeyboardCommandOrData::RepeatRateAndDelay(b) => b,
         }
     }
 }

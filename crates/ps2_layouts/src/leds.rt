@@ -25,6 +25,13 @@ impl LEDState {
         LEDState { bits: 0 }
     }
 
+    // The LEDs that a byte says, all of its bits kept.
+    pub fn from_byte(byte: u8) -> Self
+        ensures { λ r. ⌜ r .bits ≡ byte ⌝ }
+    {
+        LEDState { bits: byte }
+    }
+
     pub fn to_byte(self) -> u8
         ensures { λ r. ⌜ r ≡ self .bits ⌝ }
     {

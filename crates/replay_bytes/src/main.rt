@@ -1,8 +1,13 @@
 // Replays calls on lent bytes, without ports: reads packed calls from standard input and writes packed answers. tests/traces/README.md tells the format.
+mod coding_preferences;
 mod converting;
 mod salvaging;
 mod type_texts;
 
+use coding_preferences::READ_PREFERENCES;
+use coding_preferences::WRITE_PREFERENCES;
+use coding_preferences::answer_reading;
+use coding_preferences::answer_writing;
 use converting::CONVERT_SET2;
 use converting::answer_conversion;
 use packed_calls::END;
@@ -33,6 +38,8 @@ fn answer_with(i: Instruction, input: &[u8], out: &mut [u8]) {
         CONVERT_SET2 => answer_conversion(i, input, out),
         TYPE_TEXT => answer_typing(i, input, out),
         SALVAGE => answer_salvage(i, input, out),
+        WRITE_PREFERENCES => answer_writing(i, input, out),
+        READ_PREFERENCES => answer_reading(i, input, out),
         _ => {
             write_answer(op, ending(NO_CALL, 0, 0, 0), out);
         }

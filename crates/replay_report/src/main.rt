@@ -32,20 +32,20 @@ use report_long::LongReport;
 use report_totals::event_code;
 
 // The operations: a report is told, a session is added to it, and it is asked for.
-const NARROW: u8 = 45;
+const NARROW: u8 = 60;
 
-const NARROW_ADD: u8 = 46;
+const NARROW_ADD: u8 = 61;
 
-const NARROW_ASKED: u8 = 47;
+const NARROW_ASKED: u8 = 62;
 
 // The same in 64 bits, and the conversion of an old report.
-const LONG: u8 = 48;
+const LONG: u8 = 63;
 
-const LONG_ADD: u8 = 49;
+const LONG_ADD: u8 = 64;
 
-const LONG_ASKED: u8 = 50;
+const LONG_ASKED: u8 = 65;
 
-const WIDEN: u8 = 51;
+const WIDEN: u8 = 66;
 
 // Room for the longest input.
 const INPUT_SPACE: usize = 1200000;

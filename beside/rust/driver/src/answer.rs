@@ -3,6 +3,7 @@
 
 use crate::call::*;
 use crate::kept::Kept;
+use crate::prefs_code::FieldsRead;
 use crate::report::Reported;
 use crate::salvage::Salvaged;
 use std::fmt;
@@ -23,6 +24,7 @@ pub enum Answer {
         left: Handler,
     },
     Salvaged(Salvaged),
+    Fields(FieldsRead),
     Reported(Reported),
     /// Of an operation on lent bytes: the input's bytes used, where it counts them, and those written to the output.
     Bytes {
@@ -209,6 +211,7 @@ impl fmt::Display for Answer {
                 write!(f, "{} rec={left}", if done.is_empty() { "-" } else { "" })
             }
             Answer::Salvaged(salvaged) => write!(f, "{salvaged}"),
+            Answer::Fields(read) => write!(f, "{read}"),
             Answer::Reported(reported) => write!(f, "{reported}"),
             Answer::Kept(kept) => write!(f, "{kept}"),
         }
@@ -252,8 +255,14 @@ pub fn parse(op: &Op, line: &str) -> Result<Answer, String> {
             calls => calls.split(',').map(parse_done).collect::<Result<_, _>>()?,
         };
         Answer::Run { done, left: parse_handler(Some(field("rec")?))? }
+    } else if let Op::ReadPreferences(_) = op {
+        Answer::Fields(FieldsRead::parse(end()?, field("fields").ok())?)
     } else if op.takes_bytes() {
-        Answer::Bytes { end: end()?, used: op.counts_used().then(used).transpose()?, bytes: parse_script(field("bytes")?)? }
+        Answer::Bytes {
+            end: end()?,
+            used: op.counts_used().then(used).transpose()?,
+            bytes: parse_script(field("bytes")?)?,
+        }
     } else {
         Answer::Call {
             end: end()?,

@@ -349,6 +349,14 @@ pub fn bench(port: Paths, tablekeys: &str, rounds: usize) -> io::Result<ExitCode
         ),
         ("`type_text`, 160 characters", one(&typing(160)), "the same, shorter"),
         ("`type_text`, 2 characters", one(&typing(2)), "the same: the table, which is put on the stack at each call, is most of it"),
+        (
+            "`write_preferences`, version 1",
+            one("prefs_write 1 2,100,3,5 room=9"),
+            "6 bytes; the port takes its record out of bytes too. The Rust is plain Rust for the same job (beside/rust/driver/src/plain.rs)",
+        ),
+        ("`write_preferences`, version 2", one("prefs_write 2 2,200,3,5,43 room=9"), "8 bytes, two of them the rate's"),
+        ("`read_preferences_1`, version 1", one("prefs_read1 in=010402640305"), "6 bytes"),
+        ("`read_preferences_2`, version 2", one("prefs_read2 in=020502C80103052B"), "8 bytes, two of them the rate's"),
     ];
     let mut oracle = Oracle::new();
     for (name, lines, contents) in rows {

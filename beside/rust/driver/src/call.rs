@@ -1,6 +1,8 @@
 //! A call line of the trace format (tests/traces/README.md), read and written.
 
 use crate::kept;
+use crate::prefs_apply::{self, Preferences};
+use crate::prefs_code;
 use crate::report::{self, Season};
 use crate::salvage::{self, Salvage};
 use std::fmt::{self, Write};
@@ -36,6 +38,10 @@ pub enum Op {
     ConvertSet2,
     TypeText,
     Salvage(Salvage),
+    ApplyPreferences(Preferences),
+    WritePreferences(Preferences),
+    /// By the reader of a version.
+    ReadPreferences(u8),
     Season(Season),
     /// A call whose line ends in `show=kept`.
     Kept(Box<Op>),
@@ -167,8 +173,8 @@ pub fn parse(line: &str) -> Result<Call, String> {
     let takes = [
         ("script", script, op.takes_script()),
         ("log", log, op.takes_log()),
-        ("in", input, op.takes_bytes()),
-        ("room", output, op.takes_bytes()),
+        ("in", input, op.takes_input()),
+        ("room", output, op.takes_room()),
     ];
     for (key, value, takes) in takes {
         match (value, takes) {
@@ -255,6 +261,16 @@ fn parse_op(name: &str, args: &[&str], state: Option<&str>, plan: Option<&str>) 
         }
         "convert_set2" => none(Op::ConvertSet2),
         "type_text" => none(Op::TypeText),
+        prefs_apply::NAME => {
+            count(2)?;
+            Ok(Op::ApplyPreferences(Preferences::parse(args[0], args[1])?))
+        }
+        prefs_code::WRITE => {
+            count(2)?;
+            Ok(Op::WritePreferences(Preferences::parse(args[0], args[1])?))
+        }
+        prefs_code::READ_1 => none(Op::ReadPreferences(1)),
+        prefs_code::READ_2 => none(Op::ReadPreferences(2)),
         _ => return Err(format!("there is no operation '{name}'")),
     }?;
     if plan.is_some() && !matches!(op, Op::Handle(..)) {
@@ -540,6 +556,8 @@ impl Op {
             Op::ConvertSet2 => return Some("the Rust converts no set 2"),
             Op::TypeText => return Some("the Rust types no text"),
             Op::Salvage(_) => return Some("the Rust salvages no recording"),
+            Op::ApplyPreferences(_) => return Some("the Rust applies no preferences"),
+            Op::WritePreferences(_) | Op::ReadPreferences(_) => return Some("the Rust codes no preferences"),
             Op::Season(_) => return Some("the Rust makes no report"),
             _ => false,
         };
@@ -565,12 +583,21 @@ impl Op {
 
     /// Whether it is an operation on lent bytes: an input and an output, no ports.
     pub fn takes_bytes(&self) -> bool {
-        matches!(self, Op::ConvertSet2 | Op::TypeText)
+        matches!(self, Op::ConvertSet2 | Op::TypeText | Op::WritePreferences(_) | Op::ReadPreferences(_))
+    }
+
+    /// Whether a call's line has the input of an operation on lent bytes, and whether it has the output's room.
+    pub fn takes_input(&self) -> bool {
+        self.takes_bytes() && !matches!(self, Op::WritePreferences(_))
+    }
+
+    pub fn takes_room(&self) -> bool {
+        self.takes_bytes() && !matches!(self, Op::ReadPreferences(_))
     }
 
     /// Whether its answer counts the input's bytes that it used; others take all of it or none.
     pub fn counts_used(&self) -> bool {
-        !matches!(self, Op::TypeText)
+        !matches!(self, Op::TypeText | Op::WritePreferences(_) | Op::ReadPreferences(_))
     }
 
     pub fn name(&self) -> &'static str {
@@ -613,6 +640,10 @@ impl Op {
             Op::ConvertSet2 => "convert_set2",
             Op::TypeText => "type_text",
             Op::Salvage(_) => salvage::NAME,
+            Op::ApplyPreferences(_) => prefs_apply::NAME,
+            Op::WritePreferences(_) => prefs_code::WRITE,
+            Op::ReadPreferences(1) => prefs_code::READ_1,
+            Op::ReadPreferences(_) => prefs_code::READ_2,
             Op::Season(season) => season.name(),
             Op::Kept(op) => op.name(),
         }
@@ -624,6 +655,9 @@ impl Op {
         use MouseOp as M;
         match *self {
             Op::Kept(ref op) => op.push_args(out),
+            Op::ApplyPreferences(ref preferences) | Op::WritePreferences(ref preferences) => {
+                write!(out, " {preferences}").unwrap()
+            }
             Op::WriteConfig(byte) | Op::Keyboard(K::Command(byte)) | Op::Mouse(M::Command(byte), _) => {
                 write!(out, " {byte:02X}").unwrap()
             }
@@ -665,9 +699,11 @@ impl Call {
         if self.op.takes_log() {
             write!(out, " log={}", self.room).unwrap();
         }
-        if self.op.takes_bytes() {
+        if self.op.takes_input() {
             out += " in=";
             push_script(&mut out, &self.script);
+        }
+        if self.op.takes_room() {
             write!(out, " room={}", self.room).unwrap();
         }
         if let Op::Handle(_, plan) = &self.op {

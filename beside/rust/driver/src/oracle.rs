@@ -247,7 +247,7 @@ impl Oracle {
                 })
             }
             Op::ToAscii(keycode, flags) => drop(answer_to_ascii(keycode, flags, times)),
-            Op::ConvertSet2 | Op::TypeText => plain::repeat(call, times),
+            ref op if op.takes_bytes() => plain::repeat(call, times),
             _ => unreachable!("{} is not measured", call.op.name()),
         }
         assert_eq!(wire().lack, 0, "the script and the log suffice");
@@ -260,7 +260,8 @@ impl Oracle {
         match op {
             Op::Handle(handler, _) => self.set(handler),
             Op::KeyboardInit => self.set(&Handler::default()),
-            Op::ToAscii(..) | Op::ConvertSet2 | Op::TypeText => return (Vec::new(), 0),
+            Op::ToAscii(..) => return (Vec::new(), 0),
+            op if op.takes_bytes() => return (Vec::new(), 0),
             _ => {}
         }
         wire().script.clear();
@@ -319,7 +320,16 @@ impl Oracle {
                 record = Record::NoHandler;
                 (end, Value::Nothing)
             }
-            Op::Handle(..) | Op::ToAscii(..) | Op::ConvertSet2 | Op::TypeText | Op::Salvage(_) | Op::Season(_) | Op::Kept(_) => unreachable!(),
+            Op::Handle(..)
+            | Op::ToAscii(..)
+            | Op::ConvertSet2
+            | Op::TypeText
+            | Op::Salvage(_)
+            | Op::Season(_)
+            | Op::ApplyPreferences(_)
+            | Op::WritePreferences(_)
+            | Op::ReadPreferences(_)
+            | Op::Kept(_) => unreachable!(),
         };
         (end, value, record)
     }

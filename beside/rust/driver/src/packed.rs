@@ -4,27 +4,32 @@
 use crate::answer::*;
 use crate::call::*;
 use crate::kept;
+use crate::prefs_apply;
+use crate::prefs_code::{self, FieldsRead};
 use std::io::{self, Read};
 
 /// The port's programs: crates/replay makes the calls on the ports, crates/replay_keys those on keys, crates/replay_bytes those on
-/// lent bytes, crates/replay_report those on reports.
+/// lent bytes, crates/replay_preferences applies preferences, crates/replay_report makes the calls on reports.
 #[derive(Clone, Copy)]
 pub enum Program {
     Ports,
     Keys,
     Bytes,
+    Preferences,
     Reports,
 }
 
 /// How many programs the port has.
-pub const PROGRAMS: usize = 4;
+pub const PROGRAMS: usize = 5;
 
 impl Program {
     /// The program that makes an operation's calls.
     pub fn of(op: &Op) -> Program {
         match op {
             Op::Handle(..) | Op::KeyboardInit | Op::ToAscii(..) => Program::Keys,
-            Op::ConvertSet2 | Op::TypeText | Op::Salvage(_) => Program::Bytes,
+            Op::Salvage(_) => Program::Bytes,
+            op if op.takes_bytes() => Program::Bytes,
+            Op::ApplyPreferences(_) => Program::Preferences,
             Op::Season(_) => Program::Reports,
             _ => Program::Ports,
         }
@@ -118,6 +123,9 @@ pub fn operation(op: &Op) -> (u8, u8, u16) {
         Op::ToAscii(keycode, flags) => (TO_ASCII, keycode, flags),
         Op::ConvertSet2 => (CONVERT_SET2, 0, 0),
         Op::TypeText => (TYPE_TEXT, 0, 0),
+        Op::ApplyPreferences(_) => (prefs_apply::APPLYING, 0, 0),
+        Op::WritePreferences(ref preferences) => (prefs_code::WRITING, preferences.version, 0),
+        Op::ReadPreferences(reader) => (prefs_code::READING, reader, 0),
         Op::Handle(..) | Op::Salvage(_) | Op::Season(_) | Op::Kept(_) => unreachable!("it is packed by itself"),
     }
 }
@@ -137,8 +145,13 @@ pub fn put_call(call: &Call, out: &mut Vec<u8>) -> Result<(), String> {
     if call.repeat > u32::MAX as u64 {
         return Err(format!("the port's program repeats no call {} times", call.repeat));
     }
-    if call.op.takes_script() || call.op.takes_bytes() {
-        put_script(&call.script, out);
+    if let Op::ApplyPreferences(preferences) = &call.op {
+        return preferences.put_call(call, out);
+    }
+    match &call.op {
+        Op::WritePreferences(preferences) => put_script(&preferences.field_bytes(), out),
+        op if op.takes_script() || op.takes_bytes() => put_script(&call.script, out),
+        _ => {}
     }
     if call.repeat > 1 && matches!(call.op, Op::Handle(..) | Op::KeyboardInit) {
         return Err(format!("the port's program repeats no {}", call.op.name()));
@@ -153,7 +166,8 @@ pub fn put_call(call: &Call, out: &mut Vec<u8>) -> Result<(), String> {
         return kept::put_call(op, call, out);
     } else {
         let (op, argument, state) = operation(&call.op);
-        Instruction { op, argument, state, room: call.room, times: call.repeat as usize }.put(out);
+        let room = if let Op::ReadPreferences(_) = call.op { prefs_code::FIELDS_ROOM } else { call.room };
+        Instruction { op, argument, state, room, times: call.repeat as usize }.put(out);
     }
     Ok(())
 }
@@ -343,7 +357,7 @@ pub fn put_answer(op: &Op, answer: &Answer, out: &mut Vec<u8>) -> Result<(), Str
             taken(WAITING, None).put(out);
         }
         // The port alone answers these, so no answer to one is recorded.
-        Answer::Bytes { .. } | Answer::Salvaged(_) | Answer::Reported(_) | Answer::Kept(_) => {
+        Answer::Bytes { .. } | Answer::Salvaged(_) | Answer::Fields(_) | Answer::Reported(_) | Answer::Kept(_) => {
             return Err(format!("an answer to {} is not packed", op.name()))
         }
     }
@@ -422,6 +436,7 @@ fn read_bytes(op: &Op, from: &mut impl Read) -> io::Result<Result<Answer, String
     let rest = bytes.split_off(written as usize);
     Ok(match rest.iter().position(|&byte| byte != UNTOUCHED) {
         Some(at) => Err(format!("place {} of the output, which was not written, has changed", written as usize + at)),
+        None if matches!(op, Op::ReadPreferences(_)) => FieldsRead::of_bytes(end, &bytes).map(Answer::Fields),
         None => Ok(Answer::Bytes { end, used: op.counts_used().then_some(used as usize), bytes }),
     })
 }

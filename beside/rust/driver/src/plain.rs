@@ -2,6 +2,8 @@
 
 use crate::answer::Answer;
 use crate::call::{Call, Op};
+use crate::prefs_apply;
+use crate::prefs_code::FieldsRead;
 use std::hint::black_box;
 
 /// Brouwer's translation of set 2 to set 1; 00 where there is no entry.
@@ -137,9 +139,166 @@ fn type_text(text: &[u8], out: &mut [u8]) -> Result<usize, NotTyped> {
     Ok(needed)
 }
 
+/// The four fields that every record has.
+#[derive(Clone, Copy)]
+struct Fields {
+    set: u32,
+    rate: u32,
+    resolution: u32,
+    lamps: u32,
+}
+
+/// A record: the repeat byte is there in version 2.
+#[derive(Clone, Copy)]
+struct Preferences {
+    fields: Fields,
+    repeat: Option<u32>,
+}
+
+/// The refusals of a reading, and of a writing.
+#[derive(Clone, Copy)]
+enum NotRead {
+    Malformed = 27,
+    OutsideValues = 28,
+    BytesFollow = 29,
+}
+
+#[derive(Clone, Copy)]
+enum NotWritten {
+    OutputShort = 23,
+    OutsideValues = 28,
+}
+
+/// Takes a number from the front of a string.
+fn take_number(input: &mut &[u8]) -> Result<u32, NotRead> {
+    let mut value: u64 = 0;
+    for place in 0..5 {
+        let (&byte, rest) = input.split_first().ok_or(NotRead::Malformed)?;
+        *input = rest;
+        value |= u64::from(byte & 0x7F) << (7 * place);
+        if byte < 0x80 {
+            let is_shortest = byte != 0 || place == 0;
+            return if is_shortest {
+                u32::try_from(value).map_err(|_| NotRead::Malformed)
+            } else {
+                Err(NotRead::Malformed)
+            };
+        }
+    }
+    Err(NotRead::Malformed)
+}
+
+/// Takes a number that is what a question asks for.
+fn take(input: &mut &[u8], accepts: impl Fn(u32) -> bool) -> Result<u32, NotRead> {
+    let number = take_number(input)?;
+    if accepts(number) {
+        Ok(number)
+    } else {
+        Err(NotRead::OutsideValues)
+    }
+}
+
+fn is_set(n: u32) -> bool {
+    (1..=3).contains(&n)
+}
+
+fn is_rate(n: u32) -> bool {
+    matches!(n, 10 | 20 | 40 | 60 | 80 | 100 | 200)
+}
+
+/// Reads a record. What the fifth field must be is the reader's.
+fn read_preferences(mut input: &[u8], fifth: impl Fn(u32) -> bool) -> Result<Preferences, NotRead> {
+    let version = take(&mut input, |n| n == 1 || n == 2)?;
+    take(&mut input, |n| n == version + 3)?;
+    let fields = Fields {
+        set: take(&mut input, is_set)?,
+        rate: take(&mut input, is_rate)?,
+        resolution: take(&mut input, |n| n <= 3)?,
+        lamps: take(&mut input, |n| n <= 7)?,
+    };
+    let repeat = if version == 2 { Some(take(&mut input, fifth)?) } else { None };
+    if input.is_empty() {
+        Ok(Preferences { fields, repeat })
+    } else {
+        Err(NotRead::BytesFollow)
+    }
+}
+
+fn read_preferences_1(input: &[u8]) -> Result<Fields, NotRead> {
+    read_preferences(input, |_| true).map(|preferences| preferences.fields)
+}
+
+fn read_preferences_2(input: &[u8]) -> Result<Preferences, NotRead> {
+    read_preferences(input, |n| n <= 127)
+}
+
+/// How many bytes a number takes.
+fn number_length(number: u32) -> usize {
+    match number {
+        0..=0x7F => 1,
+        0x80..=0x3FFF => 2,
+        0x4000..=0x1F_FFFF => 3,
+        0x20_0000..=0xFFF_FFFF => 4,
+        _ => 5,
+    }
+}
+
+/// Puts a number at a place where there is room, and tells the next one.
+fn put_number(out: &mut [u8], mut at: usize, mut number: u32) -> usize {
+    while number >= 0x80 {
+        out[at] = number as u8 | 0x80;
+        number >>= 7;
+        at += 1;
+    }
+    out[at] = number as u8;
+    at + 1
+}
+
+/// Writes a record, and tells how many bytes it takes.
+fn write_preferences(preferences: Preferences, out: &mut [u8]) -> Result<usize, NotWritten> {
+    let Preferences { fields, repeat } = preferences;
+    let are_within = is_set(fields.set) && is_rate(fields.rate) && fields.resolution <= 3 && fields.lamps <= 7;
+    if !are_within || repeat.is_some_and(|n| n > 127) {
+        return Err(NotWritten::OutsideValues);
+    }
+    let head = if repeat.is_some() { [2, 5] } else { [1, 4] };
+    let numbers = [fields.set, fields.rate, fields.resolution, fields.lamps];
+    let needed = numbers.iter().chain(&repeat).map(|&number| number_length(number)).sum::<usize>() + head.len();
+    let out = out.get_mut(..needed).ok_or(NotWritten::OutputShort)?;
+    let mut at = 0;
+    for &number in head.iter().chain(&numbers).chain(&repeat) {
+        at = put_number(out, at, number);
+    }
+    Ok(needed)
+}
+
+/// The record that a call line tells.
+fn record_of(told: &prefs_apply::Preferences) -> Preferences {
+    let [set, rate, resolution, lamps] = [0, 1, 2, 3].map(|i| told.fields[i]);
+    Preferences { fields: Fields { set, rate, resolution, lamps }, repeat: told.fields.get(4).copied() }
+}
+
+fn answer_reading(read: Result<Preferences, NotRead>) -> Answer {
+    Answer::Fields(match read {
+        Ok(Preferences { fields, repeat }) => {
+            let four = [fields.set, fields.rate, fields.resolution, fields.lamps];
+            FieldsRead { end: 0, fields: four.into_iter().chain(repeat).collect() }
+        }
+        Err(refused) => FieldsRead { end: refused as u8, fields: Vec::new() },
+    })
+}
+
 pub fn answer(call: &Call) -> Answer {
     let mut out = vec![0; call.room];
-    let (end, used, written) = match call.op {
+    let (end, used, written) = match &call.op {
+        Op::ReadPreferences(1) => {
+            return answer_reading(read_preferences_1(&call.script).map(|fields| Preferences { fields, repeat: None }))
+        }
+        Op::ReadPreferences(_) => return answer_reading(read_preferences_2(&call.script)),
+        Op::WritePreferences(told) => match write_preferences(record_of(told), &mut out) {
+            Ok(written) => (0, None, written),
+            Err(refused) => (refused as u8, None, 0),
+        },
         Op::ConvertSet2 => {
             let (end, used, written) = convert_set2(&call.script, &mut out);
             (end.map_or_else(|refused| refused as u8, |()| 0), Some(used), written)
@@ -157,7 +316,19 @@ pub fn answer(call: &Call) -> Answer {
 /// Makes a call so many times for measuring.
 pub fn repeat(call: &Call, times: u64) {
     let mut out = vec![0; call.room];
-    match call.op {
+    match &call.op {
+        Op::ReadPreferences(1) => (0..times).for_each(|_| {
+            let _ = black_box(read_preferences_1(black_box(&call.script)));
+        }),
+        Op::ReadPreferences(_) => (0..times).for_each(|_| {
+            let _ = black_box(read_preferences_2(black_box(&call.script)));
+        }),
+        Op::WritePreferences(told) => {
+            let record = record_of(told);
+            (0..times).for_each(|_| {
+                let _ = black_box(write_preferences(black_box(record), black_box(&mut out)));
+            })
+        }
         Op::ConvertSet2 => (0..times).for_each(|_| {
             let _ = black_box(convert_set2(black_box(&call.script), black_box(&mut out)));
         }),

@@ -37,8 +37,8 @@ impl Running {
 
 /// Starts the port's programs.
 pub fn start(paths: Paths) -> io::Result<[Running; PROGRAMS]> {
-    let [ports, keys, bytes, reports] = paths.map(Running::start);
-    Ok([ports?, keys?, bytes?, reports?])
+    let [ports, keys, bytes, preferences, reports] = paths.map(Running::start);
+    Ok([ports?, keys?, bytes?, preferences?, reports?])
 }
 
 /// Answers each call line of standard input. A bad line gets an error with its number, and the exit status 1.
@@ -70,7 +70,7 @@ struct Programs<'a> {
 
 impl<'a> Programs<'a> {
     fn new(paths: Paths<'a>) -> Programs<'a> {
-        Programs { paths, running: [None, None, None, None] }
+        Programs { paths, running: [const { None }; PROGRAMS] }
     }
 
     fn answer(&mut self, call: &Call) -> Result<Answer, String> {

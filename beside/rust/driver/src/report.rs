@@ -20,12 +20,12 @@ pub struct Width {
 }
 
 const NARROW: Width =
-    Width { name: "season32", told: 45, most: u32::MAX as u64, low: i32::MIN as i64, high: i32::MAX as i64 };
-const LONG: Width = Width { name: "season64", told: 48, most: u64::MAX, low: i64::MIN, high: i64::MAX };
+    Width { name: "season32", told: 60, most: u32::MAX as u64, low: i32::MIN as i64, high: i32::MAX as i64 };
+const LONG: Width = Width { name: "season64", told: 63, most: u64::MAX, low: i64::MIN, high: i64::MAX };
 
 /// The call that converts an old report, and its instruction.
 const WIDENING: &str = "season_widen";
-const WIDEN: u8 = 51;
+const WIDEN: u8 = 66;
 
 #[derive(Clone, Debug, PartialEq)]
 pub struct Numbers {

@@ -1,0 +1,2 @@
+-- Laws of the values.
+pub mod Values
