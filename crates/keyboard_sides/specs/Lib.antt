@@ -1,0 +1,3 @@
+-- The sides of a table, and of the events that wait.
+pub mod Sides
+pub mod Named
