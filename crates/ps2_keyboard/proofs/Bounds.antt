@@ -4,14 +4,15 @@ use native.Mathlib.Omega.{arith}
 use mathlib.Core.Bool.{true}
 use Rattle.bits.specs.Bits.{bit, odd}
 use Rattle.bits.specs.Table.{decode}
-use Rattle.exchange.specs.Exchange.{done, bind}
-use Rattle.exchange.specs.Answer.{gives, refuses, andThen}
+use Prim.Native.Nat.{ℕ, _+_}
+use Rattle.exchange.specs.Exchange.{Exchange, done, bind}
+use Rattle.exchange.specs.Answer.{Answer, gives, refuses, andThen}
 use Rattle.exchange.specs.Attains.{Attains, attains-done, attains-read, Most}
 use Rattle.exchange.specs.Bounds.{Within, within-done, within-read}
 use Rattle.exchange.proofs.Attains.{attains-last}
 use Rattle.exchange.proofs.Bounds.{within-repeat}
 use Rattle.exchange.proofs.Then.{within-then, attains-then, within-as, attains-as}
-use Rattle.ps2_command.specs.Command.{commandReads}
+use Rattle.ps2_command.specs.Command.{commandReads, commandBy}
 use Rattle.ps2_bytes.specs.declared.command.HostToKeyboardCommand.the-variants as Command
 use Rattle.ps2_layouts.specs.declared.leds.LEDState.{LEDState}
 use Rattle.ps2_bytes.specs.declared.data.ScancodeSet.{ScancodeSet}
@@ -20,14 +21,16 @@ use Rattle.ps2_bytes.specs.declared.writable.HostToDevice.the-variants.{Keyboar
 use Rattle.ps2_bytes.specs.declared.writable.HostToKeyboardCommandOrData.{HostToKeyboardCommandOrData}
 use Rattle.ps2_bytes.specs.declared.writable.HostToKeyboardCommandOrData.the-variants as Byte
 use Rattle.ps2_bytes.specs.Data.{scancodeSets}
-use Rattle.ps2_answers.specs.Refusals.{success}
+use Rattle.ps2_answers.specs.Refusals.{Success, success}
+use Rattle.ps2_ports.specs.declared.DevicePort.{DevicePort}
+use Rattle.ps2_ports.specs.declared.DevicePort.the-variants.{Port1, Port2}
 use Rattle.ps2_ports.specs.Ports.{readPort, readStatus}
 use Rattle.ps2_polling.specs.Polling.{pollLimit, poll}
 use Rattle.ps2_polling.proofs.Bounds.{within-poll}
 use Rattle.ps2_polling.proofs.Attained.{attains-poll}
 use Rattle.ps2_command.specs.Search.{listedTurn, selfTestWithin}
-use Rattle.ps2_command.proofs.Bounds.{within-command, attains-command, within-selfTest, attains-selfTest}
-use Rattle.ps2_keyboard.specs.Keyboard.{commandToKeyboard, resetReads, resetKeyboard, setLedBy, setKeyboardLed, commandScancodeSet, getScancodeSet, setScancodeSet, readScancode, keyboardOutputBufferFull}
+use Rattle.ps2_command.proofs.Bounds.{within-command, attains-command, within-commandToPort2, attains-commandToPort2, within-selfTest, attains-selfTest}
+use Rattle.ps2_keyboard.specs.Keyboard.{commandToKeyboard, resetReads, resetKeyboard, setLedBy, setKeyboardLed, setPortLed, commandScancodeSet, getScancodeSet, setScancodeSet, readScancode, keyboardOutputBufferFull}
 
 -- ---- a command: 525,300 reads and 4 writes
 
@@ -59,15 +62,32 @@ most-resetKeyboard = record { within = within-resetKeyboard; yielded = gives suc
 
 -- ---- lamps
 
+-- over every way to a keyboard on which a byte takes so many reads and writes at the most
+module _ (way : HostToKeyboardCommandOrData → Exchange (Answer Success)) {w : ℕ}
+    (within : (value : HostToKeyboardCommandOrData) → Within commandReads w (way value))
+    (attains : (value : HostToKeyboardCommandOrData) → Attains (gives success) commandReads w (way value)) where
+  most-setLedBy : (leds : LEDState) → Most 1050600 (w + w) (setLedBy way leds)
+  unfolding setLedBy
+  most-setLedBy leds =
+      record {
+        within = within-as 14 (within-then (within (Byte.KeyboardCommand Command.SetLEDStatus)) (λ _. within (Byte.LEDState leds)));
+        yielded = gives success;
+        attains = attains-as 14 (attains-then (λ _. way (Byte.LEDState leds)) (attains (Byte.KeyboardCommand Command.SetLEDStatus)) (attains (Byte.LEDState leds)));
+      }
+
 pub most-setKeyboardLed : (leds : LEDState) → Most 1050600 8 (setKeyboardLed leds)
-unfolding setKeyboardLed setLedBy
-most-setKeyboardLed leds =
-    record {
-      within = within-as 14 (within-then (within-keyboard (Byte.KeyboardCommand Command.SetLEDStatus)) (λ _. within-keyboard (Byte.LEDState leds)));
-      yielded = gives success;
-      attains =
-          attains-as 14 (attains-then (λ _. commandToKeyboard (Byte.LEDState leds)) (attains-keyboard (Byte.KeyboardCommand Command.SetLEDStatus)) (attains-keyboard (Byte.LEDState leds)));
-    }
+unfolding setKeyboardLed
+most-setKeyboardLed = most-setLedBy commandToKeyboard within-keyboard attains-keyboard
+
+-- 4 writes a byte on the first port; on the second the D4 before each byte more
+abbrev pub ledWrites : DevicePort → ℕ
+ledWrites Port1 = 8
+ledWrites Port2 = 10
+
+pub most-setPortLed : (port : DevicePort) (leds : LEDState) → Most 1050600 (ledWrites port) (setPortLed port leds)
+unfolding setPortLed
+most-setPortLed Port1 = most-setLedBy (λ value. commandBy Port1 (Keyboard value)) (λ value. within-command (Keyboard value)) (λ value. attains-command (Keyboard value))
+most-setPortLed Port2 = most-setLedBy (λ value. commandBy Port2 (Keyboard value)) (λ value. within-commandToPort2 (Keyboard value)) (λ value. attains-commandToPort2 (Keyboard value))
 
 -- ---- scancode set
 

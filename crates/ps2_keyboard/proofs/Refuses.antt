@@ -18,9 +18,11 @@ use Rattle.ps2_bytes.specs.Data.{scancodeSets}
 use Rattle.ps2_polling.specs.Polling.{pollLimit}
 use Rattle.ps2_polling.proofs.Refuses.{only-poll, finds-listed}
 use Rattle.ps2_answers.specs.Refusals.{Success}
+use Rattle.ps2_ports.specs.declared.DevicePort.{DevicePort}
+use Rattle.ps2_command.specs.Command.{commandBy}
 use Rattle.ps2_command.specs.Search.{listedTurn}
 use Rattle.ps2_command.proofs.Refuses.{commandRefusals, commandAnd, refuses-command, refuses-selfTest}
-use Rattle.ps2_keyboard.specs.Keyboard.{commandToKeyboard, resetReads, resetKeyboard, setLedBy, setKeyboardLed, commandScancodeSet, getScancodeSet, setScancodeSet}
+use Rattle.ps2_keyboard.specs.Keyboard.{commandToKeyboard, resetReads, resetKeyboard, setLedBy, setKeyboardLed, setPortLed, commandScancodeSet, getScancodeSet, setScancodeSet}
 
 -- 4 to 7, as every command
 pub refuses-commandToKeyboard : (value : HostToKeyboardCommandOrData) → Refuses commandRefusals (commandToKeyboard value)
@@ -45,6 +47,10 @@ refuses-setLedBy way leds = refuses-as 14 (andThen (way (Byte.KeyboardCommand Co
 pub refuses-setKeyboardLed : (leds : LEDState) → Refuses (14 ∷ []) (setKeyboardLed leds)
 unfolding setKeyboardLed
 refuses-setKeyboardLed leds = refuses-setLedBy commandToKeyboard leds
+
+pub refuses-setPortLed : (port : DevicePort) (leds : LEDState) → Refuses (14 ∷ []) (setPortLed port leds)
+unfolding setPortLed
+refuses-setPortLed port leds = refuses-setLedBy (λ value. commandBy port (Keyboard value)) leds
 
 -- ---- 11 is not replaced
 

@@ -19,7 +19,8 @@ use Rattle.ps2_layouts.specs.Status.{outputBufferFull}
 use Rattle.ps2_answers.specs.Refusals.{Success, success}
 use Rattle.ps2_ports.specs.Ports.{readData, readStatus}
 use Rattle.ps2_polling.specs.Polling.{pollLimit, poll}
-use Rattle.ps2_command.specs.Command.{command}
+use Rattle.ps2_command.specs.Command.{command, commandBy}
+use Rattle.ps2_ports.specs.declared.DevicePort.{DevicePort}
 use Rattle.ps2_command.specs.Search.{listedTurn, selfTestWithin}
 
 -- ---- commands
@@ -51,6 +52,10 @@ setLedBy way leds = refusingAs 14 (andThen (way (Byte.KeyboardCommand Command.Se
 -- To the keyboard of the first port.
 unfoldable pub setKeyboardLed : LEDState → Exchange (Answer Success)
 setKeyboardLed leds = setLedBy commandToKeyboard leds
+
+-- To the keyboard of either port; to the second's, bytes are "sent after D4 as mouse commands are" (document 02, 2.9).
+unfoldable pub setPortLed : DevicePort → LEDState → Exchange (Answer Success)
+setPortLed port leds = setLedBy (λ value. commandBy port (Keyboard value)) leds
 
 -- ---- scancode set
 

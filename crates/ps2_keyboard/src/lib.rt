@@ -6,7 +6,7 @@ ghost use Rattle.ps2_answers.specs.Answers.{saidByte, saidFull};
 ghost use Rattle.ps2_kept.specs.Kept.{keepingThrown};
 ghost use Rattle.ps2_kept.specs.Added.{keepingOnto};
 ghost use Rattle.ps2_kept.specs.Contracts.{PlaysKept};
-ghost use Rattle.ps2_keyboard.specs.Keyboard.{commandToKeyboard, resetKeyboard, setKeyboardLed, commandScancodeSet, getScancodeSet, setScancodeSet, readScancode, keyboardOutputBufferFull};
+ghost use Rattle.ps2_keyboard.specs.Keyboard.{commandToKeyboard, resetKeyboard, setKeyboardLed, setPortLed, commandScancodeSet, getScancodeSet, setScancodeSet, readScancode, keyboardOutputBufferFull};
 ghost use Rattle.ps2_keyboard.specs.Parts.{setSearch};
 ghost use Rattle.ps2_keyboard.specs.Answers.{saidSet};
 use ps2_answers::ByteRead;
@@ -103,22 +103,23 @@ pub fn reset_keyboard(script: &[u8], log: &mut [u8]) -> Completed
 pub fn set_keyboard_led(script: &[u8], log: &mut [u8], value: LEDState) -> Commanded
     ensures { λ r. ⌜ PlaysKept (keepingThrown (setKeyboardLed value)) (now (script .entry)) (now (log .entry)) (saidDone (r .answer)) (r .used) (r .pairs) (now (log .exit)) (r .kept) ⌝ }
 {
-    set_keyboard_led_onto(script, log, value, none_kept())
+    set_port_led_onto(script, log, DevicePort::Port1, value, none_kept())
 }
 
-// The same, with what is thrown away behind the bytes kept before.
-pub fn set_keyboard_led_onto(
+// The same for the keyboard of either port, with what is thrown away behind the bytes kept before.
+pub fn set_port_led_onto(
     script: &[u8],
     log: &mut [u8],
+    port: DevicePort,
     value: LEDState,
     before: KeptBytes,
 ) -> Commanded
-    ensures { λ r. ⌜ PlaysKept (keepingOnto before (setKeyboardLed value)) (now (script .entry)) (now (log .entry)) (saidDone (r .answer)) (r .used) (r .pairs) (now (log .exit)) (r .kept) ⌝ }
+    ensures { λ r. ⌜ PlaysKept (keepingOnto before (setPortLed port value)) (now (script .entry)) (now (log .entry)) (saidDone (r .answer)) (r .used) (r .pairs) (now (log .exit)) (r .kept) ⌝ }
 {
     let c = command_pair_onto(
         script,
         log,
-        DevicePort::Port1,
+        port,
         HostToDevice::Keyboard(HostToKeyboardCommandOrData::KeyboardCommand(
             HostToKeyboardCommand::SetLEDStatus,
         )),
