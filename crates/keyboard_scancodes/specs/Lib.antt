@@ -5,3 +5,4 @@ pub mod FlagsAfter
 pub mod Lamps
 pub mod Events
 pub mod Waiting
+pub mod Remembered
