@@ -1,17 +1,24 @@
--- The queue of events: a ring of 128 places, and the events that wait in it.
+-- The queue of events: a ring of 128 places, the events that wait in it, each with its side, and whether one more finds room.
 -- Assumes nothing.
-use mathlib.Core.Bool.{Bool}
+use mathlib.Core.Bool.{Bool, true, false, cond, _&&_}
 use mathlib.Core.List.{List, [], _∷_}
 use mathlib.Core.Option.{Option, none, some}
 use Prim.Native.Nat.{ℕ, zero, suc, _+_, _-_, _%_}
-use lib.Dec.{ltb}
-use lib.ListN.{getD, set}
+use lib.Dec.{leb, ltb}
+use lib.ListN.{length, getD, set}
+use Rattle.exchange.specs.Answer.{Answer, gives, refuses}
+use Rattle.ps2_answers.specs.Refusals.{Success, success}
 use Rattle.keycodes_ascii.specs.declared.KeyAction.{KeyAction}
 use Rattle.keycodes_ascii.specs.declared.KeyEvent.{KeyEvent}
 use Rattle.keycodes_ascii.specs.declared.Keycode.{Keycode}
+use Rattle.keyboard_sides.specs.declared.Side.{Side}
+use Rattle.keyboard_sides.specs.Sides.{sidesOf, countOf, oldestSide, withoutOldestSide, withSide}
+use Rattle.keyboard_sides.specs.Named.{Sided, named}
 use Rattle.keyboard_record.specs.declared.HandlerState.{HandlerState}
 use Rattle.keyboard_record.specs.declared.KeyboardHandler.{KeyboardHandler}
-use Rattle.keyboard_record.specs.Limits.{queueLength}
+use Rattle.keyboard_record.specs.declared.Keyboards.{Keyboards}
+use Rattle.keyboard_record.specs.declared.Room.{Room}
+use Rattle.keyboard_record.specs.Limits.{queueLength, share}
 
 -- What an empty place holds.
 abbrev pub emptyEvent : KeyEvent
@@ -26,32 +33,70 @@ unfoldable pub round : List KeyEvent → ℕ → ℕ → List KeyEvent
 round places place zero = []
 round places place (suc n) = getD places place emptyEvent ∷ round places (next place) n
 
--- The events that wait, the oldest first.
-abbrev pub waiting : KeyboardHandler → List KeyEvent
-waiting h = round (h .places) (h .state .start) (h .state .count)
+-- The sides of the events that wait, and the events with their sides, the oldest first: "events name the side, 1 or 2".
+abbrev pub waitingSides : HandlerState → List Side
+waitingSides s = sidesOf (s .sides) (s .count)
 
--- Question 20, "Has the queue fewer than 128 events?": whether an event is queued is asked here alone.
-abbrev pub hasRoom : HandlerState → Bool
-hasRoom s = ltb (s .count) queueLength
+abbrev pub waiting : KeyboardHandler → List (Sided KeyEvent)
+waiting h = named (waitingSides (h .state)) (round (h .places) (h .state .start) (h .state .count))
 
--- The first place behind those that wait; the state with one more that waits; the places with a new event, if there is one.
+-- ---- room for one more
+
+abbrev pub areTwo : Keyboards → Bool
+areTwo Keyboards.One = false
+areTwo Keyboards.Two = true
+
+-- "31 if, at a table with two keyboards, the side has 96 waiting, asked .. before" 20, "Has the queue fewer than 128 events?": what one more event of a side meets where events of these sides wait. It is asked here alone.
+unfoldable pub meets : Keyboards → Side → List Side → Answer Success
+meets keyboards side sides =
+    cond (areTwo keyboards && leb share (countOf side sides)) (refuses 31) (cond (ltb (length sides) queueLength) (gives success) (refuses 20))
+
+abbrev pub room : Side → HandlerState → Answer Success
+room side s = meets (s .keyboards) side (waitingSides s)
+
+-- What the code's answer says of it.
+abbrev pub saidRoom : Room → Answer Success
+saidRoom Room.Free = gives success
+saidRoom Room.SideFull = refuses 31
+saidRoom Room.QueueFull = refuses 20
+
+-- The state with one more event of a side that waits; and that, or the state as it was, by what the event meets.
+abbrev pub oneMore : Side → HandlerState → HandlerState
+oneMore side s =
+    record { first = s .first; second = s .second; keyboards = s .keyboards; start = s .start; count = s .count + 1; sides = withSide side (s .count) (s .sides) }
+
+abbrev pub ifGiven : {A B : Type 0} → Answer A → B → B → B
+ifGiven (gives a) given refused = given
+ifGiven (refuses n) given refused = refused
+
+abbrev pub joined : Side → HandlerState → HandlerState
+joined side s = ifGiven (room side s) (oneMore side s) s
+
+-- The first place behind those that wait; the places with a new event, if there is one.
 abbrev pub freePlace : HandlerState → ℕ
 freePlace s = (s .start + s .count) % queueLength
-
-abbrev pub oneMore : HandlerState → HandlerState
-oneMore s = record { keyboard = s .keyboard; start = s .start; count = s .count + 1 }
 
 abbrev pub placesWith : KeyboardHandler → Option KeyEvent → List KeyEvent
 placesWith h none = h .places
 placesWith h (some e) = set (h .places) (freePlace (h .state)) e
 
--- The oldest event, and the record without it; its place is free to be used again.
-abbrev pub oldest : KeyboardHandler → KeyEvent
-oldest h = getD (h .places) (h .state .start) emptyEvent
+-- ---- the oldest
+
+-- The oldest event, with its side, and the record without it; its place is free to be used again.
+abbrev pub oldest : KeyboardHandler → Sided KeyEvent
+oldest h = record { side = oldestSide (h .state .sides); one = getD (h .places) (h .state .start) emptyEvent }
 
 abbrev pub withoutOldest : KeyboardHandler → KeyboardHandler
 withoutOldest h =
     record {
-      state = record { keyboard = h .state .keyboard; start = next (h .state .start); count = h .state .count - 1 };
+      state =
+          record {
+            first = h .state .first;
+            second = h .state .second;
+            keyboards = h .state .keyboards;
+            start = next (h .state .start);
+            count = h .state .count - 1;
+            sides = withoutOldestSide (h .state .sides);
+          };
       places = h .places;
     }

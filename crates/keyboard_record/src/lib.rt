@@ -1,12 +1,15 @@
-// The keyboard handler's record, its queue of events, and the taking from it: Theseus's `keyboard`.
+// The keyboard handler's record, its queue of events, and the taking from it: Theseus's `keyboard`, at a table with one keyboard or two.
 ghost use mathlib.Core.Path.{_≡_};
 ghost use Rattle.exchange.specs.Answer.{numberAnswered};
 ghost use Rattle.exchange.specs.Left.{left};
-ghost use Rattle.keyboard_record.specs.Record.{fresh, wellFormed};
+ghost use Rattle.keyboard_record.specs.Record.{fresh, atTable, keyboardAt, withKeyboard, keyboardFormed, fair, wellFormed, callFormed};
+ghost use Rattle.keyboard_record.specs.Queue.{room, joined, saidRoom};
 ghost use Rattle.keyboard_record.specs.Taking.{saidTaken, taken};
 use keyboard_modifiers::KeyboardModifiers;
 use keyboard_scancodes::KeyboardState;
 use keyboard_scancodes::WaitingBytes;
+use keyboard_sides::Side;
+use keyboard_sides::Sides;
 use keycodes_ascii::KeyAction;
 use keycodes_ascii::KeyEvent;
 use keycodes_ascii::Keycode;
@@ -15,15 +18,27 @@ use ps2_kept::KEPT_LIMIT;
 // The places of the queue.
 pub const QUEUE_LENGTH: usize = 128;
 
+// With two keyboards, the places that the events of one side may take.
+pub const SHARE: usize = 96;
+
 // The flags are the bits below this one.
 const FLAG_LIMIT: u16 = 1 << 11;
 
-// All of the record but the places: what the handler remembers of the keyboard, and where in the places the events wait.
-// They stand in a ring: the oldest is at `start`, and `count` of them follow each other round the end.
+// Whether a table has one keyboard or two. One keyboard is the first side's.
+pub enum Keyboards {
+    One,
+    Two,
+}
+
+// All of the record but the places: what the handler remembers of each side's keyboard, how many keyboards there are, and where in the places the events wait.
+// They stand in a ring: the oldest is at `start`, and `count` of them follow each other round the end. `sides` has the side of each, the oldest first.
 pub struct HandlerState {
-    pub keyboard: KeyboardState,
+    pub first: KeyboardState,
+    pub second: KeyboardState,
+    pub keyboards: Keyboards,
     pub start: usize,
     pub count: usize,
+    pub sides: Sides,
 }
 
 // The handler record: its state, and the places of its queue.
@@ -33,9 +48,28 @@ pub struct KeyboardHandler {
     pub places: [KeyEvent; QUEUE_LENGTH],
 }
 
+// An event of the queue, with the side whose keyboard gave it.
+pub struct SideEvent {
+    pub side: Side,
+    pub event: KeyEvent,
+}
+
+// Whether the queue takes one more event of a side: it does; the side has its share, document 02's 31; or every place is taken, document 01's 20.
+pub enum Room {
+    Free,
+    SideFull,
+    QueueFull,
+}
+
+// What asking for a place gives back: whether there is one, and the state with one more event that waits, or as it was.
+pub struct Joined {
+    pub room: Room,
+    pub state: HandlerState,
+}
+
 // What a taking from the queue answers: the oldest event, none, or the refusal that document 01 numbers 21.
 pub enum TakenEvent {
-    Event(KeyEvent),
+    Event(SideEvent),
     Nothing,
     MalformedRecord,
 }
@@ -59,46 +93,195 @@ impl TakenEvent {
     }
 }
 
+impl Keyboards {
+    // Whether a side has a keyboard at the table.
+    pub fn has(self, side: Side) -> bool
+        ensures { λ r. ⌜ r ≡ atTable self side ⌝ }
+    {
+        match self {
+            Keyboards::One => match side {
+                Side::First => true,
+                Side::Second => false,
+            },
+            Keyboards::Two => true,
+        }
+    }
+}
+
+// Whether a keyboard has no flag above bit 10, and no more than 16 bytes that wait.
+fn keyboard_formed(keyboard: KeyboardState) -> bool
+    ensures { λ r. ⌜ r ≡ keyboardFormed keyboard ⌝ }
+{
+    if FLAG_LIMIT <= keyboard.modifiers.bits {
+        return false;
+    }
+    keyboard.waiting.count as usize <= KEPT_LIMIT
+}
+
+// Whether neither side has more than its share of the first `count` events.
+fn is_fair(sides: Sides, count: usize) -> bool
+    ensures { λ r. ⌜ r ≡ fair sides count ⌝ }
+{
+    if SHARE < sides.count_of(Side::First, count) {
+        return false;
+    }
+    sides.count_of(Side::Second, count) <= SHARE
+}
+
 impl HandlerState {
-    // Whether there is no flag above bit 10, a start and a count that the queue's places allow, and no more than 16 bytes that wait.
+    // Whether the queue's start and count are such as its places allow; the flags and the waiting bytes of each side at the table such as there can be; and, with two keyboards, no side has more than its share of the events.
     pub fn well_formed(self) -> bool
         ensures { λ r. ⌜ r ≡ wellFormed self ⌝ }
     {
-        if FLAG_LIMIT <= self.keyboard.modifiers.bits {
-            return false;
-        }
         if QUEUE_LENGTH <= self.start {
             return false;
         }
         if QUEUE_LENGTH < self.count {
             return false;
         }
-        self.keyboard.waiting.count as usize <= KEPT_LIMIT
+        if !keyboard_formed(self.first) {
+            return false;
+        }
+        let keyboards = self.keyboards;
+        match keyboards {
+            Keyboards::One => true,
+            Keyboards::Two => {
+                if !keyboard_formed(self.second) {
+                    return false;
+                }
+                is_fair(self.sides, self.count)
+            }
+        }
+    }
+
+    // The same, and that a call's side is at the table.
+    pub fn call_formed(self, side: Side) -> bool
+        ensures { λ r. ⌜ r ≡ callFormed side self ⌝ }
+    {
+        let keyboards = self.keyboards;
+        if !keyboards.has(side) {
+            return false;
+        }
+        self.well_formed()
+    }
+
+    // What is remembered of a side's keyboard.
+    pub fn keyboard_at(self, side: Side) -> KeyboardState
+        ensures { λ r. ⌜ r ≡ keyboardAt side self ⌝ }
+    {
+        match side {
+            Side::First => self.first,
+            Side::Second => self.second,
+        }
+    }
+
+    // The state with another memory of a side's keyboard.
+    pub fn with_keyboard(self, side: Side, keyboard: KeyboardState) -> HandlerState
+        ensures { λ r. ⌜ r ≡ withKeyboard side keyboard self ⌝ }
+    {
+        let first = self.first;
+        let second = self.second;
+        let keyboards = self.keyboards;
+        let sides = self.sides;
+        match side {
+            Side::First => HandlerState {
+                first: keyboard,
+                second,
+                keyboards,
+                start: self.start,
+                count: self.count,
+                sides,
+            },
+            Side::Second => HandlerState {
+                first,
+                second: keyboard,
+                keyboards,
+                start: self.start,
+                count: self.count,
+                sides,
+            },
+        }
+    }
+
+    // Whether the queue takes one more event of a side: 31 is asked, then 20.
+    fn room_for(self, side: Side) -> Room
+        ensures { λ r. ⌜ saidRoom r ≡ room side self ⌝ }
+    {
+        let keyboards = self.keyboards;
+        if let Keyboards::Two = keyboards {
+            let sides = self.sides;
+            if SHARE <= sides.count_of(side, self.count) {
+                return Room::SideFull;
+            }
+        }
+        if QUEUE_LENGTH <= self.count {
+            return Room::QueueFull;
+        }
+        Room::Free
+    }
+
+    // One more event of a side, where the queue takes it.
+    pub fn join(self, side: Side) -> Joined
+        ensures { λ r. ⌜ (saidRoom (r .room) ≡ room side self) × (r .state ≡ joined side self) ⌝ }
+    {
+        let room = self.room_for(side);
+        match room {
+            Room::Free => {
+                let first = self.first;
+                let second = self.second;
+                let keyboards = self.keyboards;
+                let sides = self.sides;
+                let count = self.count;
+                Joined {
+                    room: Room::Free,
+                    state: HandlerState {
+                        first,
+                        second,
+                        keyboards,
+                        start: self.start,
+                        count: count + 1,
+                        sides: sides.with_side(side, count),
+                    },
+                }
+            }
+            Room::SideFull => Joined {
+                room: Room::SideFull,
+                state: self,
+            },
+            Room::QueueFull => Joined {
+                room: Room::QueueFull,
+                state: self,
+            },
+        }
     }
 }
 
 impl KeyboardHandler {
-    // A fresh record: no prefix, no flag, no byte that waits, an empty queue.
-    pub fn fresh() -> KeyboardHandler
-        ensures { λ r. ⌜ r ≡ fresh ⌝ }
+    // A fresh record for a table with so many keyboards: no prefix, no flag, no byte that waits, an empty queue.
+    pub fn fresh(keyboards: Keyboards) -> KeyboardHandler
+        ensures { λ r. ⌜ r ≡ fresh keyboards ⌝ }
     {
         let empty = KeyEvent {
             keycode: Keycode::OverflowError,
             action: KeyAction::Pressed,
             modifiers: KeyboardModifiers { bits: 0 },
         };
+        let keyboard = KeyboardState {
+            prefix: false,
+            modifiers: KeyboardModifiers { bits: 0 },
+            waiting: WaitingBytes {
+                bytes: [0; KEPT_LIMIT],
+                count: 0,
+            },
+        };
         KeyboardHandler {
             state: HandlerState {
-                keyboard: KeyboardState {
-                    prefix: false,
-                    modifiers: KeyboardModifiers { bits: 0 },
-                    waiting: WaitingBytes {
-                        bytes: [0; KEPT_LIMIT],
-                        count: 0,
-                    },
-                },
+                first: keyboard,
+                second: keyboard,
+                keyboards,
                 start: 0,
                 count: 0,
+                sides: Sides { low: 0, high: 0 },
             },
             places: [empty; QUEUE_LENGTH],
         }
@@ -124,16 +307,26 @@ pub fn take_event(handler: KeyboardHandler) -> Taken
             handler,
         };
     }
-    let keyboard = state.keyboard;
+    let first = state.first;
+    let second = state.second;
+    let keyboards = state.keyboards;
+    let sides = state.sides;
+    let others = sides.without_oldest();
     let places = handler.places;
-    let oldest = places[start];
+    let event = places[start];
     Taken {
-        event: TakenEvent::Event(oldest),
+        event: TakenEvent::Event(SideEvent {
+            side: sides.oldest(),
+            event,
+        }),
         handler: KeyboardHandler {
             state: HandlerState {
-                keyboard,
+                first,
+                second,
+                keyboards,
                 start: (start + 1) % QUEUE_LENGTH,
                 count: count - 1,
+                sides: others,
             },
             places,
         },

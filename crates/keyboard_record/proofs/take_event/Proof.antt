@@ -2,9 +2,20 @@
 -- Assumes nothing.
 use borrow.Author.Needs.{needs}
 use native.Mathlib.Omega.{arith}
-use mathlib.Core.Path.{_≡_, refl, sym, _∙_}
+use mathlib.Core.Path.{_≡_, sym, ap₂, _∙_}
 use mathlib.Core.Bool.{true}
+use mathlib.Core.Option.{Option, some}
+use Prim.Native.Nat.{_-_}
+use lib.ListN.{getD}
 use borrow.Author.Tests.{eq-eqb, ne-eqb, not-true, not-false}
+use Rattle.exchange.specs.Answer.{gives}
+use Rattle.exchange.specs.Left.{Left, left}
+use Rattle.keycodes_ascii.specs.declared.KeyEvent.{KeyEvent}
+use Rattle.keyboard_sides.specs.declared.Side.{Side}
+use Rattle.keyboard_sides.specs.declared.Sides.{Sides}
+use Rattle.keyboard_sides.specs.Named.{Sided}
+use Rattle.keyboard_record.specs.declared.KeyboardHandler.{KeyboardHandler}
+use Rattle.keyboard_record.specs.Queue.{emptyEvent, next}
 use Rattle.keyboard_record.specs.Record.{wellFormed}
 use Rattle.keyboard_record.proofs.Taking.{taken-malformed, taken-none, taken-one}
 use Rattle.keyboard_record.proofs.WellFormed.{well-is}
@@ -19,25 +30,53 @@ well : (c : tie.Else1) → wellFormed (c .before .before .before .args .handler 
 well c = sym (c .before .well-formed .ensures) ∙ not-false _ (c .if1 .left)
 
 returns-2 : tie.Need-returns-2
-returns-2 c =
-    let w = c .before in
-    sym (taken-none _ (well w) (eq-eqb _ 0 (c .if2 .taken)))
+returns-2 c = sym (taken-none _ (well (c .before)) (eq-eqb _ 0 (c .if2 .taken)))
+
+-- the record that is left, and the event, by the sides that the row of bits gives
+answered : KeyboardHandler → Side → Sides → Left KeyboardHandler (Option (Sided KeyEvent))
+answered h side sides =
+    left (gives (some (record { side = side; one = getD (h .places) (h .state .start) emptyEvent })))
+    (record {
+      state =
+          record {
+            first = h .state .first;
+            second = h .state .second;
+            keyboards = h .state .keyboards;
+            start = next (h .state .start);
+            count = h .state .count - 1;
+            sides = sides;
+          };
+      places = h .places;
+    })
 
 returns-3 : tie.Need-returns-3
+unfolding answered
 returns-3 c =
-    let w = c .before .before .before .before in
-    sym (taken-one _ (well w) (ne-eqb _ 0 (c .before .before .before .if2 .left)))
+    let n = c .before .before .before .before .before .before .before in
+    ap₂ (answered (n .before .before .before .before .args .handler)) (c .oldest .ensures) (c .before .before .before .without-oldest .ensures)
+    ∙ sym (taken-one _ (well (n .before)) (ne-eqb _ 0 (n .if2 .left)))
 
 -- the oldest event lies in one of the places
-array-copy-out-oldest : tie.Need-array-copy-out-oldest
-array-copy-out-oldest c = well-is _ (well (c .before .before .before)) .start-in
+array-copy-out-event : tie.Need-array-copy-out-event
+array-copy-out-event c = well-is _ (well (c .before .before .before .before .before .before)) .start-in
 
-mul-oldest : tie.Need-mul-oldest
-mul-oldest c = omega (arith, array-copy-out-oldest c)
+mul-event : tie.Need-mul-event
+mul-event c = omega (arith, array-copy-out-event c)
 
-add-t12 : tie.Need-add-t12
-add-t12 c = omega (arith, array-copy-out-oldest (c .before))
+add-t16 : tie.Need-add-t16
+add-t16 c = omega (arith, array-copy-out-event (c .before .before))
 
 pub take-event-spec : {M : Type 1} → statement M
 take-event-spec =
-    tie.close (tie.spec (λ c κs. search needs) returns returns-2 mul-oldest array-copy-out-oldest add-t12 (λ c. search needs) returns-3)
+    tie.close
+    (tie.spec
+    (λ c κs. search needs)
+    returns
+    returns-2
+    (λ c κs. search needs)
+    mul-event
+    array-copy-out-event
+    (λ c κs. search needs)
+    add-t16
+    (λ c. search needs)
+    returns-3)
