@@ -16,21 +16,28 @@ use Rattle.exchange.proofs.Then.{on-cond, within-told, attains-told}
 use Rattle.ps2_answers.specs.Refusals.{Success}
 use Rattle.ps2_kept.specs.Thrown.{thrown}
 use Rattle.ps2_kept.specs.Kept.{keptOf}
-use Rattle.ps2_keyboard.proofs.Bounds.{most-setKeyboardLed}
+use Rattle.ps2_ports.specs.declared.DevicePort.{DevicePort}
+use Rattle.ps2_keyboard.proofs.Bounds.{ledWrites, most-setPortLed}
+use Rattle.keyboard_scancodes.specs.declared.KeyboardState.{KeyboardState}
 use Rattle.keyboard_scancodes.specs.Strokes.{isSilent}
 use Rattle.keyboard_scancodes.specs.FlagTable.{flagTable, isOf, pressesLock, isLockPress}
 use Rattle.keyboard_scancodes.specs.FlagsAfter.{flagsThen}
 use Rattle.keyboard_scancodes.specs.Lamps.{lampsLit}
 use Rattle.keyboard_scancodes.specs.Waiting.{waitingBytes}
+use Rattle.keyboard_sides.specs.declared.Side.{Side}
 use Rattle.keyboard_record.specs.declared.HandlerState.{HandlerState}
-use Rattle.keyboard_record.specs.Record.{wellFormed}
-use Rattle.keyboard.specs.KeyboardLamps.{keyboardLamps}
-use Rattle.keyboard.specs.Handler.{Outcome, queued, shown, takeByte, lampExchange, onByte, handle, effects}
-use Rattle.keyboard.proofs.Courses.{no-bytes, none-well}
+use Rattle.keyboard_record.specs.Record.{keyboardAt, callFormed}
+use Rattle.keyboard.specs.KeyboardLamps.{portOf, portLamps, keyboardLamps}
+use Rattle.keyboard.specs.Byte.{Keyed, afterLamps, shown, takeByte, lampExchange, onByte, keyCall}
+use Rattle.keyboard.specs.Handler.{Outcome, afterByte, handle, effects}
+use Rattle.keyboard.proofs.Courses.{no-bytes, none-taken}
+use Rattle.keyboard.proofs.Calls.{handle-formed}
 
 -- what the lamp exchange of a key and the bytes that it threw away make of the call
-abbrev byLamps : HandlerState → List ℕ → ℕ → ℕ → Kept (List ℕ) (Answer Success) → Outcome
-byLamps s waiting b flags lit = queued s b flags (keptOf (waiting ++ lit .bytes)) (lit .value)
+abbrev byLamps : List ℕ → ℕ → ℕ → Kept (List ℕ) (Answer Success) → Keyed
+byLamps waiting b flags lit = afterLamps b flags (keptOf (waiting ++ lit .bytes)) (lit .value)
+
+-- ---- for one keyboard
 
 module _ {A : Type 0} (lamps : ℕ → Exchange (Answer A)) {r w : ℕ} where
   module _ (bound : (byte : ℕ) → Within r w (lamps byte)) where
@@ -38,58 +45,80 @@ module _ {A : Type 0} (lamps : ℕ → Exchange (Answer A)) {r w : ℕ} where
     unfolding lampExchange
     within-lamps b flags = on-cond (λ x. Within {A = Answer Success} r w x) (isLockPress b) (within-told (λ a. shown a) (bound (lampsLit flags))) within-done
 
-    within-byte : (s : HandlerState) (waiting : List ℕ) (b : ℕ) → Within r w (onByte lamps s waiting b)
+    within-byte : (k : KeyboardState) (waiting : List ℕ) (b : ℕ) → Within r w (onByte lamps k waiting b)
     unfolding onByte
-    within-byte s waiting b =
-        on-cond (λ x. Within {A = Outcome} r w x) (isSilent b) within-done
-        (within-told (byLamps s waiting b (flagsThen (s .keyboard) b)) (within-keeping thrown [] (within-lamps b (flagsThen (s .keyboard) b))))
+    within-byte k waiting b =
+        on-cond (λ x. Within {A = Keyed} r w x) (isSilent b) within-done
+        (within-told (byLamps waiting b (flagsThen k b)) (within-keeping thrown [] (within-lamps b (flagsThen k b))))
 
     -- a byte that waits takes no read
-    within-taken : (s : HandlerState) (waiting : List ℕ) → Within (suc r) w (takeByte waiting (onByte lamps s))
-    within-taken s [] = within-read (within-byte s [])
-    within-taken s (b ∷ waiting) = within-more (within-byte s waiting b) (suc r) w (omega arith) (omega arith)
+    within-taken : (k : KeyboardState) (waiting : List ℕ) → Within (suc r) w (takeByte waiting (onByte lamps k))
+    within-taken k [] = within-read (within-byte k [])
+    within-taken k (b ∷ waiting) = within-more (within-byte k waiting b) (suc r) w (omega arith) (omega arith)
 
-    pub within-handle : (s : HandlerState) → Within (suc r) w (handle lamps s)
-    unfolding handle
-    within-handle s =
-        on-cond (λ x. Within {A = Outcome} (suc r) w x) (wellFormed s) (within-taken s (waitingBytes (s .keyboard .waiting))) within-done
+    pub within-keyCall : (k : KeyboardState) → Within (suc r) w (keyCall lamps k)
+    unfolding keyCall
+    within-keyCall k = within-taken k (waitingBytes (k .waiting))
 
   module _ (most : (byte : ℕ) → Most r w (lamps byte)) where
     attains-lamps : (flags : ℕ) → Attains (shown (most (lampsLit flags) .yielded)) r w (lampExchange lamps 0x3A flags)
     unfolding lampExchange flagTable isOf pressesLock
     attains-lamps flags = attains-told (λ a. shown a) (most (lampsLit flags) .attains)
 
-    pub most-handle : (s : HandlerState) → wellFormed s ≡ true → s .keyboard .waiting .count ≡ 0 → Most (suc r) w (handle lamps s)
+    pub most-keyCall : (k : KeyboardState) → k .waiting .count ≡ 0 → Most (suc r) w (keyCall lamps k)
     unfolding onByte
-    most-handle s well none-waits =
-        let flags = flagsThen (s .keyboard) 0x3A in
+    most-keyCall k none-waits =
+        let flags = flagsThen k 0x3A in
         let x = attains-keeping thrown [] (attains-lamps flags) in
         record {
-          within = within-handle (λ byte. most byte .within) s;
-          yielded = byLamps s [] 0x3A flags (kept (shown (most (lampsLit flags) .yielded)) (x .0));
-          attains = rw (none-well lamps s well (no-bytes lamps s none-waits)) (attains-read 0x3A (omega arith) (attains-told (byLamps s [] 0x3A flags) (x .1)));
+          within = within-keyCall (λ byte. most byte .within) k;
+          yielded = byLamps [] 0x3A flags (kept (shown (most (lampsLit flags) .yielded)) (x .0));
+          attains = rw (none-taken lamps k (no-bytes lamps k none-waits)) (attains-read 0x3A (omega arith) (attains-told (byLamps [] 0x3A flags) (x .1)));
         }
 
--- ---- with the keyboard's own lamp exchange, the one that `handle` makes: two commands
+-- ---- for a record
 
-most-lamps : (lamps : ℕ) → Most 1050600 8 (keyboardLamps lamps)
-most-lamps lamps = most-setKeyboardLed (record { bits = lamps })
+module _ {A : Type 0} (lamps : Side → ℕ → Exchange (Answer A)) (side : Side) {r w : ℕ} where
+  pub within-handle : ((byte : ℕ) → Within r w (lamps side byte)) → (s : HandlerState) → Within (suc r) w (handle lamps side s)
+  unfolding handle
+  within-handle bound s =
+      on-cond (λ x. Within {A = Outcome} (suc r) w x) (callFormed side s) (within-told (afterByte side s) (within-keyCall (lamps side) bound (keyboardAt side s))) within-done
 
-pub lamps-within : (lamps : ℕ) → Within 1050600 8 (keyboardLamps lamps)
-lamps-within lamps = most-lamps lamps .within
+  pub most-handle : ((byte : ℕ) → Most r w (lamps side byte)) → (s : HandlerState) → callFormed side s ≡ true → keyboardAt side s .waiting .count ≡ 0
+      → Most (suc r) w (handle lamps side s)
+  most-handle most s formed none-waits =
+      let x = most-keyCall (lamps side) most (keyboardAt side s) none-waits in
+      record {
+        within = within-handle (λ byte. most byte .within) s;
+        yielded = afterByte side s (x .yielded);
+        attains = rw (handle-formed lamps side s formed) (attains-told (afterByte side s) (x .attains));
+      }
 
-pub within-keyboard-handle : (s : HandlerState) → Within 1050601 8 (handle keyboardLamps s)
-within-keyboard-handle = within-handle keyboardLamps lamps-within
+-- ---- with the keyboards' own lamp exchanges, those that `handle` makes: two commands
 
--- and on every well-formed state in which no byte waits a call can take them all
-pub most-keyboard-handle : (s : HandlerState) → wellFormed s ≡ true → s .keyboard .waiting .count ≡ 0 → Most 1050601 8 (handle keyboardLamps s)
-most-keyboard-handle = most-handle keyboardLamps most-lamps
+most-lamps : (port : DevicePort) (lamps : ℕ) → Most 1050600 (ledWrites port) (portLamps port lamps)
+most-lamps port lamps = most-setPortLed port (record { bits = lamps })
 
--- a handler call uses at most 1,050,601 script bytes and writes at most 8 pairs
-pub handled-used : (s : HandlerState) (script log : List ℕ) → effects keyboardLamps s script log .used ≤ 1050601
+pub lamps-within : (port : DevicePort) (lamps : ℕ) → Within 1050600 (ledWrites port) (portLamps port lamps)
+lamps-within port lamps = most-lamps port lamps .within
+
+-- "A call makes at most 1,050,601 reads and 8 writes"; the second side's "calls make at most 10 writes"
+abbrev pub callWrites : Side → ℕ
+callWrites side = ledWrites (portOf side)
+
+pub within-keyboard-handle : (side : Side) (s : HandlerState) → Within 1050601 (callWrites side) (handle keyboardLamps side s)
+within-keyboard-handle side = within-handle keyboardLamps side (lamps-within (portOf side))
+
+-- and on every well-formed state in which no byte of the side waits a call can take them all
+pub most-keyboard-handle : (side : Side) (s : HandlerState) → callFormed side s ≡ true → keyboardAt side s .waiting .count ≡ 0
+    → Most 1050601 (callWrites side) (handle keyboardLamps side s)
+most-keyboard-handle side = most-handle keyboardLamps side (most-lamps (portOf side))
+
+-- a handler call uses at most 1,050,601 script bytes and writes at most 8 pairs, or 10 for the second side
+pub handled-used : (side : Side) (s : HandlerState) (script log : List ℕ) → effects keyboardLamps side s script log .used ≤ 1050601
 unfolding effects
-handled-used s script log = within-used (within-keyboard-handle s) script log
+handled-used side s script log = within-used (within-keyboard-handle side s) script log
 
-pub handled-pairs : (s : HandlerState) (script log : List ℕ) → effects keyboardLamps s script log .pairs ≤ 8
+pub handled-pairs : (side : Side) (s : HandlerState) (script log : List ℕ) → effects keyboardLamps side s script log .pairs ≤ callWrites side
 unfolding effects
-handled-pairs s script log = within-pairs (within-keyboard-handle s) script log
+handled-pairs side s script log = within-pairs (within-keyboard-handle side s) script log

@@ -1,27 +1,24 @@
--- A handler call counts a scancode exactly where it does not end in 2, 3 or 21: on every state, malformed ones too, with every script and log.
+-- A handler call counts a scancode exactly where it does not end in 2, 3 or 21: for either side, on every state, malformed ones too, with every script and log.
 -- Assumes nothing.
 use mathlib.Core.Path.{_≡_, refl}
-use mathlib.Core.Bool.{Bool, true, false, not, _||_}
+use mathlib.Core.Bool.{true, false, not, _||_}
 use mathlib.Core.List.{List}
-use mathlib.Core.Logic.{⊎-elim}
-use Prim.Native.Nat.{ℕ, _≤_}
-use native.Mathlib.Omega.{arith}
+use Prim.Native.Nat.{ℕ}
 use lib.Dec.{eqb}
-use borrow.Author.Tests.{ne-eqb}
-use Rattle.exchange.specs.Exchange.{Port, noScript, noLog, Lack, Exchange, End, yields, lacks, toldEnd}
+use Rattle.exchange.specs.Exchange.{noScript, noLog, Lack, Exchange, End, yields, lacks, toldEnd}
 use Rattle.exchange.specs.Answer.{Answer}
 use Rattle.ps2_answers.specs.Refusals.{Success}
-use Rattle.ps2_kept.specs.declared.KeptBytes.{KeptBytes}
 use Rattle.keyboard_scancodes.specs.FlagsAfter.{flagsThen}
-use Rattle.keyboard_scancodes.specs.Waiting.{waitingBytes}
+use Rattle.keyboard_sides.specs.declared.Side.{Side}
 use Rattle.keyboard_record.specs.declared.HandlerState.{HandlerState}
-use Rattle.keyboard_record.specs.Record.{wellFormed}
+use Rattle.keyboard_record.specs.Record.{keyboardAt, withKeyboard}
 use Rattle.keyboard.specs.Answers.{ends2-3-21}
-use Rattle.keyboard.specs.Scancode.{isSome, scancode}
+use Rattle.keyboard.specs.Scancode.{isSome}
+use Rattle.keyboard.specs.Byte.{keyEvent}
 use Rattle.keyboard.specs.Handler.{Outcome, queued, effects}
-use Rattle.keyboard.proofs.Queued.{queuedNumber, queued-number}
-use Rattle.keyboard.proofs.Ways.{endOf, scanned, Course, malformed, lacking, at-silent, at-key}
-use Rattle.keyboard.proofs.Courses.{course}
+use Rattle.keyboard.proofs.Queued.{KeyNumber, done-0, unknown-19, full-20, side-31, queuedNumber, queued-number}
+use Rattle.keyboard.proofs.Ways.{Course, lacking, at-silent, at-key}
+use Rattle.keyboard.proofs.Calls.{callEnd, callScanned, CallCourse, malformed, formed, call-course}
 
 -- the end of a call, as it is answered
 abbrev pub answerEnd : End Outcome → End (Answer Success)
@@ -33,20 +30,22 @@ lack-ends (noScript p) = refl
 lack-ends noLog = refl
 
 -- what follows the lamp exchange ends in none of the three
-pub queued-ends : (s : HandlerState) (b w : ℕ) (k : KeptBytes) (lit : Answer Success) → ends2-3-21 (yields (queued s b w k lit .answer)) ≡ false
-queued-ends s b w k lit = ⊎-elim (λ e. rw e) (λ r. other (queuedNumber s b w k lit) (r .0) (r .1)) (queued-number s b w k lit)
-  where
-    other : (n : ℕ) → 19 ≤ n → n ≤ 20 → (eqb n 2 || (eqb n 3 || eqb n 21)) ≡ false
-    other n l u = rw (ne-eqb n 2 (λ e. omega arith), ne-eqb n 3 (λ e. omega arith), ne-eqb n 21 (λ e. omega arith))
+number-ends : {n : ℕ} → KeyNumber n → (eqb n 2 || (eqb n 3 || eqb n 21)) ≡ false
+number-ends done-0 = refl
+number-ends unknown-19 = refl
+number-ends full-20 = refl
+number-ends side-31 = refl
 
-module _ {A : Type 0} (lamps : ℕ → Exchange (Answer A)) where
-  by-course : {h : HandlerState} {s l : List ℕ} → Course lamps h s l → ends2-3-21 (answerEnd (endOf lamps h s l)) ≡ not (isSome (scanned lamps h s l))
+pub queued-ends : (side : Side) (s : HandlerState) (b w : ℕ) (lit : Answer Success) (d : ℕ) → ends2-3-21 (yields (queued side s (keyEvent b w) lit d .answer)) ≡ false
+queued-ends side s b w lit d = number-ends (queued-number side s b w lit d)
+
+module _ {A : Type 0} (lamps : Side → ℕ → Exchange (Answer A)) (side : Side) (h : HandlerState) where
+  by-course : {s l : List ℕ} → CallCourse lamps side h s l → ends2-3-21 (answerEnd (callEnd lamps side h s l)) ≡ not (isSome (callScanned lamps side h s l))
   by-course (malformed w e n) = rw (e, n)
-  by-course (lacking x e n) = rw (e, n) (lack-ends x)
-  by-course (at-silent t q g e n) = rw (e, n)
-  by-course {h} (at-key t lit q g e n) = rw (e, n) (queued-ends h (t .byte) (flagsThen (h .keyboard) (t .byte)) _ lit)
+  by-course (formed w e n (lacking x q m)) = rw (e, n, q, m) (lack-ends x)
+  by-course (formed w e n (at-silent t q g u m)) = rw (e, n, u, m)
+  by-course (formed w e n (at-key t lit q g u m)) = rw (e, n, u, m) (queued-ends side (withKeyboard side _ h) (t .byte) (flagsThen (keyboardAt side h) (t .byte)) lit _)
 
-  pub counted-exactly : (h : HandlerState) (script log : List ℕ)
-      → ends2-3-21 (effects lamps h script log .end) ≡ not (isSome (scancode lamps (wellFormed h) (flagsThen (h .keyboard)) (waitingBytes (h .keyboard .waiting)) script log))
+  pub counted-exactly : (script log : List ℕ) → ends2-3-21 (effects lamps side h script log .end) ≡ not (isSome (callScanned lamps side h script log))
   unfolding effects
-  counted-exactly h script log = by-course (course lamps h script log)
+  counted-exactly script log = by-course (call-course lamps side h script log)

@@ -1,4 +1,4 @@
--- The courses that a handler call can take, on any state, script and log: how its play ends, and which scancode it counts.
+-- The courses that a call can take for its keyboard, on any memory of it, script and log: how its play ends, and which scancode it counts.
 -- Assumes nothing.
 use mathlib.Core.Path.{_≡_, refl, sym, ap, _∙_}
 use mathlib.Core.Bool.{true, false}
@@ -7,7 +7,7 @@ use mathlib.Core.Logic.{⊎-elim}
 use mathlib.Core.Option.{Option, none, some}
 use Prim.Native.Nat.{ℕ}
 use Rattle.exchange.specs.Exchange.{p60, noScript, Exchange, done, read, bind, End, yields, lacks, toldEnd, Played, play}
-use Rattle.exchange.specs.Answer.{Answer, gives, refuses}
+use Rattle.exchange.specs.Answer.{Answer, gives}
 use Rattle.exchange.specs.Sequence.{follow}
 use Rattle.exchange.specs.Keeping.{Kept, kept, keeping}
 use Rattle.exchange.proofs.Keeping.{keeping-forgets, keeping-bind}
@@ -22,11 +22,11 @@ use Rattle.keyboard_scancodes.specs.Lamps.{lampsLit}
 use Rattle.keyboard_scancodes.specs.Waiting.{bytesFrom, waitingBytes, waitingOf}
 use Rattle.keyboard_scancodes.proofs.Tests.{which}
 use Rattle.keyboard_scancodes.proofs.Silent.{silent-lock}
-use Rattle.keyboard_record.specs.declared.HandlerState.{HandlerState}
-use Rattle.keyboard_record.specs.Record.{withKeys, wellFormed}
+use Rattle.keyboard_scancodes.specs.declared.KeyboardState.{KeyboardState}
+use Rattle.keyboard_scancodes.specs.Remembered.{keyboardOf}
 use Rattle.keyboard.specs.Scancode.{Took, took, takes, thrownAt, lampsRanOut, caught, countedOf, scancode}
-use Rattle.keyboard.specs.Handler.{Outcome, outcome, queued, shown, takeByte, lampExchange, onByte, handle}
-use Rattle.keyboard.proofs.Ways.{endOf, scanned, Course, malformed, lacking, at-silent, at-key}
+use Rattle.keyboard.specs.Byte.{Keyed, keyed, afterLamps, shown, takeByte, lampExchange, onByte, keyCall}
+use Rattle.keyboard.proofs.Ways.{endOf, scanned, Course, lacking, at-silent, at-key}
 
 -- ---- an operation, then what is made of its value
 
@@ -41,166 +41,148 @@ end-done {B} {C} f t s l =
     ap (λ (r : Played C). r .end) (play-bind (λ x. done (f x)) t s l) ∙ follow-done f (o .used) (o .pairs) (o .log) s (o .end)
 
 module _ {A : Type 0} (lamps : ℕ → Exchange (Answer A)) where
-  module _ (h : HandlerState) where
+  module _ (h : KeyboardState) where
     -- the flags just after a byte, and the bytes that wait
     abbrev after : ℕ → ℕ
-    after b = flagsThen (h .keyboard) b
+    after b = flagsThen h b
 
     abbrev waits : List ℕ
-    waits = waitingBytes (h .keyboard .waiting)
+    waits = waitingBytes (h .waiting)
 
-    pub no-bytes : h .keyboard .waiting .count ≡ 0 → waits ≡ []
+    pub no-bytes : h .waiting .count ≡ 0 → waits ≡ []
     unfolding bytesFrom
     no-bytes q = rw q
 
-    pub handle-malformed : wellFormed h ≡ false → handle lamps h ≡ done (outcome (refuses 21) (gives success) h none 0)
-    unfolding handle
-    handle-malformed w = rw w
+    pub call-taken : keyCall lamps h ≡ takeByte waits (onByte lamps h)
+    unfolding keyCall
+    call-taken = refl
 
-    malformed-end : (s l : List ℕ) → wellFormed h ≡ false → endOf lamps h s l ≡ yields (outcome (refuses 21) (gives success) h none 0)
-    unfolding play
-    malformed-end s l w = ap (λ (t : Exchange Outcome). play t s l .end) (handle-malformed w)
+    -- a byte was taken: the rest of the call is left
+    module _ (t : Took) (s l : List ℕ) (g : takes waits s ≡ some t)
+        (p : endOf lamps h s l ≡ play (onByte lamps h (t .waiting) (t .byte)) (t .script) l .end) where
+      abbrev b : ℕ
+      b = t .byte
 
-    malformed-none : (s l : List ℕ) → wellFormed h ≡ false → scanned lamps h s l ≡ none
-    unfolding scancode
-    malformed-none s l w = on (takes waits s)
-      where
-        on : (o : Option Took) → countedOf lamps (wellFormed h) after o l ≡ none
-        on none = refl
-        on (some t) = rw w
+      byte-some : lampsRanOut lamps after t l ≡ false → scanned lamps h s l ≡ some b
+      unfolding scancode
+      byte-some e = rw (g, e)
 
-    module _ (w : wellFormed h ≡ true) where
-      pub handle-well : handle lamps h ≡ takeByte waits (onByte lamps h)
-      unfolding handle
-      handle-well = rw w
+      byte-none : lampsRanOut lamps after t l ≡ true → scanned lamps h s l ≡ none
+      unfolding scancode
+      byte-none e = rw (g, e)
 
-      -- a byte was taken: the rest of the call is left
-      module _ (t : Took) (s l : List ℕ) (g : takes waits s ≡ some t)
-          (p : endOf lamps h s l ≡ play (onByte lamps h (t .waiting) (t .byte)) (t .script) l .end) where
-        abbrev b : ℕ
-        b = t .byte
+      silent-end : isSilent b ≡ true
+          → play (onByte lamps h (t .waiting) b) (t .script) l .end
+          ≡ yields (keyed (gives none) (gives success) (keyboardOf (isPrefix b) (h .modifiers .bits) (waitingOf (t .waiting))) 0)
+      unfolding onByte play
+      silent-end q = rw (q, onByte)
 
-        byte-some : lampsRanOut lamps after t l ≡ false → scanned lamps h s l ≡ some b
-        unfolding scancode
-        byte-some e = rw (g, w, e)
+      is-silent : isSilent b ≡ true → Course lamps h s l
+      is-silent q = at-silent t q g (p ∙ silent-end q) (byte-some (rw (silent-lock b q)))
 
-        byte-none : lampsRanOut lamps after t l ≡ true → scanned lamps h s l ≡ none
-        unfolding scancode
-        byte-none e = rw (g, w, e)
+      -- the lamp exchange of the press of a lock by itself, with the bytes that it threw away
+      abbrev lampsAlone : Exchange (Answer A)
+      lampsAlone = lamps (lampsLit (after b))
 
-        silent-end : isSilent b ≡ true
-            → play (onByte lamps h (t .waiting) b) (t .script) l .end
-            ≡ yields (outcome (gives success) (gives success) (withKeys (isPrefix b) (h .keyboard .modifiers .bits) (waitingOf (t .waiting)) h) none 0)
-        unfolding onByte play
-        silent-end q = rw (q, onByte)
+      abbrev lampEnd : End (Kept (List ℕ) (Answer A))
+      lampEnd = play (keeping thrown [] lampsAlone) (t .script) l .end
 
-        is-silent : isSilent b ≡ true → Course lamps h s l
-        is-silent q = at-silent t q g (p ∙ silent-end q) (byte-some (rw (silent-lock b q)))
+      -- what the lamp exchange and its bytes make of the call
+      abbrev byLamps : Kept (List ℕ) (Answer Success) → Keyed
+      byLamps lit = afterLamps b (after b) (keptOf (t .waiting ++ lit .bytes)) (lit .value)
 
-        -- the lamp exchange of the press of a lock by itself, with the bytes that it threw away
-        abbrev lampsAlone : Exchange (Answer A)
-        lampsAlone = lamps (lampsLit (after b))
+      module _ (q : isSilent b ≡ false) where
+        key-bind : play (onByte lamps h (t .waiting) b) (t .script) l .end
+            ≡ play (bind (keeping thrown [] (lampExchange lamps b (after b))) (λ lit. done (byLamps lit))) (t .script) l .end
+        unfolding onByte
+        key-bind = rw (q, onByte)
 
-        abbrev lampEnd : End (Kept (List ℕ) (Answer A))
-        lampEnd = play (keeping thrown [] lampsAlone) (t .script) l .end
+        -- a key's end, by that of its lamp exchange
+        key-end : {e : End (Kept (List ℕ) (Answer Success))} → play (keeping thrown [] (lampExchange lamps b (after b))) (t .script) l .end ≡ e
+            → endOf lamps h s l ≡ toldEnd byLamps e
+        key-end e =
+            p ∙ key-bind ∙ end-done byLamps (keeping thrown [] (lampExchange lamps b (after b))) (t .script) l ∙ ap (toldEnd byLamps) e
 
-        -- what the lamp exchange and its bytes make of the call
-        abbrev byLamps : Kept (List ℕ) (Answer Success) → Outcome
-        byLamps lit = queued h b (after b) (keptOf (t .waiting ++ lit .bytes)) (lit .value)
+        other-end : isLockPress b ≡ false → play (keeping thrown [] (lampExchange lamps b (after b))) (t .script) l .end ≡ yields (kept (gives success) [])
+        unfolding lampExchange keeping play
+        other-end k = rw (k, lampExchange)
 
-        module _ (q : isSilent b ≡ false) where
-          key-bind : play (onByte lamps h (t .waiting) b) (t .script) l .end
-              ≡ play (bind (keeping thrown [] (lampExchange lamps b (after b))) (λ lit. done (byLamps lit))) (t .script) l .end
-          unfolding onByte
-          key-bind = rw (q, onByte)
+        none-caught : isLockPress b ≡ false → caught lamps after t l ≡ []
+        unfolding caught
+        none-caught k = rw k
 
-          -- a key's end, by that of its lamp exchange
-          key-end : {e : End (Kept (List ℕ) (Answer Success))} → play (keeping thrown [] (lampExchange lamps b (after b))) (t .script) l .end ≡ e
-              → endOf lamps h s l ≡ toldEnd byLamps e
-          key-end e =
-              p ∙ key-bind ∙ end-done byLamps (keeping thrown [] (lampExchange lamps b (after b))) (t .script) l ∙ ap (toldEnd byLamps) e
+        lock-tree : isLockPress b ≡ true → lampExchange lamps b (after b) ≡ bind lampsAlone (λ a. done (shown a))
+        unfolding lampExchange
+        lock-tree k = rw k
 
-          other-end : isLockPress b ≡ false → play (keeping thrown [] (lampExchange lamps b (after b))) (t .script) l .end ≡ yields (kept (gives success) [])
-          unfolding lampExchange keeping play
-          other-end k = rw (k, lampExchange)
+        lock-bind : isLockPress b ≡ true → keeping thrown [] (lampExchange lamps b (after b)) ≡ bind (keeping thrown [] lampsAlone) (λ k. done (kept (shown (k .value)) (k .bytes)))
+        unfolding keeping
+        lock-bind k = rw (lock-tree k) (keeping-bind thrown (λ a. done (shown a)) [] lampsAlone)
 
-          none-caught : isLockPress b ≡ false → caught lamps after t l ≡ []
-          unfolding caught
-          none-caught k = rw k
+        lock-end : {e : End (Kept (List ℕ) (Answer A))} → isLockPress b ≡ true → lampEnd ≡ e
+            → play (keeping thrown [] (lampExchange lamps b (after b))) (t .script) l .end ≡ toldEnd (λ k. kept (shown (k .value)) (k .bytes)) e
+        lock-end k e =
+            ap (λ (x : Exchange (Kept (List ℕ) (Answer Success))). play x (t .script) l .end) (lock-bind k)
+            ∙ end-done (λ k. kept (shown (k .value)) (k .bytes)) (keeping thrown [] lampsAlone) (t .script) l
+            ∙ ap (toldEnd (λ k. kept (shown (k .value)) (k .bytes))) e
 
-          lock-tree : isLockPress b ≡ true → lampExchange lamps b (after b) ≡ bind lampsAlone (λ a. done (shown a))
-          unfolding lampExchange
-          lock-tree k = rw k
+        lock-caught : {e : End (Kept (List ℕ) (Answer A))} → isLockPress b ≡ true → lampEnd ≡ e → caught lamps after t l ≡ thrownAt e
+        unfolding caught
+        lock-caught k e = rw (k, e)
 
-          lock-bind : isLockPress b ≡ true → keeping thrown [] (lampExchange lamps b (after b)) ≡ bind (keeping thrown [] lampsAlone) (λ k. done (kept (shown (k .value)) (k .bytes)))
-          unfolding keeping
-          lock-bind k = rw (lock-tree k) (keeping-bind thrown (λ a. done (shown a)) [] lampsAlone)
+        -- the same exchange without its bytes
+        plain-end : {e : End (Kept (List ℕ) (Answer A))} → lampEnd ≡ e → play lampsAlone (t .script) l .end ≡ toldEnd (λ k. k .value) e
+        plain-end e =
+            ap (λ (x : Exchange (Answer A)). play x (t .script) l .end) (sym (keeping-forgets thrown [] lampsAlone))
+            ∙ end-done (λ k. k .value) (keeping thrown [] lampsAlone) (t .script) l ∙ ap (toldEnd (λ k. k .value)) e
 
-          lock-end : {e : End (Kept (List ℕ) (Answer A))} → isLockPress b ≡ true → lampEnd ≡ e
-              → play (keeping thrown [] (lampExchange lamps b (after b))) (t .script) l .end ≡ toldEnd (λ k. kept (shown (k .value)) (k .bytes)) e
-          lock-end k e =
-              ap (λ (x : Exchange (Kept (List ℕ) (Answer Success))). play x (t .script) l .end) (lock-bind k)
-              ∙ end-done (λ k. kept (shown (k .value)) (k .bytes)) (keeping thrown [] lampsAlone) (t .script) l
-              ∙ ap (toldEnd (λ k. kept (shown (k .value)) (k .bytes))) e
+        is-lock : isLockPress b ≡ true → (e : End (Kept (List ℕ) (Answer A))) → lampEnd ≡ e → Course lamps h s l
+        is-lock k (yields a) e =
+            at-key t (shown (a .value)) q g (rw (lock-caught k e) (key-end (lock-end k e))) (byte-some (rw (k, plain-end e)))
+        is-lock k (lacks x) e = lacking x (key-end (lock-end k e)) (byte-none (rw (k, plain-end e)))
 
-          lock-caught : {e : End (Kept (List ℕ) (Answer A))} → isLockPress b ≡ true → lampEnd ≡ e → caught lamps after t l ≡ thrownAt e
-          unfolding caught
-          lock-caught k e = rw (k, e)
+        is-other : isLockPress b ≡ false → Course lamps h s l
+        is-other k = at-key t (gives success) q g (rw (none-caught k) (key-end (other-end k))) (byte-some (rw k))
 
-          -- the same exchange without its bytes
-          plain-end : {e : End (Kept (List ℕ) (Answer A))} → lampEnd ≡ e → play lampsAlone (t .script) l .end ≡ toldEnd (λ k. k .value) e
-          plain-end e =
-              ap (λ (x : Exchange (Answer A)). play x (t .script) l .end) (sym (keeping-forgets thrown [] lampsAlone))
-              ∙ end-done (λ k. k .value) (keeping thrown [] lampsAlone) (t .script) l ∙ ap (toldEnd (λ k. k .value)) e
+        is-key : Course lamps h s l
+        is-key = ⊎-elim (λ k. is-lock k lampEnd refl) is-other (which (isLockPress b))
 
-          is-lock : isLockPress b ≡ true → (e : End (Kept (List ℕ) (Answer A))) → lampEnd ≡ e → Course lamps h s l
-          is-lock k (yields a) e =
-              at-key t (shown (a .value)) q g (rw (lock-caught k e) (key-end (lock-end k e))) (byte-some (rw (k, plain-end e)))
-          is-lock k (lacks x) e = lacking x (key-end (lock-end k e)) (byte-none (rw (k, plain-end e)))
+      has-byte : Course lamps h s l
+      has-byte = ⊎-elim is-silent is-key (which (isSilent b))
 
-          is-other : isLockPress b ≡ false → Course lamps h s l
-          is-other k = at-key t (gives success) q g (rw (none-caught k) (key-end (other-end k))) (byte-some (rw k))
+    -- none waits: the byte is the script's
+    module _ (q : waits ≡ []) where
+      pub none-taken : keyCall lamps h ≡ read p60 (onByte lamps h [])
+      none-taken = call-taken ∙ ap (λ (x : List ℕ). takeByte x (onByte lamps h)) q
 
-          is-key : Course lamps h s l
-          is-key = ⊎-elim (λ k. is-lock k lampEnd refl) is-other (which (isLockPress b))
+      empty-end : (l : List ℕ) → endOf lamps h [] l ≡ lacks (noScript p60)
+      unfolding play
+      empty-end l = ap (λ (t : Exchange Keyed). play t [] l .end) none-taken
 
-        has-byte : Course lamps h s l
-        has-byte = ⊎-elim is-silent is-key (which (isSilent b))
+      empty-none : (l : List ℕ) → scanned lamps h [] l ≡ none
+      unfolding scancode
+      empty-none l = rw q
 
-      -- none waits: the byte is the script's
-      module _ (q : waits ≡ []) where
-        pub none-well : handle lamps h ≡ read p60 (onByte lamps h [])
-        none-well = handle-well ∙ ap (λ (x : List ℕ). takeByte x (onByte lamps h)) q
+      read-end : (b : ℕ) (s l : List ℕ) → endOf lamps h (b ∷ s) l ≡ play (onByte lamps h [] b) s l .end
+      unfolding play
+      read-end b s l = ap (λ (t : Exchange Keyed). play t (b ∷ s) l .end) none-taken
 
-        empty-end : (l : List ℕ) → endOf lamps h [] l ≡ lacks (noScript p60)
-        unfolding play
-        empty-end l = ap (λ (t : Exchange Outcome). play t [] l .end) none-well
+      of-script : (s l : List ℕ) → Course lamps h s l
+      of-script [] l = lacking (noScript p60) (empty-end l) (empty-none l)
+      of-script (b ∷ s) l = has-byte (took b [] s) (b ∷ s) l (ap (λ (x : List ℕ). takes x (b ∷ s)) q) (read-end b s l)
 
-        empty-none : (l : List ℕ) → scanned lamps h [] l ≡ none
-        unfolding scancode
-        empty-none l = rw q
+    -- one waits: it is the byte
+    module _ (b : ℕ) (rest s l : List ℕ) (q : waits ≡ b ∷ rest) where
+      waiting-end : endOf lamps h s l ≡ play (onByte lamps h rest b) s l .end
+      waiting-end =
+          ap (λ (t : Exchange Keyed). play t s l .end) (call-taken ∙ ap (λ (x : List ℕ). takeByte x (onByte lamps h)) q)
 
-        read-end : (b : ℕ) (s l : List ℕ) → endOf lamps h (b ∷ s) l ≡ play (onByte lamps h [] b) s l .end
-        unfolding play
-        read-end b s l = ap (λ (t : Exchange Outcome). play t (b ∷ s) l .end) none-well
+      of-waiting : Course lamps h s l
+      of-waiting = has-byte (took b rest s) s l (ap (λ (x : List ℕ). takes x s) q) waiting-end
 
-        of-script : (s l : List ℕ) → Course lamps h s l
-        of-script [] l = lacking (noScript p60) (empty-end l) (empty-none l)
-        of-script (b ∷ s) l = has-byte (took b [] s) (b ∷ s) l (ap (λ (x : List ℕ). takes x (b ∷ s)) q) (read-end b s l)
+    by-waiting : (s l x : List ℕ) → waits ≡ x → Course lamps h s l
+    by-waiting s l [] q = of-script q s l
+    by-waiting s l (b ∷ rest) q = of-waiting b rest s l q
 
-      -- one waits: it is the byte
-      module _ (b : ℕ) (rest s l : List ℕ) (q : waits ≡ b ∷ rest) where
-        waiting-end : endOf lamps h s l ≡ play (onByte lamps h rest b) s l .end
-        waiting-end =
-            ap (λ (t : Exchange Outcome). play t s l .end) (handle-well ∙ ap (λ (x : List ℕ). takeByte x (onByte lamps h)) q)
-
-        of-waiting : Course lamps h s l
-        of-waiting = has-byte (took b rest s) s l (ap (λ (x : List ℕ). takes x s) q) waiting-end
-
-      is-well : (s l x : List ℕ) → waits ≡ x → Course lamps h s l
-      is-well s l [] q = of-script q s l
-      is-well s l (b ∷ rest) q = of-waiting b rest s l q
-
-  pub course : (h : HandlerState) (script log : List ℕ) → Course lamps h script log
-  course h s l =
-      ⊎-elim (λ w. is-well h w s l (waits h) refl) (λ w. malformed w (malformed-end h s l w) (malformed-none h s l w)) (which (wellFormed h))
+  pub course : (h : KeyboardState) (script log : List ℕ) → Course lamps h script log
+  course h s l = by-waiting h s l (waits h) refl

@@ -1,11 +1,13 @@
 -- Laws of a handler call: its courses and its ends, what refused calls leave, what waits after one, its bounds.
 pub mod Ways
-pub mod Queued
 pub mod Courses
+pub mod Waiting
+pub mod Outcomes
+pub mod Calls
+pub mod Queued
 pub mod Counted
 pub mod Refused
-pub mod Kept
-pub mod Waiting
+pub mod Formed
 pub mod Bounds
-pub mod Outcomes
 pub mod Effects
+pub mod OtherSide

@@ -1,4 +1,4 @@
--- What each part of a handler call comes to: the lamp exchange, the byte, the read or the byte that waits.
+-- What each part of a call comes to for its keyboard: the lamp exchange, the byte, the read or the byte that waits.
 -- Assumes nothing.
 use mathlib.Core.Path.{_≡_, refl, sym, ap, _∙_}
 use mathlib.Core.Bool.{true, false}
@@ -32,34 +32,34 @@ use Rattle.keyboard_scancodes.specs.FlagTable.{flagTable, isLockPress}
 use Rattle.keyboard_scancodes.specs.FlagsAfter.{flagsAfter, flagsThen}
 use Rattle.keyboard_scancodes.specs.Lamps.{lampsLit}
 use Rattle.keyboard_scancodes.specs.Waiting.{bytesFrom, waitingBytes, waitingIn}
-use Rattle.keyboard_record.specs.declared.HandlerState.{HandlerState}
-use Rattle.keyboard_record.specs.Record.{withKeys, wellFormed}
-use Rattle.keyboard.specs.Handler.{Outcome, outcome, queued, shown, Effects, effectsBy, takeByte, lampExchange, onByte, handle, effects, logLeft}
+use Rattle.keyboard_scancodes.specs.declared.KeyboardState.{KeyboardState}
+use Rattle.keyboard_scancodes.specs.Remembered.{keyboardOf}
+use Rattle.keyboard.specs.Byte.{Keyed, keyed, afterLamps, shown, KeyEffects, keyEffectsBy, takeByte, lampExchange, onByte, keyCall, keyEffects}
 use Rattle.keyboard.specs.Outcomes.{onKey}
-use Rattle.keyboard.proofs.Courses.{handle-malformed, handle-well, no-bytes, none-well}
+use Rattle.keyboard.proofs.Courses.{call-taken, no-bytes, none-taken}
 
 -- ---- what is given back, and the log that is left, by the play
 
-module _ (h : HandlerState) (t : Exchange Outcome) (s l : List ℕ) {e : End Outcome} {u w : ℕ} {l′ : List ℕ} (p : played e u w l′ ≡ play t s l) where
-  pub gives-back : {x : Effects} → x ≡ effectsBy h (played e u w l′) → (x ≡ effectsBy h (play t s l)) × (l′ ≡ play t s l .log)
-  gives-back q = (q ∙ ap (effectsBy h) p, ap (λ (o : Played Outcome). o .log) p)
+module _ (h : KeyboardState) (t : Exchange Keyed) (s l : List ℕ) {e : End Keyed} {u w : ℕ} {l′ : List ℕ} (p : played e u w l′ ≡ play t s l) where
+  pub gives-back : {x : KeyEffects} → x ≡ keyEffectsBy h (played e u w l′) → (x ≡ keyEffectsBy h (play t s l)) × (l′ ≡ play t s l .log)
+  gives-back q = (q ∙ ap (keyEffectsBy h) p, ap (λ (o : Played Keyed). o .log) p)
 
 -- what is given back where u more script bytes were used before
-abbrev further : ℕ → Effects → Effects
-further u x = record { end = x .end; lamps = x .lamps; used = u + x .used; pairs = x .pairs; state = x .state; event = x .event; dropped = x .dropped }
+abbrev further : ℕ → KeyEffects → KeyEffects
+further u x = record { end = x .end; lamps = x .lamps; used = u + x .used; pairs = x .pairs; keyboard = x .keyboard; dropped = x .dropped }
 
-module _ {A : Type 0} (lamps : ℕ → Exchange (Answer A)) (h : HandlerState) where
-  pub call-back : (s l : List ℕ) {e : End Outcome} {u w : ℕ} {l′ : List ℕ} → played e u w l′ ≡ play (handle lamps h) s l
-      → (effectsBy h (played e u w l′) ≡ effects lamps h s l) × (l′ ≡ logLeft lamps h s l)
-  unfolding effects logLeft
-  call-back s l p = gives-back h (handle lamps h) s l p refl
+module _ {A : Type 0} (lamps : ℕ → Exchange (Answer A)) (h : KeyboardState) where
+  pub call-back : (s l : List ℕ) {e : End Keyed} {u w : ℕ} {l′ : List ℕ} → played e u w l′ ≡ play (keyCall lamps h) s l
+      → (keyEffectsBy h (played e u w l′) ≡ keyEffects lamps h s l) × (l′ ≡ play (keyCall lamps h) s l .log)
+  unfolding keyEffects
+  call-back s l p = gives-back h (keyCall lamps h) s l p refl
 
   -- ---- the byte of a key, with its flags and the bytes that wait behind it
 
   module _ (b flags : ℕ) (rest s l : List ℕ) where
     -- what the lamp exchange and the bytes that are kept make of the call
-    abbrev event : Kept KeptBytes (Answer A) → Exchange Outcome
-    event k = done (queued h b flags (k .bytes) (shown (k .value)))
+    abbrev event : Kept KeptBytes (Answer A) → Exchange Keyed
+    event k = done (afterLamps b flags (k .bytes) (shown (k .value)))
 
     module _ (k : isLockPress b ≡ true) {v : ℕ} (m : v ≡ lampsLit flags) {n w₀ : ℕ} (within : Within n w₀ (lamps v)) (few : length rest + n ≤ othersLimit) where
       lock-tree : lampExchange lamps b flags ≡ bind (lamps v) (λ a. done (shown a))
@@ -67,16 +67,16 @@ module _ {A : Type 0} (lamps : ℕ → Exchange (Answer A)) (h : HandlerState) w
       lock-tree = rw (k, m)
 
       -- by the list of the bytes that it throws away
-      key-tree : onKey lamps h rest b flags ≡ bind (keeping thrown [] (lamps v)) (λ x. event (retold (λ y. keptOf (rest ++ y)) x))
+      key-tree : onKey lamps rest b flags ≡ bind (keeping thrown [] (lamps v)) (λ x. event (retold (λ y. keptOf (rest ++ y)) x))
       unfolding keeping bind
       key-tree =
-          ap (λ (t : Exchange (Answer Success)). bind (keeping thrown [] t) (λ lit. done (queued h b flags (keptOf (rest ++ lit .bytes)) (lit .value)))) lock-tree
-          ∙ ap (λ (t : Exchange (Kept (List ℕ) (Answer Success))). bind t (λ lit. done (queued h b flags (keptOf (rest ++ lit .bytes)) (lit .value))))
+          ap (λ (t : Exchange (Answer Success)). bind (keeping thrown [] t) (λ lit. done (afterLamps b flags (keptOf (rest ++ lit .bytes)) (lit .value)))) lock-tree
+          ∙ ap (λ (t : Exchange (Kept (List ℕ) (Answer Success))). bind t (λ lit. done (afterLamps b flags (keptOf (rest ++ lit .bytes)) (lit .value))))
           (keeping-bind thrown (λ a. done (shown a)) [] (lamps v))
           ∙ bind-assoc (keeping thrown [] (lamps v)) _ _
 
       -- and as the code goes on from the bytes kept before
-      onto-tree : bind (keepingOnto (keptOf rest) (lamps v)) event ≡ onKey lamps h rest b flags
+      onto-tree : bind (keepingOnto (keptOf rest) (lamps v)) event ≡ onKey lamps rest b flags
       unfolding bind
       onto-tree =
           ap (λ (t : Exchange (Kept KeptBytes (Answer A))). bind t event)
@@ -90,101 +90,96 @@ module _ {A : Type 0} (lamps : ℕ → Exchange (Answer A)) (h : HandlerState) w
         plays : played (keptEnd e left) u w l′ ≡ play (keepingOnto (keptOf rest) (lamps v)) s l
         plays = rw q at (r .plays)
 
-        pub lamps-answer : {a : Answer A} → e ≡ yields a → played (yields (queued h b flags left (shown a))) u w l′ ≡ play (onKey lamps h rest b flags) s l
+        pub lamps-answer : {a : Answer A} → e ≡ yields a → played (yields (afterLamps b flags left (shown a))) u w l′ ≡ play (onKey lamps rest b flags) s l
         lamps-answer is = rw (← onto-tree) (bind-done (keepingOnto (keptOf rest) (lamps v)) event s l plays (ap (λ x. keptEnd x left) is) refl)
 
-        pub lamps-lack : {x : Lack} → e ≡ lacks x → played (lacks x) u w l′ ≡ play (onKey lamps h rest b flags) s l
+        pub lamps-lack : {x : Lack} → e ≡ lacks x → played (lacks x) u w l′ ≡ play (onKey lamps rest b flags) s l
         lamps-lack is = rw (← onto-tree) (bind-lacks (keepingOnto (keptOf rest) (lamps v)) event s l plays (ap (λ x. keptEnd x left) is))
 
     pub no-lamps : {kept : KeptBytes} → kept ≡ keptOf rest → isLockPress b ≡ false
-        → played (yields (queued h b flags kept (gives success))) 0 0 l ≡ play (onKey lamps h rest b flags) s l
+        → played (yields (afterLamps b flags kept (gives success))) 0 0 l ≡ play (onKey lamps rest b flags) s l
     unfolding lampExchange keeping bind play
     no-lamps q k = rw (k, lampExchange, q, append-nil rest)
 
   -- ---- the byte
 
   pub silent-byte : (b : ℕ) (rest s l : List ℕ) {kept : KeptBytes} → kept ≡ keptOf rest → isSilent b ≡ true
-      → played (yields (outcome (gives success) (gives success) (withKeys (isPrefix b) (h .keyboard .modifiers .bits) (waitingIn kept) h) none 0)) 0 0 l
+      → played (yields (keyed (gives none) (gives success) (keyboardOf (isPrefix b) (h .modifiers .bits) (waitingIn kept)) 0)) 0 0 l
       ≡ play (onByte lamps h rest b) s l
   unfolding onByte play
   silent-byte b rest s l k q = rw (k, q, onByte)
 
-  pub key-byte : (b : ℕ) (rest : List ℕ) {flags : ℕ} → flags ≡ flagsAfter flagTable (stroke b (h .keyboard .prefix)) (h .keyboard .modifiers .bits) → isSilent b ≡ false
-      → onKey lamps h rest b flags ≡ onByte lamps h rest b
+  pub key-byte : (b : ℕ) (rest : List ℕ) {flags : ℕ} → flags ≡ flagsAfter flagTable (stroke b (h .prefix)) (h .modifiers .bits) → isSilent b ≡ false
+      → onKey lamps rest b flags ≡ onByte lamps h rest b
   unfolding onByte flagsThen
   key-byte b rest e q = rw (e, q)
 
   -- ---- the call
 
-  pub malformed-call : (s l : List ℕ) → wellFormed h ≡ false → played (yields (outcome (refuses 21) (gives success) h none 0)) 0 0 l ≡ play (handle lamps h) s l
-  unfolding play
-  malformed-call s l w = rw (handle-malformed lamps h w)
+  -- a byte waits: it is the call's
+  module _ (some-wait : h .waiting .count ≢ 0) (s l : List ℕ) where
+    abbrev oldest : ℕ
+    oldest = getD (h .waiting .bytes) 0 0
 
-  module _ (w : wellFormed h ≡ true) where
-    -- a byte waits: it is the call's
-    module _ (some-wait : h .keyboard .waiting .count ≢ 0) (s l : List ℕ) where
-      abbrev oldest : ℕ
-      oldest = getD (h .keyboard .waiting .bytes) 0 0
+    abbrev others : List ℕ
+    others = bytesFrom (h .waiting .bytes) 1 (h .waiting .count - 1)
 
-      abbrev others : List ℕ
-      others = bytesFrom (h .keyboard .waiting .bytes) 1 (h .keyboard .waiting .count - 1)
+    waits : waitingBytes (h .waiting) ≡ oldest ∷ others
+    unfolding bytesFrom
+    waits =
+        let e : h .waiting .count ≡ suc (h .waiting .count - 1) = omega (arith, some-wait) in
+        ap (bytesFrom (h .waiting .bytes) 0) e
 
-      waits : waitingBytes (h .keyboard .waiting) ≡ oldest ∷ others
-      unfolding bytesFrom
-      waits =
-          let e : h .keyboard .waiting .count ≡ suc (h .keyboard .waiting .count - 1) = omega (arith, some-wait) in
-          ap (bytesFrom (h .keyboard .waiting .bytes) 0) e
+    pub waiting-call : {x : KeyEffects} {m : List ℕ} → let o = play (onByte lamps h others oldest) s l in (x ≡ keyEffectsBy h o) × (m ≡ o .log)
+        → (x ≡ keyEffects lamps h s l) × (m ≡ play (keyCall lamps h) s l .log)
+    unfolding keyEffects
+    waiting-call p =
+        let t : onByte lamps h others oldest ≡ keyCall lamps h = sym (call-taken lamps h ∙ ap (λ (y : List ℕ). takeByte y (onByte lamps h)) waits) in
+        (p .0 ∙ ap (λ (y : Exchange Keyed). keyEffectsBy h (play y s l)) t, p .1 ∙ ap (λ (y : Exchange Keyed). play y s l .log) t)
 
-      pub waiting-call : {x : Effects} {m : List ℕ} → let o = play (onByte lamps h others oldest) s l in (x ≡ effectsBy h o) × (m ≡ o .log)
-          → (x ≡ effects lamps h s l) × (m ≡ logLeft lamps h s l)
-      unfolding effects logLeft
-      waiting-call p =
-          let t : onByte lamps h others oldest ≡ handle lamps h = sym (handle-well lamps h w ∙ ap (λ (y : List ℕ). takeByte y (onByte lamps h)) waits) in
-          (p .0 ∙ ap (λ (y : Exchange Outcome). effectsBy h (play y s l)) t, p .1 ∙ ap (λ (y : Exchange Outcome). play y s l .log) t)
+  -- none waits: it is read
+  module _ (none-waits : h .waiting .count ≡ 0) where
+    -- what is left of a call by the answer of its read; the read alone refuses nothing
+    abbrev onRead : Answer ℕ → Exchange Keyed
+    onRead (gives b) = onByte lamps h [] b
+    onRead (refuses n) = done (keyed (refuses n) (gives success) h 0)
 
-    -- none waits: it is read
-    module _ (none-waits : h .keyboard .waiting .count ≡ 0) where
-      -- what is left of a call by the answer of its read; the read alone refuses nothing
-      abbrev onRead : Answer ℕ → Exchange Outcome
-      onRead (gives b) = onByte lamps h [] b
-      onRead (refuses n) = done (outcome (refuses n) (gives success) h none 0)
+    read-tree : keyCall lamps h ≡ bind readScancode onRead
+    unfolding bind readScancode readPort
+    read-tree = none-taken lamps h (no-bytes lamps h none-waits)
 
-      read-tree : handle lamps h ≡ bind readScancode onRead
-      unfolding bind readScancode readPort
-      read-tree = none-well lamps h w (no-bytes lamps h none-waits)
+    module _ (s l : List ℕ) {e : End (Answer ℕ)} {u v : ℕ} (r : Reads readScancode s e u v) where
+      read-byte : (b : ℕ) → e ≡ yields (gives b) → let o = play (onByte lamps h [] b) (part u s) l in
+          played (o .end) (u + o .used) (o .pairs) (o .log) ≡ play (keyCall lamps h) s l
+      read-byte b q = rw read-tree (reads-then readScancode onRead s r l q refl)
 
-      module _ (s l : List ℕ) {e : End (Answer ℕ)} {u v : ℕ} (r : Reads readScancode s e u v) where
-        read-byte : (b : ℕ) → e ≡ yields (gives b) → let o = play (onByte lamps h [] b) (part u s) l in
-            played (o .end) (u + o .used) (o .pairs) (o .log) ≡ play (handle lamps h) s l
-        read-byte b q = rw read-tree (reads-then readScancode onRead s r l q refl)
+      -- the rest of the call, after the byte
+      module _ (b : ℕ) (q : e ≡ yields (gives b)) {after : KeyEffects} (x : after ≡ keyEffectsBy h (play (onByte lamps h [] b) (part u s) l)) where
+        pub byte-used : u + after .used ≤ length s
+        byte-used = rw x (call-used-le (keyCall lamps h) s l (read-byte b q))
 
-        -- the rest of the call, after the byte
-        module _ (b : ℕ) (q : e ≡ yields (gives b)) {after : Effects} (x : after ≡ effectsBy h (play (onByte lamps h [] b) (part u s) l)) where
-          pub byte-used : u + after .used ≤ length s
-          byte-used = rw x (call-used-le (handle lamps h) s l (read-byte b q))
+        pub byte-call : {m : List ℕ} → m ≡ play (onByte lamps h [] b) (part u s) l .log
+            → (further u after ≡ keyEffects lamps h s l) × (m ≡ play (keyCall lamps h) s l .log)
+        byte-call y = rw (x, y) (call-back s l (read-byte b q))
 
-          pub byte-call : {m : List ℕ} → m ≡ play (onByte lamps h [] b) (part u s) l .log
-              → (further u after ≡ effects lamps h s l) × (m ≡ logLeft lamps h s l)
-          byte-call y = rw (x, y) (call-back s l (read-byte b q))
+      -- a read of data gives a byte, or lacks one
+      read-ends : (s : List ℕ) → (play readScancode s [] .end ≡ lacks (noScript p60)) ⊎ ((b : ℕ) × (play readScancode s [] .end ≡ yields (gives b)))
+      unfolding readScancode readPort play
+      read-ends [] = inl refl
+      read-ends (b ∷ s) = inr (b, refl)
 
-        -- a read of data gives a byte, or lacks one
-        read-ends : (s : List ℕ) → (play readScancode s [] .end ≡ lacks (noScript p60)) ⊎ ((b : ℕ) × (play readScancode s [] .end ≡ yields (gives b)))
-        unfolding readScancode readPort play
-        read-ends [] = inl refl
-        read-ends (b ∷ s) = inr (b, refl)
+      byte-not-refused : (b : ℕ) (x : Refusal) → yields (gives b) ≡ refused x → ⊥
+      byte-not-refused b (Refusal.Lacking y) q = let z : _≡_ {A = ℕ} 0 1 = cc in omega arith
+      byte-not-refused b (Refusal.Failed f) q = let z : _≡_ {A = ℕ} 0 1 = cc in omega arith
 
-        byte-not-refused : (b : ℕ) (x : Refusal) → yields (gives b) ≡ refused x → ⊥
-        byte-not-refused b (Refusal.Lacking y) q = let z : _≡_ {A = ℕ} 0 1 = cc in omega arith
-        byte-not-refused b (Refusal.Failed f) q = let z : _≡_ {A = ℕ} 0 1 = cc in omega arith
+      only-lack : (x : Refusal) → e ≡ refused x → e ≡ lacks (noScript p60)
+      only-lack x q =
+          let p : e ≡ play readScancode s [] .end = ap (λ (o : Played (Answer ℕ)). o .end) (r .with-any []) in
+          ⊎-elim (λ k. p ∙ k) (λ k. absurd (byte-not-refused (k .0) x (sym (p ∙ k .1) ∙ q))) (read-ends s)
 
-        only-lack : (x : Refusal) → e ≡ refused x → e ≡ lacks (noScript p60)
-        only-lack x q =
-            let p : e ≡ play readScancode s [] .end = ap (λ (o : Played (Answer ℕ)). o .end) (r .with-any []) in
-            ⊎-elim (λ k. p ∙ k) (λ k. absurd (byte-not-refused (k .0) x (sym (p ∙ k .1) ∙ q))) (read-ends s)
-
-        -- where no byte was read, the call lacks one from port 60
-        pub no-byte : (x : Refusal) → e ≡ refused x
-            → (effectsBy h (played (lacks (noScript p60)) u 0 l) ≡ effects lamps h s l) × (l ≡ logLeft lamps h s l)
-        no-byte x q =
-            let p : played (lacks (noScript p60)) u 0 l ≡ play (handle lamps h) s l = rw read-tree (reads-then-lacks readScancode onRead s r l (only-lack x q)) in
-            call-back s l p
+      -- where no byte was read, the call lacks one from port 60
+      pub no-byte : (x : Refusal) → e ≡ refused x
+          → (keyEffectsBy h (played (lacks (noScript p60)) u 0 l) ≡ keyEffects lamps h s l) × (l ≡ play (keyCall lamps h) s l .log)
+      no-byte x q =
+          let p : played (lacks (noScript p60)) u 0 l ≡ play (keyCall lamps h) s l = rw read-tree (reads-then-lacks readScancode onRead s r l (only-lack x q)) in
+          call-back s l p

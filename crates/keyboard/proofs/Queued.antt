@@ -1,77 +1,93 @@
--- The three ways in which a key's byte can end after its lamp exchange: 19, 20, or its event is queued.
+-- The ways in which a key's byte can end after its lamp exchange: 19, 31 or 20, or its event is queued.
 -- Assumes nothing.
 use mathlib.Core.Path.{_≡_, refl}
-use mathlib.Core.Bool.{Bool, true, false}
-use mathlib.Core.Logic.{_⊎_, inl, inr, ⊎-elim}
-use mathlib.Core.Option.{none}
+use mathlib.Core.Bool.{true, false}
+use mathlib.Core.Logic.{⊎-elim}
+use mathlib.Core.Option.{none, some}
 use Prim.Native.Nat.{ℕ, _≤_}
 use native.Mathlib.Omega.{arith}
-use Rattle.exchange.specs.Answer.{Answer, numberAnswered}
-use Rattle.ps2_answers.specs.Refusals.{Success}
-use Rattle.ps2_kept.specs.declared.KeptBytes.{KeptBytes}
-use Rattle.keyboard_scancodes.specs.Events.{isKnown}
-use Rattle.keyboard_scancodes.specs.Waiting.{waitingIn}
+use Rattle.exchange.specs.Answer.{Answer, gives, refuses, numberAnswered}
+use Rattle.ps2_answers.specs.Refusals.{Success, success}
+use Rattle.keyboard_scancodes.specs.Events.{isKnown, eventOf}
 use Rattle.keyboard_scancodes.proofs.Tests.{which}
+use Rattle.keyboard_sides.specs.declared.Side.{Side}
 use Rattle.keyboard_record.specs.declared.HandlerState.{HandlerState}
-use Rattle.keyboard_record.specs.Queue.{hasRoom}
-use Rattle.keyboard_record.specs.Record.{withKeys}
+use Rattle.keyboard_record.specs.Queue.{room, oneMore, waitingSides}
+use Rattle.keyboard_record.proofs.Meeting.{Meets, side-full, queue-full, free, meets-cases}
+use Rattle.keyboard.specs.Byte.{keyEvent}
 use Rattle.keyboard.specs.Handler.{outcome, queued}
-use Rattle.keyboard.proofs.Ways.{Queued, is-unknown, is-full, is-queued}
 
-module _ (s : HandlerState) (b w : ℕ) (k : KeptBytes) where
-  by-code : isKnown b ≡ false → Queued s b w k
-  unfolding queued
-  by-code c = is-unknown c (λ lit. rw c)
+-- what is answered where the event met n: 31 or 20
+pub data MetNumber : ℕ → Type 0 where
+  met-31 : MetNumber 31
+  met-20 : MetNumber 20
 
-  by-room : isKnown b ≡ true → (r : Bool) → hasRoom s ≡ r → Queued s b w k
-  unfolding queued
-  by-room c false r = is-full c r (λ lit. rw (c, r))
-  by-room c true r = is-queued c r (λ lit. rw (c, r))
+pub data Queued (side : Side) (s : HandlerState) (b w : ℕ) : Type 0 where
+  is-unknown : isKnown b ≡ false
+      → ((lit : Answer Success) (d : ℕ) → queued side s (keyEvent b w) lit d ≡ outcome (refuses 19) lit s none d) → Queued side s b w
+  is-met : isKnown b ≡ true → {n : ℕ} → MetNumber n → room side s ≡ refuses n
+      → ((lit : Answer Success) (d : ℕ) → queued side s (keyEvent b w) lit d ≡ outcome (refuses n) lit s none d) → Queued side s b w
+  is-queued : isKnown b ≡ true → room side s ≡ gives success
+      → ((lit : Answer Success) (d : ℕ) → queued side s (keyEvent b w) lit d ≡ outcome (gives success) lit (oneMore side s) (some (eventOf b w)) d) → Queued side s b w
 
-  pub queued-way : Queued s b w k
-  queued-way = ⊎-elim (λ c. by-room c (hasRoom s) refl) by-code (which (isKnown b))
+module _ (side : Side) (s : HandlerState) (b w : ℕ) where
+  by-code : isKnown b ≡ false → Queued side s b w
+  unfolding keyEvent
+  by-code c = is-unknown c (λ lit d. rw c)
+
+  by-room : isKnown b ≡ true → Meets (s .keyboards) side (waitingSides s) → Queued side s b w
+  unfolding keyEvent
+  by-room c (side-full t h e) = is-met c met-31 e (λ lit d. rw (c, e))
+  by-room c (queue-full i h e) = is-met c met-20 e (λ lit d. rw (c, e))
+  by-room c (free i h e) = is-queued c e (λ lit d. rw (c, e))
+
+  pub queued-way : Queued side s b w
+  queued-way = ⊎-elim (λ c. by-room c (meets-cases (s .keyboards) side (waitingSides s))) by-code (which (isKnown b))
 
   -- the number that is answered after the lamp exchange
-  abbrev pub queuedNumber : Answer Success → ℕ
-  queuedNumber lit = numberAnswered (queued s b w k lit .answer)
+  abbrev pub queuedNumber : Answer Success → ℕ → ℕ
+  queuedNumber lit d = numberAnswered (queued side s (keyEvent b w) lit d .answer)
 
-module _ {s : HandlerState} {b w : ℕ} {k : KeptBytes} where
+-- the numbers of a key's byte
+pub data KeyNumber : ℕ → Type 0 where
+  done-0 : KeyNumber 0
+  unknown-19 : KeyNumber 19
+  full-20 : KeyNumber 20
+  side-31 : KeyNumber 31
+
+met-number : {n : ℕ} → MetNumber n → KeyNumber n
+met-number met-31 = side-31
+met-number met-20 = full-20
+
+module _ {side : Side} {s : HandlerState} {b w : ℕ} where
   -- the answer is none of document 01's numbers from 1 to 18, nor 21
-  number-of : Queued s b w k → (lit : Answer Success) → (queuedNumber s b w k lit ≡ 0) ⊎ ((19 ≤ queuedNumber s b w k lit) × (queuedNumber s b w k lit ≤ 20))
-  number-of (is-unknown c e) lit = rw (e lit) (inr (omega arith, omega arith))
-  number-of (is-full c r e) lit = rw (e lit) (inr (omega arith, omega arith))
-  number-of (is-queued c r e) lit = rw (e lit) (inl refl)
+  number-of : Queued side s b w → (lit : Answer Success) (d : ℕ) → KeyNumber (queuedNumber side s b w lit d)
+  number-of (is-unknown c e) lit d = rw (e lit d) unknown-19
+  number-of (is-met c m r e) lit d = rw (e lit d) (met-number m)
+  number-of (is-queued c r e) lit d = rw (e lit d) done-0
 
-  -- the bytes that wait and those that are dropped are the same in each
-  waits-same : Queued s b w k → (lit : Answer Success) → (queued s b w k lit .state .keyboard .waiting ≡ waitingIn k) × (queued s b w k lit .dropped ≡ k .others)
-  waits-same (is-unknown c e) lit = rw (e lit) (refl, refl)
-  waits-same (is-full c r e) lit = rw (e lit) (refl, refl)
-  waits-same (is-queued c r e) lit = rw (e lit) (refl, refl)
-
-  -- where 19 or 20 is answered, prefix and flags have moved on, and no event joins the queue
-  kept-queue : Queued s b w k → (lit : Answer Success) → 19 ≤ queuedNumber s b w k lit
-      → (queued s b w k lit .state ≡ withKeys false w (waitingIn k) s) × (queued s b w k lit .event ≡ none)
-  kept-queue (is-unknown c e) lit n = rw (e lit) (refl, refl)
-  kept-queue (is-full c r e) lit n = rw (e lit) (refl, refl)
-  kept-queue (is-queued c r e) lit n = let z : 19 ≤ 0 = rw (e lit) at n in absurd (omega arith)
+  -- where a number is answered, no event joins the queue
+  kept-queue : Queued side s b w → (lit : Answer Success) (d : ℕ) → 19 ≤ queuedNumber side s b w lit d
+      → (queued side s (keyEvent b w) lit d .state ≡ s) × (queued side s (keyEvent b w) lit d .event ≡ none)
+  kept-queue (is-unknown c e) lit d n = rw (e lit d) (refl, refl)
+  kept-queue (is-met c m r e) lit d n = rw (e lit d) (refl, refl)
+  kept-queue (is-queued c r e) lit d n = let z : 19 ≤ 0 = rw (e lit d) at n in absurd (omega arith)
 
   -- a lamp exchange is shown as it went, and changes nothing else
-  shown-same : Queued s b w k → (x y : Answer Success)
-      → queued s b w k x ≡ outcome (queued s b w k y .answer) x (queued s b w k y .state) (queued s b w k y .event) (queued s b w k y .dropped)
-  shown-same (is-unknown c e) x y = rw (e x, e y)
-  shown-same (is-full c r e) x y = rw (e x, e y)
-  shown-same (is-queued c r e) x y = rw (e x, e y)
+  shown-same : Queued side s b w → (x y : Answer Success) (d : ℕ)
+      → let o = queued side s (keyEvent b w) y d in queued side s (keyEvent b w) x d ≡ outcome (o .answer) x (o .state) (o .event) (o .dropped)
+  shown-same (is-unknown c e) x y d = rw (e x d, e y d)
+  shown-same (is-met c m r e) x y d = rw (e x d, e y d)
+  shown-same (is-queued c r e) x y d = rw (e x d, e y d)
 
-module _ (s : HandlerState) (b w : ℕ) (k : KeptBytes) where
-  pub queued-number : (lit : Answer Success) → (queuedNumber s b w k lit ≡ 0) ⊎ ((19 ≤ queuedNumber s b w k lit) × (queuedNumber s b w k lit ≤ 20))
-  queued-number = number-of (queued-way s b w k)
+module _ (side : Side) (s : HandlerState) (b w : ℕ) where
+  pub queued-number : (lit : Answer Success) (d : ℕ) → KeyNumber (queuedNumber side s b w lit d)
+  queued-number = number-of (queued-way side s b w)
 
-  pub queued-kept : (lit : Answer Success) → 19 ≤ queuedNumber s b w k lit
-      → (queued s b w k lit .state ≡ withKeys false w (waitingIn k) s) × (queued s b w k lit .event ≡ none)
-  queued-kept = kept-queue (queued-way s b w k)
+  pub queued-kept : (lit : Answer Success) (d : ℕ) → 19 ≤ queuedNumber side s b w lit d
+      → (queued side s (keyEvent b w) lit d .state ≡ s) × (queued side s (keyEvent b w) lit d .event ≡ none)
+  queued-kept = kept-queue (queued-way side s b w)
 
-  pub queued-waits : (lit : Answer Success) → (queued s b w k lit .state .keyboard .waiting ≡ waitingIn k) × (queued s b w k lit .dropped ≡ k .others)
-  queued-waits = waits-same (queued-way s b w k)
-
-  pub lamps-alone : (x y : Answer Success) → queued s b w k x ≡ outcome (queued s b w k y .answer) x (queued s b w k y .state) (queued s b w k y .event) (queued s b w k y .dropped)
-  lamps-alone = shown-same (queued-way s b w k)
+  pub lamps-alone : (x y : Answer Success) (d : ℕ)
+      → let o = queued side s (keyEvent b w) y d in queued side s (keyEvent b w) x d ≡ outcome (o .answer) x (o .state) (o .event) (o .dropped)
+  lamps-alone = shown-same (queued-way side s b w)

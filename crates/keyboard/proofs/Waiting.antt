@@ -15,12 +15,10 @@ use Rattle.keyboard_scancodes.specs.FlagsAfter.{flagsThen}
 use Rattle.keyboard_scancodes.specs.Waiting.{waitingBytes}
 use Rattle.keyboard_scancodes.proofs.Silent.{silent-lock}
 use Rattle.keyboard_scancodes.proofs.Waiting.{length-bytes, waiting-of}
-use Rattle.keyboard_record.specs.declared.HandlerState.{HandlerState}
-use Rattle.keyboard_record.proofs.WellFormed.{WellFormed}
+use Rattle.keyboard_scancodes.specs.declared.KeyboardState.{KeyboardState}
 use Rattle.keyboard.specs.Scancode.{Took, takes, caught}
-use Rattle.keyboard.specs.Handler.{effects, endOutcome}
-use Rattle.keyboard.proofs.Queued.{queued-waits}
-use Rattle.keyboard.proofs.Ways.{endOf, scanned, waitsAfter, Course, malformed, lacking, at-silent, at-key}
+use Rattle.keyboard.specs.Byte.{keyEffects, endKeyed}
+use Rattle.keyboard.proofs.Ways.{endOf, scanned, waitsAfter, Course, lacking, at-silent, at-key}
 use Rattle.keyboard.proofs.Courses.{course}
 
 -- the bytes behind the one that is taken are fewer than waited
@@ -35,37 +33,34 @@ same-took q = cc
 none-some : {b : ℕ} → _≡_ {A = Option ℕ} none (some b) → ⊥
 none-some q = let z : _≡_ {A = ℕ} 0 1 = cc in omega arith
 
-module _ {A : Type 0} (lamps : ℕ → Exchange (Answer A)) (h : HandlerState) (w : WellFormed h) (s l : List ℕ) where
+module _ {A : Type 0} (lamps : ℕ → Exchange (Answer A)) (h : KeyboardState) (few-wait : h .waiting .count ≤ keptLimit) (s l : List ℕ) where
   -- a silent byte has no lamp exchange
   none-caught : (t : Took) → isSilent (t .byte) ≡ true → waitsAfter lamps h t l ≡ t .waiting
   unfolding caught
   none-caught t q = rw (silent-lock (t .byte) q, caught) (append-nil (t .waiting))
 
-  few : (t : Took) → takes (waitingBytes (h .keyboard .waiting)) s ≡ some t → length (t .waiting) ≤ keptLimit
-  few t g = fewer (waitingBytes (h .keyboard .waiting)) s g (rw (length-bytes (h .keyboard .waiting .bytes) 0 (h .keyboard .waiting .count)) (w .waiting-in))
+  few : (t : Took) → takes (waitingBytes (h .waiting)) s ≡ some t → length (t .waiting) ≤ keptLimit
+  few t g = fewer (waitingBytes (h .waiting)) s g (rw (length-bytes (h .waiting .bytes) 0 (h .waiting .count)) few-wait)
 
   -- what is left in a counted call, whose byte is t's
   abbrev Left : Took → Type 0
   Left t =
-      (waitingBytes (endOutcome h (endOf lamps h s l) .state .keyboard .waiting) ≡ take keptLimit (waitsAfter lamps h t l))
-      × (endOutcome h (endOf lamps h s l) .dropped ≡ length (waitsAfter lamps h t l) - keptLimit)
+      (waitingBytes (endKeyed h (endOf lamps h s l) .keyboard .waiting) ≡ take keptLimit (waitsAfter lamps h t l))
+      × (endKeyed h (endOf lamps h s l) .dropped ≡ length (waitsAfter lamps h t l) - keptLimit)
 
-  by-course : Course lamps h s l → (t : Took) → takes (waitingBytes (h .keyboard .waiting)) s ≡ some t → {b : ℕ} → scanned lamps h s l ≡ some b → Left t
-  by-course (malformed x e n) t g c = absurd (none-some (sym n ∙ c))
+  by-course : Course lamps h s l → (t : Took) → takes (waitingBytes (h .waiting)) s ≡ some t → {b : ℕ} → scanned lamps h s l ≡ some b → Left t
   by-course (lacking x e n) t g c = absurd (none-some (sym n ∙ c))
   by-course (at-silent u q k e n) t g c =
       let same : u ≡ t = same-took (sym k ∙ g) in
       rw (← same, e, none-caught u q) (waiting-of (u .waiting), omega (arith, few u k))
   by-course (at-key u lit q k e n) t g c =
       let same : u ≡ t = same-took (sym k ∙ g) in
-      let all = waitsAfter lamps h u l in
-      let x = queued-waits h (u .byte) (flagsThen (h .keyboard) (u .byte)) (keptOf all) lit in
-      rw (← same, e, x .0, x .1) (waiting-of all, refl)
+      rw (← same, e) (waiting-of (waitsAfter lamps h u l), refl)
 
-module _ {A : Type 0} (lamps : ℕ → Exchange (Answer A)) (h : HandlerState) (w : WellFormed h) (script log : List ℕ) where
+module _ {A : Type 0} (lamps : ℕ → Exchange (Answer A)) (h : KeyboardState) (few-wait : h .waiting .count ≤ keptLimit) (script log : List ℕ) where
   -- "keeps the earliest of them waiting, up to 16 with the old ones, and reports how many more it dropped in this call"
-  pub waits-left : (t : Took) → takes (waitingBytes (h .keyboard .waiting)) script ≡ some t → {b : ℕ} → scanned lamps h script log ≡ some b
-      → (waitingBytes (effects lamps h script log .state .keyboard .waiting) ≡ take keptLimit (waitsAfter lamps h t log))
-      × (effects lamps h script log .dropped ≡ length (waitsAfter lamps h t log) - keptLimit)
-  unfolding effects
-  waits-left t g c = by-course lamps h w script log (course lamps h script log) t g c
+  pub waits-left : (t : Took) → takes (waitingBytes (h .waiting)) script ≡ some t → {b : ℕ} → scanned lamps h script log ≡ some b
+      → (waitingBytes (keyEffects lamps h script log .keyboard .waiting) ≡ take keptLimit (waitsAfter lamps h t log))
+      × (keyEffects lamps h script log .dropped ≡ length (waitsAfter lamps h t log) - keptLimit)
+  unfolding keyEffects
+  waits-left t g c = by-course lamps h few-wait script log (course lamps h script log) t g c

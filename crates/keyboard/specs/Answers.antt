@@ -1,11 +1,14 @@
--- What the code's answers say, by document 01's numbers.
+-- What the code's answers say, by the numbers of documents 01 and 02.
 -- Assumes nothing.
 use mathlib.Core.Bool.{Bool, true, false, _||_}
+use mathlib.Core.Option.{Option, none, some}
 use Prim.Native.Nat.{ℕ}
 use lib.Dec.{eqb}
 use Rattle.exchange.specs.Exchange.{End, yields, lacks}
 use Rattle.exchange.specs.Answer.{Answer, gives, refuses, numberEnded}
 use Rattle.ps2_answers.specs.Refusals.{Success, success, lackOf}
+use Rattle.keycodes_ascii.specs.declared.KeyEvent.{KeyEvent}
+use Rattle.keyboard.specs.declared.GivenEvent.{GivenEvent}
 use Rattle.keyboard.specs.declared.HandlerAnswer.{HandlerAnswer}
 
 -- Of a handler call: how it ended.
@@ -15,16 +18,24 @@ saidCall (HandlerAnswer.Lacking l) = lacks (lackOf l)
 saidCall HandlerAnswer.UnknownScancode = yields (refuses 19)
 saidCall HandlerAnswer.QueueFull = yields (refuses 20)
 saidCall HandlerAnswer.MalformedRecord = yields (refuses 21)
+saidCall HandlerAnswer.SideFull = yields (refuses 31)
 
 -- Of its lamp exchange, beside the answer: whether it failed.
 abbrev pub saidLamps : Bool → Answer Success
 saidLamps false = gives success
 saidLamps true = refuses 14
 
+-- Of the byte that it took: the event that it gives, if it gives one.
+abbrev pub saidGiven : GivenEvent → End (Answer (Option KeyEvent))
+saidGiven (GivenEvent.Event e) = yields (gives (some e))
+saidGiven GivenEvent.Nothing = yields (gives none)
+saidGiven GivenEvent.UnknownScancode = yields (refuses 19)
+saidGiven (GivenEvent.Lacking l) = lacks (lackOf l)
+
 -- The answers after which "records are as passed in".
 abbrev pub ends2-3-21 : End (Answer Success) → Bool
 ends2-3-21 e = eqb (numberEnded e) 2 || (eqb (numberEnded e) 3 || eqb (numberEnded e) 21)
 
--- 20, "the queue is full".
-abbrev pub ends20 : End (Answer Success) → Bool
-ends20 e = eqb (numberEnded e) 20
+-- A call that ended with this number: 20, "the queue is full"; 31, "the side has 96 waiting".
+abbrev pub endsWith : ℕ → End (Answer Success) → Bool
+endsWith n e = eqb (numberEnded e) n

@@ -1,11 +1,22 @@
--- The lamp exchange of this keyboard.
+-- The lamp exchanges of the keyboards of a table.
 -- Assumes nothing.
 use Prim.Native.Nat.{ℕ}
 use Rattle.exchange.specs.Exchange.{Exchange}
 use Rattle.exchange.specs.Answer.{Answer}
 use Rattle.ps2_answers.specs.Refusals.{Success}
-use Rattle.ps2_keyboard.specs.Keyboard.{setKeyboardLed}
+use Rattle.ps2_ports.specs.declared.DevicePort.{DevicePort}
+use Rattle.ps2_keyboard.specs.Keyboard.{setPortLed}
+use Rattle.keyboard_sides.specs.declared.Side.{Side}
 
--- "Locks run the lamp exchange": a byte of lamps is set as the keyboard's lamps are.
-abbrev pub keyboardLamps : ℕ → Exchange (Answer Success)
-keyboardLamps lamps = setKeyboardLed (record { bits = lamps })
+-- "The second is on port 2."
+abbrev pub portOf : Side → DevicePort
+portOf Side.First = DevicePort.Port1
+portOf Side.Second = DevicePort.Port2
+
+-- A byte of lamps, sent to the keyboard on a port.
+abbrev pub portLamps : DevicePort → ℕ → Exchange (Answer Success)
+portLamps port lamps = setPortLed port (record { bits = lamps })
+
+-- "Locks run the lamp exchange"; the second side's "lamp bytes sent after D4 as mouse commands are".
+abbrev pub keyboardLamps : Side → ℕ → Exchange (Answer Success)
+keyboardLamps side = portLamps (portOf side)

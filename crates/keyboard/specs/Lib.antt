@@ -1,6 +1,8 @@
 -- What a handler call means, and what the code's answers say.
-pub mod Answers
+pub mod Scancode
+pub mod Byte
 pub mod Handler
 pub mod KeyboardLamps
+pub mod Answers
 pub mod Outcomes
-pub mod Scancode
+pub mod OtherSide

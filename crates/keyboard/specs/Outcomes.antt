@@ -1,4 +1,4 @@
--- What the code gives back, as the definitions have it, and the part of a call that has its flags.
+-- What the code gives back, as the definitions have it, and the parts of a call that code has of its own.
 -- Assumes nothing.
 use mathlib.Core.List.{List, [], _++_}
 use mathlib.Core.Option.{Option, none, some}
@@ -12,12 +12,33 @@ use Rattle.ps2_kept.specs.declared.KeptBytes.{KeptBytes}
 use Rattle.ps2_kept.specs.Thrown.{thrown}
 use Rattle.ps2_kept.specs.Kept.{keptLimit, keptOf}
 use Rattle.keycodes_ascii.specs.declared.KeyEvent.{KeyEvent}
-use Rattle.keyboard_record.specs.declared.HandlerState.{HandlerState}
+use Rattle.keyboard_scancodes.specs.declared.KeyboardState.{KeyboardState}
 use Rattle.keyboard.specs.declared.Effect.{Effect}
 use Rattle.keyboard.specs.declared.Handled.{Handled}
+use Rattle.keyboard.specs.declared.KeyEffect.{KeyEffect}
 use Rattle.keyboard.specs.declared.NewEvent.{NewEvent}
-use Rattle.keyboard.specs.Answers.{saidCall, saidLamps}
-use Rattle.keyboard.specs.Handler.{Outcome, Effects, Called, effectsBy, queued, lampExchange}
+use Rattle.keyboard.specs.Answers.{saidCall, saidLamps, saidGiven}
+use Rattle.keyboard.specs.Byte.{Keyed, afterLamps, KeyEffects, keyEffectsBy, lampExchange}
+use Rattle.keyboard.specs.Handler.{Effects, Called}
+
+-- What a call gives back for its keyboard.
+abbrev pub saidKeyEffect : KeyEffect → KeyEffects
+saidKeyEffect x =
+    record { end = saidGiven (x .given); lamps = saidLamps (x .«lamps_failed»); used = x .used; pairs = x .pairs; keyboard = x .keyboard; dropped = x .dropped }
+
+-- An outcome with the script bytes used and the pairs written.
+abbrev pub keyEffectsOf : Keyed → ℕ → ℕ → KeyEffects
+keyEffectsOf o used pairs = record { end = yields (o .given); lamps = o .lamps; used = used; pairs = pairs; keyboard = o .keyboard; dropped = o .dropped }
+
+-- What is left of a call at the byte of a key, with the flags just after it: the lamp exchange, then the event.
+abbrev pub onKey : {A : Type 0} → (ℕ → Exchange (Answer A)) → List ℕ → ℕ → ℕ → Exchange Keyed
+onKey lamps waiting b flags =
+    bind (keeping thrown [] (lampExchange lamps b flags)) (λ lit. done (afterLamps b flags (keptOf (waiting ++ lit .bytes)) (lit .value)))
+
+-- What a call gives back, and the log that it leaves, are those of the operation's play: for every list of at most 16 bytes that wait, where these are the kept bytes.
+pub record PlaysOn (k : KeyboardState) (kept : KeptBytes) (t : List ℕ → Exchange Keyed) (script log : List ℕ) (x : KeyEffects) (log-left : List ℕ) : Type 0 where
+  pub at : (waiting : List ℕ) → kept ≡ keptOf waiting → length waiting ≤ keptLimit
+      → (x ≡ keyEffectsBy k (play (t waiting) script log)) × (log-left ≡ play (t waiting) script log .log)
 
 -- The event that joins the queue, if one does.
 abbrev pub saidEvent : NewEvent → Option KeyEvent
@@ -47,18 +68,3 @@ saidHandled x =
       handler = x .handler;
       dropped = x .dropped;
     }
-
--- An outcome with the script bytes used and the pairs written.
-abbrev pub effectsOf : Outcome → ℕ → ℕ → Effects
-effectsOf o used pairs =
-    record { end = yields (o .answer); lamps = o .lamps; used = used; pairs = pairs; state = o .state; event = o .event; dropped = o .dropped }
-
--- What is left of a call at the byte of a key, with the flags just after it: the lamp exchange, then the event.
-abbrev pub onKey : {A : Type 0} → (ℕ → Exchange (Answer A)) → HandlerState → List ℕ → ℕ → ℕ → Exchange Outcome
-onKey lamps s waiting b flags =
-    bind (keeping thrown [] (lampExchange lamps b flags)) (λ lit. done (queued s b flags (keptOf (waiting ++ lit .bytes)) (lit .value)))
-
--- What a call gives back, and the log that it leaves, are those of the operation's play: for every list of at most 16 bytes that wait, where these are the kept bytes.
-pub record PlaysOn (s : HandlerState) (kept : KeptBytes) (t : List ℕ → Exchange Outcome) (script log : List ℕ) (x : Effects) (log-left : List ℕ) : Type 0 where
-  pub at : (waiting : List ℕ) → kept ≡ keptOf waiting → length waiting ≤ keptLimit
-      → (x ≡ effectsBy s (play (t waiting) script log)) × (log-left ≡ play (t waiting) script log .log)

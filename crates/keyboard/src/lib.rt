@@ -1,21 +1,24 @@
-// The handler call: Theseus's `keyboard`.
+// The handler call, for either side of a table: Theseus's `keyboard`.
 ghost use mathlib.Core.Bool.{true};
 ghost use mathlib.Core.Path.{_≡_};
-ghost use Rattle.exchange.specs.Answer.{numberEnded};
 ghost use Prim.Native.Nat.{_-_, _≤_};
+ghost use Rattle.exchange.specs.Exchange.{play};
 ghost use Rattle.ps2_kept.specs.Kept.{keptLimit, keptOf};
 ghost use Rattle.keyboard_scancodes.specs.Strokes.{lowPart};
 ghost use Rattle.keyboard_scancodes.specs.FlagTable.{isLockPress};
 ghost use Rattle.keyboard_scancodes.specs.Events.{keycodeAt, eventOf};
 ghost use Rattle.keyboard_scancodes.specs.Waiting.{bytesFrom};
+ghost use Rattle.keyboard.specs.Byte.{afterLamps, onByte, keyCall, keyEffects};
+ghost use Rattle.exchange.specs.Answer.{numberEnded};
 ghost use Rattle.keyboard.specs.Answers.{saidCall, saidLamps};
-ghost use Rattle.keyboard.specs.KeyboardLamps.{keyboardLamps};
-ghost use Rattle.keyboard.specs.Handler.{queued, onByte, effects, logLeft, handled};
-ghost use Rattle.keyboard.specs.Outcomes.{saidEffect, saidHandled, effectsOf, onKey, PlaysOn};
+ghost use Rattle.keyboard.specs.KeyboardLamps.{portOf, portLamps, keyboardLamps};
+ghost use Rattle.keyboard.specs.Handler.{effects, logLeft, handled};
+ghost use Rattle.keyboard.specs.Outcomes.{saidKeyEffect, saidEffect, saidHandled, keyEffectsOf, onKey, PlaysOn};
 use keyboard_modifiers::KeyboardModifiers;
 use keyboard_record::HandlerState;
 use keyboard_record::KeyboardHandler;
 use keyboard_record::QUEUE_LENGTH;
+use keyboard_record::Room;
 use keyboard_scancodes::KeyboardState;
 use keyboard_scancodes::WaitingBytes;
 use keyboard_scancodes::is_lock_press;
@@ -23,6 +26,7 @@ use keyboard_scancodes::is_prefix;
 use keyboard_scancodes::is_silent;
 use keyboard_scancodes::leds;
 use keyboard_scancodes::modifiers_after;
+use keyboard_sides::Side;
 use keycodes_ascii::FoundKeycode;
 use keycodes_ascii::KEY_RELEASED_OFFSET;
 use keycodes_ascii::KeyAction;
@@ -37,30 +41,35 @@ use ps2_kept::KeptBytes;
 use ps2_kept::add_byte;
 use ps2_kept::none_kept;
 use ps2_keyboard::read_scancode;
-use ps2_keyboard::set_keyboard_led_onto;
+use ps2_keyboard::set_port_led_onto;
+use ps2_ports::DevicePort;
 
-// How a handler call ends: done, for lack of a byte or room, or with the refusal that document 01 numbers 19, 20 or 21.
+// How a handler call ends: done, for lack of a byte or room, or with the refusal that document 01 numbers 19, 20 or 21, or document 02 numbers 31.
 pub enum HandlerAnswer {
     Done,
     Lacking(Lack),
     UnknownScancode,
     QueueFull,
     MalformedRecord,
+    SideFull,
 }
 
-impl HandlerAnswer {
-    // The number that document 01 gives to a refusal, and 0 where there is none.
-    pub fn number(self) -> u8
-        ensures { λ r. ⌜ r ≡ numberEnded (saidCall self) ⌝ }
-    {
-        match self {
-            HandlerAnswer::Done => 0,
-            HandlerAnswer::Lacking(lack) => lack.number(),
-            HandlerAnswer::UnknownScancode => 19,
-            HandlerAnswer::QueueFull => 20,
-            HandlerAnswer::MalformedRecord => 21,
-        }
-    }
+// What a byte gives: an event, nothing, the refusal that document 01 numbers 19, or nothing for lack of a byte or room.
+enum GivenEvent {
+    Event(KeyEvent),
+    Nothing,
+    UnknownScancode,
+    Lacking(Lack),
+}
+
+// What a call gives back for its keyboard. A lamp exchange that failed, document 01's 14, is shown beside the answer, and so is the number of the bytes that it threw away and that found no place to wait.
+struct KeyEffect {
+    given: GivenEvent,
+    lamps_failed: bool,
+    used: usize,
+    pairs: usize,
+    keyboard: KeyboardState,
+    dropped: u32,
 }
 
 // What a handler call gives back. A lamp exchange that failed, document 01's 14, is shown beside the answer, and so is the number of the bytes that it threw away and that found no place to wait.
@@ -88,6 +97,22 @@ pub struct Effect {
     pub state: HandlerState,
     pub event: NewEvent,
     pub dropped: u32,
+}
+
+impl HandlerAnswer {
+    // The number that documents 01 and 02 give to a refusal, and 0 where there is none.
+    pub fn number(self) -> u8
+        ensures { λ r. ⌜ r ≡ numberEnded (saidCall self) ⌝ }
+    {
+        match self {
+            HandlerAnswer::Done => 0,
+            HandlerAnswer::Lacking(lack) => lack.number(),
+            HandlerAnswer::UnknownScancode => 19,
+            HandlerAnswer::QueueFull => 20,
+            HandlerAnswer::MalformedRecord => 21,
+            HandlerAnswer::SideFull => 31,
+        }
+    }
 }
 
 // The event of a scancode whose low part is this keycode's number.
@@ -123,17 +148,16 @@ fn behind_oldest(waiting: WaitingBytes) -> KeptBytes
     kept
 }
 
-// What follows a scancode's lamp exchange, which used and wrote this much, with the bytes that come to wait: its event is queued, where it has one and there is room.
-fn queue_event(
-    state: HandlerState,
+// What follows a scancode's lamp exchange, which used and wrote this much, with the bytes that come to wait.
+fn after_lamps(
     kept: KeptBytes,
     scan_code: u8,
     modifiers: KeyboardModifiers,
     lamps_failed: bool,
     used: usize,
     pairs: usize,
-) -> Effect
-    ensures { λ r. ⌜ saidEffect r ≡ effectsOf (queued state «scan_code» (modifiers .bits) kept (saidLamps «lamps_failed»)) used pairs ⌝ }
+) -> KeyEffect
+    ensures { λ r. ⌜ saidKeyEffect r ≡ keyEffectsOf (afterLamps «scan_code» (modifiers .bits) kept (saidLamps «lamps_failed»)) used pairs ⌝ }
 {
     let keyboard = KeyboardState {
         prefix: false,
@@ -141,137 +165,151 @@ fn queue_event(
         waiting: WaitingBytes::from_kept(kept),
     };
     let dropped = kept.others;
-    let start = state.start;
-    let count = state.count;
     match Keycode::from_byte(scan_code & 0x7F) {
         FoundKeycode::Found(keycode) => {
-            if QUEUE_LENGTH <= count {
-                return Effect {
-                    answer: HandlerAnswer::QueueFull,
-                    lamps_failed,
-                    used,
-                    pairs,
-                    state: HandlerState {
-                        keyboard,
-                        start,
-                        count,
-                    },
-                    event: NewEvent::Nothing,
-                    dropped,
-                };
-            }
             let event = event_of(keycode, scan_code, modifiers);
-            Effect {
-                answer: HandlerAnswer::Done,
+            KeyEffect {
+                given: GivenEvent::Event(event),
                 lamps_failed,
                 used,
                 pairs,
-                state: HandlerState {
-                    keyboard,
-                    start,
-                    count: count + 1,
-                },
-                event: NewEvent::Event(event),
+                keyboard,
                 dropped,
             }
         }
-        FoundKeycode::Unknown => Effect {
-            answer: HandlerAnswer::UnknownScancode,
+        FoundKeycode::Unknown => KeyEffect {
+            given: GivenEvent::UnknownScancode,
             lamps_failed,
             used,
             pairs,
-            state: HandlerState {
-                keyboard,
-                start,
-                count,
-            },
-            event: NewEvent::Nothing,
+            keyboard,
             dropped,
         },
     }
 }
 
-// The press of a lock, with the flags just after it: the lamps are set, then the event is queued whether they could be or not. What the lamp exchange throws away waits behind the bytes that wait already.
+// The press of a lock, with the flags just after it: the lamps are set, and its event is given whether they could be or not. What the lamp exchange throws away waits behind the bytes that wait already.
 fn lock_pressed(
-    state: HandlerState,
+    port: DevicePort,
+    keyboard: KeyboardState,
     kept: KeptBytes,
     scan_code: u8,
     modifiers: KeyboardModifiers,
     script: &[u8],
     log: &mut [u8],
-) -> Effect
+) -> KeyEffect
     requires { ⌜ isLockPress «scan_code» ≡ true ⌝ }
-    ensures { λ r. ⌜ PlaysOn state kept (λ waiting. onKey keyboardLamps state waiting «scan_code» (modifiers .bits)) (now (script .entry)) (now (log .entry)) (saidEffect r) (now (log .exit)) ⌝ }
+    ensures { λ r. ⌜ PlaysOn keyboard kept (λ waiting. onKey (portLamps port) waiting «scan_code» (modifiers .bits)) (now (script .entry)) (now (log .entry)) (saidKeyEffect r) (now (log .exit)) ⌝ }
 {
-    let lit = set_keyboard_led_onto(script, log, leds(modifiers), kept);
+    let lit = set_port_led_onto(script, log, port, leds(modifiers), kept);
     let used = lit.used;
     let pairs = lit.pairs;
     let waiting = lit.kept;
     let answer = lit.answer;
     match answer {
-        Completion::Done => queue_event(state, waiting, scan_code, modifiers, false, used, pairs),
+        Completion::Done => after_lamps(waiting, scan_code, modifiers, false, used, pairs),
         Completion::Refused(e) => match e {
-            Refusal::Lacking(lack) => Effect {
-                answer: HandlerAnswer::Lacking(lack),
+            Refusal::Lacking(lack) => KeyEffect {
+                given: GivenEvent::Lacking(lack),
                 lamps_failed: false,
                 used,
                 pairs,
-                state,
-                event: NewEvent::Nothing,
+                keyboard,
                 dropped: 0,
             },
-            Refusal::Failed(_) => {
-                queue_event(state, waiting, scan_code, modifiers, true, used, pairs)
-            }
+            Refusal::Failed(_) => after_lamps(waiting, scan_code, modifiers, true, used, pairs),
         },
     }
 }
 
 // A scancode that was taken, with the bytes that still wait.
 fn on_byte(
-    state: HandlerState,
+    port: DevicePort,
+    keyboard: KeyboardState,
     kept: KeptBytes,
     scan_code: u8,
     script: &[u8],
     log: &mut [u8],
-) -> Effect
-    ensures { λ r. ⌜ PlaysOn state kept (λ waiting. onByte keyboardLamps state waiting «scan_code») (now (script .entry)) (now (log .entry)) (saidEffect r) (now (log .exit)) ⌝ }
+) -> KeyEffect
+    ensures { λ r. ⌜ PlaysOn keyboard kept (λ waiting. onByte (portLamps port) keyboard waiting «scan_code») (now (script .entry)) (now (log .entry)) (saidKeyEffect r) (now (log .exit)) ⌝ }
 {
-    let keyboard = state.keyboard;
     if is_silent(scan_code) {
         let modifiers = keyboard.modifiers;
         let prefix = is_prefix(scan_code);
         let waiting = WaitingBytes::from_kept(kept);
-        return Effect {
-            answer: HandlerAnswer::Done,
+        return KeyEffect {
+            given: GivenEvent::Nothing,
             lamps_failed: false,
             used: 0,
             pairs: 0,
-            state: HandlerState {
-                keyboard: KeyboardState {
-                    prefix,
-                    modifiers,
-                    waiting,
-                },
-                start: state.start,
-                count: state.count,
+            keyboard: KeyboardState {
+                prefix,
+                modifiers,
+                waiting,
             },
-            event: NewEvent::Nothing,
             dropped: 0,
         };
     }
     let modifiers = modifiers_after(keyboard, scan_code);
     if is_lock_press(scan_code) {
-        return lock_pressed(state, kept, scan_code, modifiers, script, log);
+        return lock_pressed(port, keyboard, kept, scan_code, modifiers, script, log);
     }
-    queue_event(state, kept, scan_code, modifiers, false, 0, 0)
+    after_lamps(kept, scan_code, modifiers, false, 0, 0)
 }
 
-// A handler call but for the places: 21 is asked, then one scancode is taken and handled. It is the oldest byte that waits; where none waits, one is read without asking the status.
-pub fn effect_of(state: HandlerState, script: &[u8], log: &mut [u8]) -> Effect
-    ensures { λ r. ⌜ (saidEffect r ≡ effects keyboardLamps state (now (script .entry)) (now (log .entry))) × (now (log .exit) ≡ logLeft keyboardLamps state (now (script .entry)) (now (log .entry))) ⌝ }
+// A keyboard's part of a handler call: one scancode is taken and followed. It is the oldest byte that waits; where none waits, one is read without asking the status.
+fn key_call(port: DevicePort, keyboard: KeyboardState, script: &[u8], log: &mut [u8]) -> KeyEffect
+    requires { ⌜ keyboard .waiting .count ≤ keptLimit ⌝ }
+    ensures { λ r. ⌜ (saidKeyEffect r ≡ keyEffects (portLamps port) keyboard (now (script .entry)) (now (log .entry))) × (now (log .exit) ≡ play (keyCall (portLamps port) keyboard) (now (script .entry)) (now (log .entry)) .log) ⌝ }
 {
-    if !state.well_formed() {
+    let waiting = keyboard.waiting;
+    if waiting.count != 0 {
+        let oldest = waiting.bytes[0];
+        return on_byte(port, keyboard, behind_oldest(waiting), oldest, script, log);
+    }
+    let read = read_scancode(script);
+    let used = read.used;
+    let answer = read.answer;
+    match answer {
+        ByteAnswer::Byte(scan_code) => {
+            let after = on_byte(port, keyboard, none_kept(), scan_code, &script[used..], log);
+            let given = after.given;
+            let left = after.keyboard;
+            KeyEffect {
+                given,
+                lamps_failed: after.lamps_failed,
+                used: used + after.used,
+                pairs: after.pairs,
+                keyboard: left,
+                dropped: after.dropped,
+            }
+        }
+        ByteAnswer::Refused(_) => KeyEffect {
+            given: GivenEvent::Lacking(Lack::Script(ReadPort::Data)),
+            lamps_failed: false,
+            used,
+            pairs: 0,
+            keyboard,
+            dropped: 0,
+        },
+    }
+}
+
+// The port of a side's keyboard.
+fn port_of(side: Side) -> DevicePort
+    ensures { λ r. ⌜ r ≡ portOf side ⌝ }
+{
+    match side {
+        Side::First => DevicePort::Port1,
+        Side::Second => DevicePort::Port2,
+    }
+}
+
+// A handler call for a side but for the places: 21 is asked, then one scancode of its keyboard is taken and followed, and its event is queued where there is room.
+pub fn effect_of(state: HandlerState, side: Side, script: &[u8], log: &mut [u8]) -> Effect
+    ensures { λ r. ⌜ (saidEffect r ≡ effects keyboardLamps side state (now (script .entry)) (now (log .entry))) × (now (log .exit) ≡ logLeft keyboardLamps side state (now (script .entry)) (now (log .entry))) ⌝ }
+{
+    if !state.call_formed(side) {
         return Effect {
             answer: HandlerAnswer::MalformedRecord,
             lamps_failed: false,
@@ -282,51 +320,88 @@ pub fn effect_of(state: HandlerState, script: &[u8], log: &mut [u8]) -> Effect
             dropped: 0,
         };
     }
-    let waiting = state.keyboard.waiting;
-    if waiting.count != 0 {
-        let oldest = waiting.bytes[0];
-        return on_byte(state, behind_oldest(waiting), oldest, script, log);
-    }
-    let read = read_scancode(script);
-    let used = read.used;
-    let answer = read.answer;
-    match answer {
-        ByteAnswer::Byte(scan_code) => {
-            let after = on_byte(state, none_kept(), scan_code, &script[used..], log);
-            let answer = after.answer;
-            let left = after.state;
-            let event = after.event;
-            Effect {
-                answer,
-                lamps_failed: after.lamps_failed,
-                used: used + after.used,
-                pairs: after.pairs,
-                state: left,
-                event,
-                dropped: after.dropped,
+    let key = key_call(port_of(side), state.keyboard_at(side), script, log);
+    let lamps_failed = key.lamps_failed;
+    let used = key.used;
+    let pairs = key.pairs;
+    let keyboard = key.keyboard;
+    let dropped = key.dropped;
+    let given = key.given;
+    let left = state.with_keyboard(side, keyboard);
+    match given {
+        GivenEvent::Event(event) => {
+            let joined = left.join(side);
+            let state = joined.state;
+            let room = joined.room;
+            match room {
+                Room::Free => Effect {
+                    answer: HandlerAnswer::Done,
+                    lamps_failed,
+                    used,
+                    pairs,
+                    state,
+                    event: NewEvent::Event(event),
+                    dropped,
+                },
+                Room::SideFull => Effect {
+                    answer: HandlerAnswer::SideFull,
+                    lamps_failed,
+                    used,
+                    pairs,
+                    state,
+                    event: NewEvent::Nothing,
+                    dropped,
+                },
+                Room::QueueFull => Effect {
+                    answer: HandlerAnswer::QueueFull,
+                    lamps_failed,
+                    used,
+                    pairs,
+                    state,
+                    event: NewEvent::Nothing,
+                    dropped,
+                },
             }
         }
-        ByteAnswer::Refused(_) => Effect {
-            answer: HandlerAnswer::Lacking(Lack::Script(ReadPort::Data)),
-            lamps_failed: false,
+        GivenEvent::Nothing => Effect {
+            answer: HandlerAnswer::Done,
+            lamps_failed,
             used,
-            pairs: 0,
-            state,
+            pairs,
+            state: left,
             event: NewEvent::Nothing,
-            dropped: 0,
+            dropped,
+        },
+        GivenEvent::UnknownScancode => Effect {
+            answer: HandlerAnswer::UnknownScancode,
+            lamps_failed,
+            used,
+            pairs,
+            state: left,
+            event: NewEvent::Nothing,
+            dropped,
+        },
+        GivenEvent::Lacking(lack) => Effect {
+            answer: HandlerAnswer::Lacking(lack),
+            lamps_failed,
+            used,
+            pairs,
+            state: left,
+            event: NewEvent::Nothing,
+            dropped,
         },
     }
 }
 
-// A handler call.
-pub fn handle(handler: KeyboardHandler, script: &[u8], log: &mut [u8]) -> Handled
-    ensures { λ r. ⌜ (saidHandled r ≡ handled keyboardLamps handler (now (script .entry)) (now (log .entry))) × (now (log .exit) ≡ logLeft keyboardLamps (handler .state) (now (script .entry)) (now (log .entry))) ⌝ }
+// A handler call for a side.
+pub fn handle(handler: KeyboardHandler, side: Side, script: &[u8], log: &mut [u8]) -> Handled
+    ensures { λ r. ⌜ (saidHandled r ≡ handled keyboardLamps side handler (now (script .entry)) (now (log .entry))) × (now (log .exit) ≡ logLeft keyboardLamps side (handler .state) (now (script .entry)) (now (log .entry))) ⌝ }
 {
     let before = handler.state;
     let start = before.start;
     let count = before.count;
     let mut places = handler.places;
-    let effect = effect_of(before, script, log);
+    let effect = effect_of(before, side, script, log);
     let answer = effect.answer;
     let state = effect.state;
     let new = effect.event;

@@ -12,7 +12,7 @@ use Rattle.keyboard.proofs.handle.Tie as tie
 well : (c : tie.After-known-told) → WellFormed (c .before .before .before .before .before .before .before .before .before .before .before .before .args .handler .state)
 well c =
     let x = c .before .before .before .before .before .before .effect-of in
-    queued-well keyboardLamps _ _ _ (x .result) (c .before .new .given .1) (x .ensures .0)
+    queued-well keyboardLamps _ _ _ _ (x .result) (c .before .new .given .1) (x .ensures .0)
 
 add-place : tie.Need-add-place
 add-place c = omega (arith, well c .start-in, well c .count-in)
@@ -20,12 +20,12 @@ add-place c = omega (arith, well c .start-in, well c .count-in)
 returns : tie.Need-returns
 returns c =
     let x = c .before .before .before .before .before .before .effect-of in
-    (called-with keyboardLamps _ _ _ (x .result) (c .before .new .given .1) (x .ensures .0), x .ensures .1)
+    (called-with keyboardLamps _ _ _ _ (x .result) (c .before .new .given .1) (x .ensures .0), x .ensures .1)
 
 returns-2 : tie.Need-returns-2
 returns-2 c =
     let x = c .before .before .before .before .before .effect-of in
-    (called-with keyboardLamps _ _ _ (x .result) (c .enum-told .given .1) (x .ensures .0), x .ensures .1)
+    (called-with keyboardLamps _ _ _ _ (x .result) (c .enum-told .given .1) (x .ensures .0), x .ensures .1)
 
 pub handle-spec : {M : Type 1} → statement M
 handle-spec =

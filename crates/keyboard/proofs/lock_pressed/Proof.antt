@@ -4,7 +4,7 @@ use borrow.Author.Needs.{needs}
 use native.Mathlib.Omega.{arith}
 use mathlib.Core.Path.{refl, ap, _∙_}
 use Rattle.ps2_answers.specs.Refusals.{refused, saidDone}
-use Rattle.keyboard.specs.KeyboardLamps.{keyboardLamps}
+use Rattle.keyboard.specs.KeyboardLamps.{portLamps}
 use Rattle.keyboard.proofs.Bounds.{lamps-within}
 use Rattle.keyboard.proofs.Outcomes.{gives-back, lamps-answer, lamps-lack}
 use Rattle.keyboard.proofs.lock_pressed.Statement.{statement}
@@ -18,11 +18,11 @@ returns c =
     let a = x .args in
     record {
       at = λ rest is few.
-          gives-back (a .state) _ _ _
-          (lamps-answer keyboardLamps (a .state) (a .scan-code) (a .modifiers .bits) rest _ _ (x .pre) (w .before .leds .ensures)
-          (lamps-within _) (omega (arith, few)) is (w .set-keyboard-led-onto .ensures)
+          gives-back (a .keyboard) _ _ _
+          (lamps-answer (portLamps (a .port)) (a .keyboard) (a .scan-code) (a .modifiers .bits) rest _ _ (x .pre) (w .before .leds .ensures)
+          (lamps-within (a .port) _) (omega (arith, few)) is (w .set-port-led-onto .ensures)
           (ap saidDone (m .enum-told .given .1)))
-          (c .queue-event .ensures);
+          (c .after-lamps .ensures);
     }
 
 returns-2 : tie.Need-returns-2
@@ -34,9 +34,9 @@ returns-2 c =
     let a = x .args in
     record {
       at = λ rest is few.
-          gives-back (a .state) _ _ _
-          (lamps-lack keyboardLamps (a .state) (a .scan-code) (a .modifiers .bits) rest _ _ (x .pre) (w .before .leds .ensures)
-          (lamps-within _) (omega (arith, few)) is (w .set-keyboard-led-onto .ensures)
+          gives-back (a .keyboard) _ _ _
+          (lamps-lack (portLamps (a .port)) (a .keyboard) (a .scan-code) (a .modifiers .bits) rest _ _ (x .pre) (w .before .leds .ensures)
+          (lamps-within (a .port) _) (omega (arith, few)) is (w .set-port-led-onto .ensures)
           (ap saidDone (m .answer .given .1) ∙ ap refused (f .e .given .1)))
           refl;
     }
@@ -50,11 +50,11 @@ returns-3 c =
     let a = x .args in
     record {
       at = λ rest is few.
-          gives-back (a .state) _ _ _
-          (lamps-answer keyboardLamps (a .state) (a .scan-code) (a .modifiers .bits) rest _ _ (x .pre) (w .before .leds .ensures)
-          (lamps-within _) (omega (arith, few)) is (w .set-keyboard-led-onto .ensures)
+          gives-back (a .keyboard) _ _ _
+          (lamps-answer (portLamps (a .port)) (a .keyboard) (a .scan-code) (a .modifiers .bits) rest _ _ (x .pre) (w .before .leds .ensures)
+          (lamps-within (a .port) _) (omega (arith, few)) is (w .set-port-led-onto .ensures)
           (ap saidDone (m .answer .given .1) ∙ ap refused (f .enum-told2 .given .1)))
-          (c .queue-event2 .ensures);
+          (c .after-lamps2 .ensures);
     }
 
 pub lock-pressed-spec : {M : Type 1} → statement M

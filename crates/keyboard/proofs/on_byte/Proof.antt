@@ -2,7 +2,7 @@
 -- Assumes nothing.
 use borrow.Author.Needs.{needs}
 use mathlib.Core.Path.{refl, sym, _∙_}
-use Rattle.keyboard.specs.KeyboardLamps.{keyboardLamps}
+use Rattle.keyboard.specs.KeyboardLamps.{portLamps}
 use Rattle.keyboard.proofs.Outcomes.{gives-back, silent-byte, key-byte, no-lamps}
 use Rattle.keyboard.proofs.on_byte.Statement.{statement}
 use Rattle.keyboard.proofs.on_byte.Tie as tie
@@ -12,11 +12,11 @@ returns c =
     let p = c .before in
     let t = p .before .before in
     let i = t .before in
-    let a = i .before .before .before .before .args in
+    let a = i .before .before .before .args in
     rw (c .from-kept .ensures, p .is-prefix .ensures)
     (record {
       at = λ rest is few.
-          gives-back (a .state) _ _ _ (silent-byte keyboardLamps (a .state) (a .scan-code) rest _ _ is (sym (i .is-silent .ensures) ∙ t .if1 .taken)) refl;
+          gives-back (a .keyboard) _ _ _ (silent-byte (portLamps (a .port)) (a .keyboard) (a .scan-code) rest _ _ is (sym (i .is-silent .ensures) ∙ t .if1 .taken)) refl;
     })
 
 lock-pressed-requires : tie.Need-lock-pressed-requires
@@ -31,10 +31,10 @@ returns-2 c =
     let n = p .before .before .before .before in
     let t = n .before in
     let i = t .before in
-    let a = i .before .before .before .before .args in
+    let a = i .before .before .before .args in
     record {
       at = λ rest is few.
-          rw (← key-byte keyboardLamps (a .state) (a .scan-code) rest (n .modifiers-after .ensures) (sym (i .is-silent .ensures) ∙ t .if1 .left))
+          rw (← key-byte (portLamps (a .port)) (a .keyboard) (a .scan-code) rest (n .modifiers-after .ensures) (sym (i .is-silent .ensures) ∙ t .if1 .left))
           (p .lock-pressed .ensures .at rest is few);
     }
 
@@ -45,13 +45,13 @@ returns-3 c =
     let n = k .before in
     let t = n .before in
     let i = t .before in
-    let a = i .before .before .before .before .args in
+    let a = i .before .before .before .args in
     record {
       at = λ rest is few.
-          rw (← key-byte keyboardLamps (a .state) (a .scan-code) rest (n .modifiers-after .ensures) (sym (i .is-silent .ensures) ∙ t .if1 .left))
-          (gives-back (a .state) _ _ _
-          (no-lamps keyboardLamps (a .state) (a .scan-code) (n .modifiers-after .result .bits) rest _ _ is (sym (k .is-lock-press .ensures) ∙ f .if2 .left))
-          (c .queue-event .ensures));
+          rw (← key-byte (portLamps (a .port)) (a .keyboard) (a .scan-code) rest (n .modifiers-after .ensures) (sym (i .is-silent .ensures) ∙ t .if1 .left))
+          (gives-back (a .keyboard) _ _ _
+          (no-lamps (portLamps (a .port)) (a .keyboard) (a .scan-code) (n .modifiers-after .result .bits) rest _ _ is (sym (k .is-lock-press .ensures) ∙ f .if2 .left))
+          (c .after-lamps .ensures));
     }
 
 pub on-byte-spec : {M : Type 1} → statement M
