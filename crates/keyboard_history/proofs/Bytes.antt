@@ -1,6 +1,6 @@
 -- Every scancode that a list of calls counts, and every one that waits after it, is a byte of its scripts.
 -- Assumes nothing.
-use mathlib.Core.Bool.{Bool, true, false, not, cond}
+use mathlib.Core.Bool.{Bool, true, false, not, cond, _&&_}
 use mathlib.Core.List.{List, [], _∷_, _++_}
 use mathlib.Core.Option.{Option, none, some}
 use Prim.Native.Nat.{ℕ, zero, suc, _<_}
@@ -12,10 +12,14 @@ use Rattle.exchange.specs.Keeping.{keeping}
 use Rattle.ps2_kept.specs.Thrown.{unlisted, thrown}
 use Rattle.keyboard_scancodes.specs.FlagTable.{isLockPress}
 use Rattle.keyboard_scancodes.specs.Lamps.{lampsLit}
+use Rattle.keyboard_sides.specs.declared.Side.{Side}
+use Rattle.keyboard_sides.specs.Sides.{sameSide}
+use Rattle.keyboard_record.specs.declared.Keyboards.{Keyboards}
+use Rattle.keyboard_record.specs.Record.{atTable}
 use Rattle.keyboard.specs.Scancode.{Took, took, takes, thrownAt, lampsRanOut, caught, scancode}
 use Rattle.keyboard_history.specs.Past.{Past, _▸_}
 use Rattle.keyboard_history.specs.Said.{flagsSaid}
-use Rattle.keyboard_history.specs.Counted.{Call, count, behind, room, scancodeAfter, thrownBy, thrownAfter, behindAfter, joinedAfter, waitingAfter, counted, waits}
+use Rattle.keyboard_history.specs.Counted.{Call, Lent, lent, ownCall, own, count, behind, room, scancodeAfter, thrownBy, thrownAfter, behindAfter, joinedAfter, waitingAfter, counted, waits, countedOf, waitsOf}
 use Rattle.keyboard_history.specs.Bytes.{AllBytes, no-bytes, one-more, ByteCalls, no-calls, one-handling, one-taking}
 
 -- ---- lists of bytes
@@ -88,14 +92,28 @@ module _ {A : Type 0} (lamps : ℕ → Exchange (Answer A)) where
         bytes-append (behind sc ws) (joinedAfter lamps bytes ws s l) (bytes-behind sc ws hw)
         (bytes-take (room (behind sc ws)) (thrownAfter lamps bytes ws s l) (by-took ws s hs))
 
-  -- ---- so do all calls of a list
+  -- ---- so do all calls of a keyboard
 
-  pub counted-bytes : {calls : Past Call} → ByteCalls calls → AllBytes (counted lamps calls) × Bytes (waits lamps calls)
+  abbrev BytesOf : Past Lent → Type 0
+  BytesOf calls = AllBytes (counted lamps calls) × Bytes (waits lamps calls)
+
+  one-bytes : (past : Past Lent) (x : Lent) → BytesOf past → Bytes (x .script) → BytesOf (past ▸ x)
   unfolding counted waits
-  counted-bytes no-calls = (no-bytes, tt)
-  counted-bytes (one-handling {past = past} {script = s} {log = l} all h) =
-      let r = counted-bytes all in (
-        scanned-bytes (counted lamps past) l (waits lamps past) s (r .0) (r .1) (bytes-script s h),
-        waited-bytes (counted lamps past) l (waits lamps past) s (r .1) (bytes-script s h),
-      )
-  counted-bytes (one-taking all) = counted-bytes all
+  one-bytes past x r h = (
+    scanned-bytes (counted lamps past) (x .log) (waits lamps past) (x .script) (r .0) (r .1) h,
+    waited-bytes (counted lamps past) (x .log) (waits lamps past) (x .script) (r .1) h,
+  )
+
+  own-bytes : (b : Bool) (past : Past Lent) (x : Lent) → BytesOf past → Bytes (x .script) → BytesOf (ownCall b past x)
+  own-bytes true past x r h = one-bytes past x r h
+  own-bytes false past x r h = r
+
+-- ---- and all calls of a list
+
+module _ {A : Type 0} (keyboards : Keyboards) (lamps : Side → ℕ → Exchange (Answer A)) where
+  pub counted-bytes : {calls : Past Call} → ByteCalls calls → (side : Side) → AllBytes (countedOf keyboards lamps side calls) × Bytes (waitsOf keyboards lamps side calls)
+  unfolding own counted waits
+  counted-bytes no-calls side = (no-bytes, tt)
+  counted-bytes (one-handling {past = past} {side = s} {script = script} {log = log} all h) side =
+      own-bytes (lamps side) (sameSide side s && atTable keyboards s) (own keyboards side past) (lent script log) (counted-bytes all side) (bytes-script script h)
+  counted-bytes (one-taking all) side = counted-bytes all side

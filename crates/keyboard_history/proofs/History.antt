@@ -1,93 +1,245 @@
--- The history rule (demand 3 and request 2.3), for every lamp exchange and every list of calls.
+-- The history rule (demand 3, with requests 2.3 and 2.9), for every lamp exchange, at a table with one keyboard or two, and for every list of calls.
 -- Assumes nothing.
-use mathlib.Core.Path.{_≡_, refl, ap, ap₂, sym, _∙_}
-use mathlib.Core.Bool.{Bool, not}
-use mathlib.Core.List.{List, _++_, append-assoc}
-use mathlib.Core.Option.{Option}
-use Prim.Native.Nat.{ℕ}
+use mathlib.Core.Path.{_≡_, refl, ap, ap₂, sym, subst, _∙_}
+use mathlib.Core.Bool.{Bool, true, false, not}
+use mathlib.Core.List.{List, [], _++_, append-nil, append-assoc}
+use mathlib.Core.Logic.{⊎-elim}
+use mathlib.Core.Option.{Option, none}
+use Prim.Native.Nat.{ℕ, _≤_}
+use native.Mathlib.Omega.{arith}
 use lib.ListN.{length}
+use borrow.Author.Tests.{ne-eqb}
 use Rattle.exchange.specs.Exchange.{Exchange}
 use Rattle.exchange.specs.Answer.{Answer}
 use Rattle.keycodes_ascii.specs.declared.KeyEvent.{KeyEvent}
+use Rattle.keyboard_scancodes.proofs.Tests.{which}
+use Rattle.keyboard_sides.specs.declared.Side.{Side}
+use Rattle.keyboard_sides.specs.Sides.{sameSide, countOf}
+use Rattle.keyboard_sides.specs.Named.{Sided, ofSide}
+use Rattle.keyboard_sides.proofs.Named.{of-side-append}
+use Rattle.keyboard_record.specs.declared.KeyboardHandler.{KeyboardHandler}
+use Rattle.keyboard_record.specs.declared.Keyboards.{Keyboards}
+use Rattle.keyboard_record.specs.Queue.{areTwo, waiting, waitingSides}
+use Rattle.keyboard_record.specs.Record.{atTable, keyboardAt}
+use Rattle.keyboard_record.proofs.Waiting.{waiting-of-side}
+use Rattle.keyboard.specs.Answers.{ends2-3-21, endsWith}
+use Rattle.keyboard.specs.Handler.{Called, handled}
+use Rattle.keyboard.specs.Scancode.{isSome}
 use Rattle.keyboard_history.specs.Past.{Past, nothing, _▸_, each}
 use Rattle.keyboard_history.specs.Said.{eventsGiven}
-use Rattle.keyboard_history.specs.Counted.{Call, handling, taking, scancodeAfter, counted, waits, counts}
+use Rattle.keyboard_history.specs.Counted.{Call, handling, taking, own, scancodeAfter, counted, waits, countedOf, waitsOf, scancodeOf, counts}
 use Rattle.keyboard_history.specs.Waited.{dropped}
-use Rattle.keyboard_history.specs.Row.{events, lessMet, givenTo, eventOfCall, newly, row, given, meets, removed}
-use Rattle.keyboard_history.specs.Run.{leaves, after, answers, takings, eventsTaken, reported}
-use Rattle.keyboard.specs.Answers.{ends2-3-21, ends20}
+use Rattle.keyboard_history.specs.Row.{Given, events, lessMet, anyMet, givenTo, eventOfCall, newly, row, given, meetsWith, removed}
+use Rattle.keyboard_history.specs.Run.{leaves, after, answers, takings, eventsTaken, ownNumber, reported}
 use Rattle.keyboard_history.specs.History.{History}
-use Rattle.keyboard_history.proofs.Row.{less-append, events-append, events-given, more-given, taken-first}
-use Rattle.keyboard_history.proofs.AsSaid.{As, as-fresh, as-well, as-taken, as-handled, as-20, as-left-out, as-dropped}
+use Rattle.keyboard_history.proofs.Row.{less-none, met-none, less-append, events-append, own-given, other-given, more-given, taken-first}
+use Rattle.keyboard_history.proofs.Own.{same-side, which-side, and-false, own-more, own-other, own-absent}
+use Rattle.keyboard_history.proofs.AsKeyboard.{AsKeyboard}
+use Rattle.keyboard_history.proofs.AsSaid.{As, as-fresh, as-well, as-taken, as-left-out, as-ends, as-drops, own-keyboard, other-keyboard, as-handled, absent-call}
 
--- ---- the list of calls
+module _ {A : Type 0} (keyboards : Keyboards) (lamps : Side → ℕ → Exchange (Answer A)) where
+  -- ---- one handler call more
 
-module _ {A : Type 0} (lamps : ℕ → Exchange (Answer A)) where
-  pub as-after : (calls : Past Call) → As (after lamps calls) (counted lamps calls) (waits lamps calls) (row lamps calls)
-  unfolding after leaves counted waits row
-  as-after nothing = as-fresh
-  as-after (past ▸ handling s l) = as-handled (as-after past) lamps s l
+  module _ (past : Past Call) (side : Side) (s l : List ℕ) where
+    -- the scancode that it counts by its side's bytes, where the side is at the table
+    abbrev sc : Option ℕ
+    sc = scancodeAfter (lamps side) (countedOf keyboards lamps side past) (waitsOf keyboards lamps side past) s l
+
+    abbrev next : Past Call
+    next = past ▸ handling side s l
+
+    at-scancode : atTable keyboards side ≡ true → scancodeOf keyboards lamps past side s l ≡ sc
+    unfolding scancodeOf
+    at-scancode at = rw at
+
+    absent-scancode : atTable keyboards side ≡ false → scancodeOf keyboards lamps past side s l ≡ none
+    unfolding scancodeOf
+    absent-scancode ab = rw ab
+
+    at-newly : (r : List (Sided KeyEvent)) → atTable keyboards side ≡ true
+        → newly keyboards lamps past r side s l ≡ givenTo keyboards side r (eventOfCall (countedOf keyboards lamps side past) sc)
+    unfolding newly
+    at-newly r at = rw (at-scancode at)
+
+    absent-newly : (r : List (Sided KeyEvent)) → atTable keyboards side ≡ false → newly keyboards lamps past r side s l ≡ givenTo keyboards side r []
+    unfolding newly
+    absent-newly r ab = rw (absent-scancode ab)
+
+    module _ {h : KeyboardHandler} {r : List (Sided KeyEvent)} (a : As keyboards h (λ t. countedOf keyboards lamps t past) (λ t. waitsOf keyboards lamps t past) r) where
+      -- each side's keyboard, by its own calls
+      abbrev Now : Side → Type 0
+      Now t = AsKeyboard (keyboardAt t (handled lamps side h s l .handler .state)) (countedOf keyboards lamps t next) (waitsOf keyboards lamps t next)
+
+      own-now : atTable keyboards side ≡ true → Now side
+      unfolding counted waits
+      own-now at = rw (own-more keyboards past side s l at) (own-keyboard a side lamps s l at)
+
+      at-now : atTable keyboards side ≡ true → (t : Side) → Now t
+      at-now at t =
+          ⊎-elim (λ e. subst Now (sym e) (own-now at))
+          (λ d. rw (own-other keyboards past side s l t (d .0)) (other-keyboard a side lamps s l at t (d .1))) (which-side t side)
+
+      abbrev AsNow : List (Sided KeyEvent) → Type 0
+      AsNow r′ = As keyboards (handled lamps side h s l .handler) (λ t. countedOf keyboards lamps t next) (λ t. waitsOf keyboards lamps t next) r′
+
+      at-step : atTable keyboards side ≡ true → AsNow (r ++ lessMet (newly keyboards lamps past r side s l))
+      at-step at =
+          rw (at-newly r at)
+          (as-handled a side lamps s l at (λ t. countedOf keyboards lamps t next) (λ t. waitsOf keyboards lamps t next) (at-now at))
+
+      absent-step : atTable keyboards side ≡ false → AsNow (r ++ lessMet (newly keyboards lamps past r side s l))
+      absent-step ab =
+          let same : handled lamps side h s l .handler ≡ h = ap (λ (c : Called). c .handler) (absent-call a side lamps s l ab) in
+          rw (absent-newly r ab, less-none keyboards side r, append-nil r, same)
+          (record {
+            table = a .table;
+            at = λ t. rw (own-absent keyboards past side s l t ab) (a .at t);
+            places = a .places;
+            formed = a .formed;
+            waits = a .waits;
+          })
+
+      pub step : AsNow (r ++ lessMet (newly keyboards lamps past r side s l))
+      step = ⊎-elim at-step absent-step (which (atTable keyboards side))
+
+      pub step-left-out : ends2-3-21 (handled lamps side h s l .end) ≡ not (isSome (scancodeOf keyboards lamps past side s l))
+      step-left-out =
+          ⊎-elim (λ at. rw (at-scancode at) (as-left-out a side lamps s l at)) (λ ab. rw (absent-scancode ab, absent-call a side lamps s l ab)) (which (atTable keyboards side))
+
+      pub step-ends : (n : ℕ) → 20 ≤ n → (21 ≡ n → ⊥) → endsWith n (handled lamps side h s l .end) ≡ anyMet n (newly keyboards lamps past r side s l)
+      step-ends n k d =
+          ⊎-elim (λ at. rw (at-newly r at) (as-ends a side lamps s l at n k))
+          (λ ab. rw (absent-newly r ab, met-none keyboards side r n, absent-call a side lamps s l ab) (ne-eqb 21 n d)) (which (atTable keyboards side))
+
+    -- the events of a side that the call gives
+    module _ (r : List (Sided KeyEvent)) where
+      abbrev Events : Side → Type 0
+      Events t = eventsGiven (countedOf keyboards lamps t next) ≡ eventsGiven (countedOf keyboards lamps t past) ++ ofSide t (events (newly keyboards lamps past r side s l))
+
+      own-events : atTable keyboards side ≡ true → Events side
+      unfolding counted
+      own-events at =
+          let es = eventOfCall (countedOf keyboards lamps side past) sc in
+          rw (own-more keyboards past side s l at, at-newly r at, own-given keyboards r side es) (more-given (countedOf keyboards lamps side past) sc)
+
+      other-events : (t : Side) → sameSide t side ≡ false → Events t
+      unfolding newly
+      other-events t d =
+          rw (own-other keyboards past side s l t d, other-given keyboards r t side (eventOfCall (countedOf keyboards lamps side past) (scancodeOf keyboards lamps past side s l)) d)
+          (sym (append-nil (eventsGiven (countedOf keyboards lamps t past))))
+
+      absent-events : (t : Side) → atTable keyboards side ≡ false → Events t
+      unfolding givenTo ofSide
+      absent-events t ab = rw (own-absent keyboards past side s l t ab, absent-newly r ab) (sym (append-nil (eventsGiven (countedOf keyboards lamps t past))))
+
+      step-events : (t : Side) → Events t
+      step-events t =
+          ⊎-elim (λ at. ⊎-elim (λ e. subst Events (sym e) (own-events at)) (λ d. other-events t (d .0)) (which-side t side)) (λ ab. absent-events t ab) (which (atTable keyboards side))
+
+  -- ---- the list of calls
+
+  pub as-after : (calls : Past Call) → As keyboards (after keyboards lamps calls) (λ t. countedOf keyboards lamps t calls) (λ t. waitsOf keyboards lamps t calls) (row keyboards lamps calls)
+  unfolding after leaves own counted waits row
+  as-after nothing = as-fresh keyboards
+  as-after (past ▸ handling side s l) = step past side s l (as-after past)
   as-after (past ▸ taking) = as-taken (as-after past) .0
 
-  all-left-out : (calls : Past Call) → each ends2-3-21 (answers lamps calls) ≡ each not (counts lamps calls)
+  all-left-out : (calls : Past Call) → each ends2-3-21 (answers keyboards lamps calls) ≡ each not (counts keyboards lamps calls)
   unfolding each answers counts
   all-left-out nothing = refl
-  all-left-out (past ▸ handling s l) = ap₂ {C = Past Bool} (λ (x : Past Bool) (y : Bool). x ▸ y) (all-left-out past) (as-left-out (as-after past) lamps s l)
+  all-left-out (past ▸ handling side s l) =
+      ap₂ {C = Past Bool} (λ (x : Past Bool) (y : Bool). x ▸ y) (all-left-out past) (step-left-out past side s l (as-after past))
   all-left-out (past ▸ taking) = all-left-out past
 
-  all-20 : (calls : Past Call) → each ends20 (answers lamps calls) ≡ meets lamps calls
-  unfolding each answers meets
-  all-20 nothing = refl
-  all-20 (past ▸ handling s l) = ap₂ {C = Past Bool} (λ (x : Past Bool) (y : Bool). x ▸ y) (all-20 past) (as-20 (as-after past) lamps s l)
-  all-20 (past ▸ taking) = all-20 past
+  all-ends : (n : ℕ) → 20 ≤ n → (21 ≡ n → ⊥) → (calls : Past Call) → each (endsWith n) (answers keyboards lamps calls) ≡ meetsWith keyboards lamps n calls
+  unfolding each answers meetsWith
+  all-ends n k d nothing = refl
+  all-ends n k d (past ▸ handling side s l) =
+      ap₂ {C = Past Bool} (λ (x : Past Bool) (y : Bool). x ▸ y) (all-ends n k d past) (step-ends past side s l (as-after past) n k d)
+  all-ends n k d (past ▸ taking) = all-ends n k d past
 
-  all-takings : (calls : Past Call) → takings lamps calls ≡ removed lamps calls
+  all-takings : (calls : Past Call) → takings keyboards lamps calls ≡ removed keyboards lamps calls
   unfolding takings removed
   all-takings nothing = refl
-  all-takings (past ▸ handling s l) = all-takings past
-  all-takings (past ▸ taking) = ap₂ {C = Past (Answer (Option KeyEvent))} (λ (x : Past (Answer (Option KeyEvent))) (y : Answer (Option KeyEvent)). x ▸ y) (all-takings past) (as-taken (as-after past) .1)
+  all-takings (past ▸ handling side s l) = all-takings past
+  all-takings (past ▸ taking) =
+      ap₂ {C = Past (Answer (Option (Sided KeyEvent)))} (λ (x : Past (Answer (Option (Sided KeyEvent)))) (y : Answer (Option (Sided KeyEvent))). x ▸ y) (all-takings past) (as-taken (as-after past) .1)
 
-  all-events : (calls : Past Call) → events (given lamps calls) ≡ eventsGiven (counted lamps calls)
-  unfolding given newly counted eventsGiven
-  all-events nothing = refl
-  all-events (past ▸ handling s l) =
-      let sc = scancodeAfter lamps (counted lamps past) (waits lamps past) s l in
-      events-append (given lamps past) (givenTo (row lamps past) (eventOfCall (counted lamps past) sc))
-      ∙ ap₂ {C = List KeyEvent} (λ (x y : List KeyEvent). x ++ y) (all-events past) (events-given (row lamps past) (eventOfCall (counted lamps past) sc))
-      ∙ sym (more-given (counted lamps past) sc)
-  all-events (past ▸ taking) = all-events past
+  all-events : (t : Side) (calls : Past Call) → ofSide t (events (given keyboards lamps calls)) ≡ eventsGiven (countedOf keyboards lamps t calls)
+  unfolding given own counted eventsGiven ofSide
+  all-events t nothing = refl
+  all-events t (past ▸ handling side s l) =
+      let new = newly keyboards lamps past (row keyboards lamps past) side s l in
+      ap (ofSide t) (events-append (given keyboards lamps past) new)
+      ∙ of-side-append t (events (given keyboards lamps past)) (events new)
+      ∙ ap (λ (x : List KeyEvent). x ++ ofSide t (events new)) (all-events t past)
+      ∙ sym (step-events past side s l (row keyboards lamps past) t)
+  all-events t (past ▸ taking) = all-events t past
 
-  -- the events removed, then the row, are those given less those that met 128 waiting
-  all-kept : (calls : Past Call) → eventsTaken (removed lamps calls) ++ row lamps calls ≡ lessMet (given lamps calls)
+  -- the events removed, then the row, are those given less those that met 31 or 20
+  all-kept : (calls : Past Call) → eventsTaken (removed keyboards lamps calls) ++ row keyboards lamps calls ≡ lessMet (given keyboards lamps calls)
   unfolding removed row given eventsTaken lessMet
   all-kept nothing = refl
-  all-kept (past ▸ handling s l) =
-      let new = newly lamps (counted lamps past) (waits lamps past) (row lamps past) s l in
-      sym (append-assoc (eventsTaken (removed lamps past)) (row lamps past) (lessMet new))
-      ∙ ap (λ (x : List KeyEvent). x ++ lessMet new) (all-kept past)
-      ∙ sym (less-append (given lamps past) new)
-  all-kept (past ▸ taking) = taken-first (removed lamps past) (row lamps past) ∙ all-kept past
+  all-kept (past ▸ handling side s l) =
+      let new = newly keyboards lamps past (row keyboards lamps past) side s l in
+      sym (append-assoc (eventsTaken (removed keyboards lamps past)) (row keyboards lamps past) (lessMet new))
+      ∙ ap (λ (x : List (Sided KeyEvent)). x ++ lessMet new) (all-kept past)
+      ∙ sym (less-append (given keyboards lamps past) new)
+  all-kept (past ▸ taking) = taken-first (removed keyboards lamps past) (row keyboards lamps past) ∙ all-kept past
 
-  all-dropped : (calls : Past Call) → reported lamps calls ≡ each length (dropped lamps calls)
-  unfolding each reported dropped
-  all-dropped nothing = refl
-  all-dropped (past ▸ handling s l) = ap₂ {C = Past ℕ} (λ (x : Past ℕ) (y : ℕ). x ▸ y) (all-dropped past) (as-dropped (as-after past) lamps s l)
-  all-dropped (past ▸ taking) = all-dropped past
+  -- what the calls of a side report as dropped
+  abbrev Reports : Past Call → Side → Type 0
+  Reports calls t = reported keyboards lamps t calls ≡ each length (dropped (lamps t) (own keyboards t calls))
 
-  pub history : (calls : Past Call) → History lamps calls
+  module _ (past : Past Call) (side : Side) (s l : List ℕ) where
+    own-reports : atTable keyboards side ≡ true → Reports past side → Reports (past ▸ handling side s l) side
+    unfolding reported dropped each
+    own-reports at e =
+        rw (same-side side, at, own-more keyboards past side s l at)
+        (ap₂ {C = Past ℕ} (λ (x : Past ℕ) (y : ℕ). x ▸ y) e (as-drops (as-after past) side lamps s l at))
+
+    other-reports : (t : Side) → sameSide t side ≡ false → Reports past t → Reports (past ▸ handling side s l) t
+    unfolding reported
+    other-reports t d e = rw (d, own-other keyboards past side s l t d) e
+
+    absent-reports : (t : Side) → atTable keyboards side ≡ false → Reports past t → Reports (past ▸ handling side s l) t
+    unfolding reported
+    absent-reports t ab e = rw (ab, and-false (sameSide t side), own-absent keyboards past side s l t ab) e
+
+    step-reports : (t : Side) → Reports past t → Reports (past ▸ handling side s l) t
+    step-reports t e =
+        ⊎-elim
+        (λ at. ⊎-elim (λ q. subst (λ u. Reports past u → Reports (past ▸ handling side s l) u) (sym q) (own-reports at) e) (λ d. other-reports t (d .0) e) (which-side t side))
+        (λ ab. absent-reports t ab e)
+        (which (atTable keyboards side))
+
+  all-dropped : (t : Side) (calls : Past Call) → Reports calls t
+  unfolding reported own dropped each
+  all-dropped t nothing = refl
+  all-dropped t (past ▸ handling side s l) = step-reports past side s l t (all-dropped t past)
+  all-dropped t (past ▸ taking) = all-dropped t past
+
+  all-shares : (calls : Past Call) → areTwo keyboards ≡ true → (side : Side) → length (ofSide side (waiting (after keyboards lamps calls))) ≤ 96
+  all-shares calls two side =
+      let a = as-after calls in
+      rw (waiting-of-side side (after keyboards lamps calls)) (a .formed .shares side (rw (a .table) two))
+
+  pub history : (calls : Past Call) → History keyboards lamps calls
   history calls =
       let a = as-after calls in
       record {
         left-out = all-left-out calls;
         well = as-well a;
-        flags = a .flags;
-        prefix = a .prefix;
-        byte-order = all-events calls;
+        flags = λ side. a .at side .flags;
+        prefix = λ side. a .at side .prefix;
+        byte-order = λ side. all-events side calls;
         taking-answers = all-takings calls;
         queue = a .waits;
         taken-then-waiting =
-            ap₂ {C = List KeyEvent} (λ (t : Past (Answer (Option KeyEvent))) (w : List KeyEvent). eventsTaken t ++ w) (all-takings calls) (a .waits) ∙ all-kept calls;
-        answers-20 = all-20 calls;
-        waiting-bytes = a .bytes-wait;
-        drops = all-dropped calls;
+            ap₂ {C = List (Sided KeyEvent)} (λ (t : Past (Answer (Option (Sided KeyEvent)))) (w : List (Sided KeyEvent)). eventsTaken t ++ w) (all-takings calls) (a .waits) ∙ all-kept calls;
+        answers-20 = all-ends 20 (omega arith) (λ e. omega arith) calls;
+        answers-31 = all-ends 31 (omega arith) (λ e. omega arith) calls;
+        shares = all-shares calls;
+        waiting-bytes = λ side. a .at side .bytes-wait;
+        drops = λ side. all-dropped side calls;
       }

@@ -2,10 +2,13 @@
 pub mod Flags
 pub mod Row
 pub mod Waited
+pub mod Own
+pub mod AsKeyboard
 pub mod AsSaid
 pub mod History
 pub mod NothingLost
 pub mod KeyboardHistory
+pub mod Shares
 pub mod Bytes
 pub mod Meaning
 pub mod Witness

@@ -20,8 +20,10 @@ use Rattle.keyboard_scancodes.specs.Strokes.{stroke, lowPart, isPress}
 use Rattle.keyboard_history.specs.Said.{prefixSaid, strokes, times, lastWasPress, saidOf, said, flagsSaid}
 use Rattle.keyboard_scancodes.specs.FlagTable.{Kind, lock, held, left, right, FlagRow, flagRow, flagTable, isOf, has}
 use Rattle.keyboard_scancodes.specs.Events.{lastKeycode, keycodeAt}
-use Rattle.keyboard_history.specs.Counted.{Call, counted}
-use Rattle.keyboard_record.specs.Record.{fresh}
+use Rattle.keyboard_history.specs.Counted.{Call, countedOf}
+use Rattle.keyboard_sides.specs.declared.Side.{Side}
+use Rattle.keyboard_record.specs.declared.Keyboards.{Keyboards}
+use Rattle.keyboard_record.specs.Record.{keyboardAt, fresh}
 use Rattle.keyboard_history.specs.Run.{after, run}
 use Rattle.keyboard_history.specs.Bytes.{AllBytes, no-bytes, one-more, ByteCalls, timesByte, lastOf, absent, Last, those, demanded}
 use Rattle.keyboard_history.proofs.Bytes.{counted-bytes}
@@ -31,14 +33,14 @@ use Rattle.keyboard_history.proofs.History.{history}
 
 -- ---- order
 
-module _ {A : Type 0} (lamps : ℕ → Exchange (Answer A)) where
-  run-onto : (calls : List Call) (past : Past Call) → run lamps (after lamps past) calls ≡ after lamps (onto past calls)
+module _ {A : Type 0} (keyboards : Keyboards) (lamps : Side → ℕ → Exchange (Answer A)) where
+  run-onto : (calls : List Call) (past : Past Call) → run keyboards lamps (after keyboards lamps past) calls ≡ after keyboards lamps (onto past calls)
   unfolding run after onto
   run-onto [] past = refl
   run-onto (call ∷ calls) past = run-onto calls (past ▸ call)
 
   -- the calls of a list, made in order from a fresh record on, leave the record of the rule
-  pub in-order : (calls : List Call) → run lamps fresh calls ≡ after lamps (onto nothing calls)
+  pub in-order : (calls : List Call) → run keyboards lamps (fresh keyboards) calls ≡ after keyboards lamps (onto nothing calls)
   unfolding after
   in-order calls = run-onto calls nothing
 
@@ -229,11 +231,11 @@ table-low = refl
 pub flag-demanded : {bytes : Past ℕ} {r : FlagRow} → AllBytes bytes → List·Memᴰ r flagTable → bit (r .flag) (flagsSaid bytes) ≡ demanded (r .kind) (r .code) bytes
 flag-demanded {bytes} {r} all m = flag-bit bytes m ∙ kind-bytes (r .kind) (r .flag) (r .code) (low-in table-low m) all
 
-module _ {A : Type 0} (lamps : ℕ → Exchange (Answer A)) where
-  -- each flag after a list of calls, by the request's sentence on the counted bytes
-  pub flag-after : {calls : Past Call} {r : FlagRow} → ByteCalls calls → List·Memᴰ r flagTable
-      → bit (r .flag) (after lamps calls .state .keyboard .modifiers .bits) ≡ demanded (r .kind) (r .code) (counted lamps calls)
-  flag-after {calls} {r} all m = ap (bit (r .flag)) (history lamps calls .flags) ∙ flag-demanded (counted-bytes lamps all .0) m
+module _ {A : Type 0} (keyboards : Keyboards) (lamps : Side → ℕ → Exchange (Answer A)) where
+  -- each flag of a side after a list of calls, by the request's sentence on its counted bytes
+  pub flag-after : {calls : Past Call} {r : FlagRow} → ByteCalls calls → List·Memᴰ r flagTable → (side : Side)
+      → bit (r .flag) (keyboardAt side (after keyboards lamps calls .state) .modifiers .bits) ≡ demanded (r .kind) (r .code) (countedOf keyboards lamps side calls)
+  flag-after {calls} {r} all m side = ap (bit (r .flag)) (history keyboards lamps calls .flags side) ∙ flag-demanded (counted-bytes keyboards lamps all side .0) m
 
 -- ---- the keys
 

@@ -1,4 +1,4 @@
--- Nothing is lost (request 2.3), for every lamp exchange and every list of calls.
+-- Nothing is lost (request 2.3), of either side, for every lamp exchange and every list of calls.
 -- Assumes nothing.
 use mathlib.Core.Path.{_≡_, refl, ap, sym, subst, _∙_}
 use mathlib.Core.List.{List, _++_, append-assoc}
@@ -6,8 +6,10 @@ use Prim.Native.Nat.{ℕ}
 use lib.ListN.{length, take, drop, take-append-drop}
 use Rattle.exchange.specs.Exchange.{Exchange}
 use Rattle.exchange.specs.Answer.{Answer}
+use Rattle.keyboard_sides.specs.declared.Side.{Side}
+use Rattle.keyboard_record.specs.declared.Keyboards.{Keyboards}
 use Rattle.keyboard_history.specs.Past.{Past, nothing, _▸_, each}
-use Rattle.keyboard_history.specs.Counted.{Call, handling, taking, behind, room, scancodeAfter, thrownAfter, behindAfter, joinedAfter, droppedAfter, counted, waits}
+use Rattle.keyboard_history.specs.Counted.{Call, Lent, own, behind, room, scancodeAfter, thrownAfter, behindAfter, joinedAfter, droppedAfter, counted, waits}
 use Rattle.keyboard_history.specs.Waited.{fromWaiting, thrownAway, joined, dropped, takenWaiting}
 use Rattle.keyboard_history.specs.NothingLost.{inOrder, Reported, no-call, one-call, NothingLost}
 use Rattle.keyboard_history.proofs.Waited.{oldest-taken}
@@ -25,18 +27,19 @@ module _ {A : Type 0} (lamps : ℕ → Exchange (Answer A)) where
       subst (λ (x : List ℕ). Reported (thrown ▸ x) (joined ▸ take n all) (reported ▸ length (drop n all))) (take-append-drop n all)
       (one-call r (drop n all))
 
-  all-reported : (calls : Past Call) → Reported (thrownAway lamps calls) (joined lamps calls) (each length (dropped lamps calls))
+  all-reported : (calls : Past Lent) → Reported (thrownAway lamps calls) (joined lamps calls) (each length (dropped lamps calls))
   unfolding thrownAway joined dropped each
   all-reported nothing = no-call
-  all-reported (past ▸ handling s l) = one-reported (all-reported past) (counted lamps past) (waits lamps past) s l
-  all-reported (past ▸ taking) = all-reported past
+  all-reported (past ▸ x) = one-reported (all-reported past) (counted lamps past) (waits lamps past) (x .script) (x .log)
 
   -- ---- those that were taken, and those that wait
 
-  all-waited : (calls : Past Call) → takenWaiting lamps calls ++ waits lamps calls ≡ inOrder (joined lamps calls)
+  all-waited : (calls : Past Lent) → takenWaiting lamps calls ++ waits lamps calls ≡ inOrder (joined lamps calls)
   unfolding takenWaiting waits joined inOrder behindAfter
   all-waited nothing = refl
-  all-waited (past ▸ handling s l) =
+  all-waited (past ▸ x) =
+      let s = x .script in
+      let l = x .log in
       let bytes = counted lamps past in
       let ws = waits lamps past in
       let sc = scancodeAfter lamps bytes ws s l in
@@ -45,11 +48,11 @@ module _ {A : Type 0} (lamps : ℕ → Exchange (Answer A)) where
       ∙ ap (λ (x : List ℕ). takenWaiting lamps past ++ x) (sym (append-assoc (fromWaiting sc ws) (behind sc ws) new) ∙ ap (λ (x : List ℕ). x ++ new) (oldest-taken lamps bytes ws s l))
       ∙ sym (append-assoc (takenWaiting lamps past) ws new)
       ∙ ap (λ (x : List ℕ). x ++ new) (all-waited past)
-  all-waited (past ▸ taking) = all-waited past
 
-  pub nothing-lost : (calls : Past Call) → NothingLost lamps calls
-  nothing-lost calls =
+module _ {A : Type 0} (keyboards : Keyboards) (lamps : Side → ℕ → Exchange (Answer A)) where
+  pub nothing-lost : (side : Side) (calls : Past Call) → NothingLost keyboards lamps side calls
+  nothing-lost side calls =
       record {
-        others-reported = rw (history lamps calls .drops) (all-reported calls);
-        taken-then-waiting = rw (history lamps calls .waiting-bytes) (all-waited calls);
+        others-reported = rw (history keyboards lamps calls .drops side) (all-reported (lamps side) (own keyboards side calls));
+        taken-then-waiting = rw (history keyboards lamps calls .waiting-bytes side) (all-waited (lamps side) (own keyboards side calls));
       }

@@ -1,16 +1,23 @@
 -- The row of waiting events: what joins it, with room and without, and how the lists of events given grow.
 -- Assumes nothing.
-use mathlib.Core.Path.{_≡_, refl, ap, sym}
-use mathlib.Core.Bool.{Bool, true, false, cond}
+use mathlib.Core.Path.{_≡_, refl, ap, ap₂, sym, _∙_}
+use mathlib.Core.Bool.{Bool, true, false, _||_}
 use mathlib.Core.List.{List, [], _∷_, _++_, append-nil, append-assoc}
 use mathlib.Core.Option.{Option, none, some}
-use Prim.Native.Nat.{ℕ, _<_, _≤_}
-use lib.ListN.{length}
-use borrow.Author.Tests.{lt-ltb, le-ltb}
+use Prim.Native.Nat.{ℕ}
+use lib.Dec.{eqb}
+use Rattle.exchange.specs.Exchange.{yields}
+use Rattle.exchange.specs.Answer.{Answer, gives, refuses}
+use Rattle.ps2_answers.specs.Refusals.{Success, success}
 use Rattle.keycodes_ascii.specs.declared.KeyEvent.{KeyEvent}
-use Rattle.exchange.specs.Answer.{Answer}
-use Rattle.keyboard_history.specs.Past.{Past, _▸_}
+use Rattle.keyboard_sides.specs.declared.Side.{Side}
+use Rattle.keyboard_sides.specs.Sides.{sameSide}
+use Rattle.keyboard_sides.specs.Named.{Sided, ofSide, sidesIn}
+use Rattle.keyboard_record.specs.declared.Keyboards.{Keyboards}
+use Rattle.keyboard_record.specs.Queue.{meets, ifGiven}
 use Rattle.keyboard_scancodes.specs.Events.{eventOf, givesEvent}
+use Rattle.keyboard.specs.Answers.{endsWith}
+use Rattle.keyboard_history.specs.Past.{Past, _▸_}
 use Rattle.keyboard_history.specs.Said.{flagsSaid, eventGiven, eventsGiven}
 use Rattle.keyboard_history.specs.Counted.{count}
 use Rattle.keyboard_history.specs.Row.{Given, events, lessMet, anyMet, givenTo, eventOfCall, first, rest}
@@ -27,30 +34,36 @@ module _ (bytes : Past ℕ) (b : ℕ) where
   unfolding eventGiven
   given-one e = rw e
 
-module _ (row : List KeyEvent) (e : KeyEvent) where
-  pub less-room : length row < 128 → lessMet (givenTo row (e ∷ [])) ≡ e ∷ []
+-- an event of a side
+abbrev pub sided : Side → KeyEvent → Sided KeyEvent
+sided side e = record { side = side; one = e }
+
+or-false : (b : Bool) → (b || false) ≡ b
+or-false true = refl
+or-false false = refl
+
+module _ (keyboards : Keyboards) (side : Side) (row : List (Sided KeyEvent)) where
+  pub less-none : lessMet (givenTo keyboards side row []) ≡ []
   unfolding lessMet givenTo
-  less-room h = rw (lt-ltb (length row) 128 h)
+  less-none = refl
 
-  pub less-full : 128 ≤ length row → lessMet (givenTo row (e ∷ [])) ≡ []
-  unfolding lessMet givenTo
-  less-full h = rw (le-ltb (length row) 128 h)
-
-  pub met-room : length row < 128 → anyMet (givenTo row (e ∷ [])) ≡ false
+  pub met-none : (n : ℕ) → anyMet n (givenTo keyboards side row []) ≡ false
   unfolding anyMet givenTo
-  met-room h = rw (lt-ltb (length row) 128 h)
+  met-none n = refl
 
-  pub met-full : 128 ≤ length row → anyMet (givenTo row (e ∷ [])) ≡ true
-  unfolding anyMet givenTo
-  met-full h = rw (le-ltb (length row) 128 h)
+  module _ (e : KeyEvent) where
+    pub less-room : meets keyboards side (sidesIn row) ≡ gives success → lessMet (givenTo keyboards side row (e ∷ [])) ≡ sided side e ∷ []
+    unfolding lessMet givenTo
+    less-room h = rw h
 
-pub less-none : (row : List KeyEvent) → lessMet (givenTo row []) ≡ []
-unfolding lessMet givenTo
-less-none row = refl
+    pub less-full : {n : ℕ} → meets keyboards side (sidesIn row) ≡ refuses n → lessMet (givenTo keyboards side row (e ∷ [])) ≡ []
+    unfolding lessMet givenTo
+    less-full h = rw h
 
-pub met-none : (row : List KeyEvent) → anyMet (givenTo row []) ≡ false
-unfolding anyMet givenTo
-met-none row = refl
+    -- it met what its call would answer
+    pub met-one : (n : ℕ) → anyMet n (givenTo keyboards side row (e ∷ [])) ≡ endsWith n (yields (meets keyboards side (sidesIn row)))
+    unfolding anyMet givenTo
+    met-one n = or-false (endsWith n (yields (meets keyboards side (sidesIn row))))
 
 -- ---- lists of events given
 
@@ -59,19 +72,28 @@ unfolding lessMet
 less-append [] hs = refl
 less-append (g ∷ gs) hs = go (g .met) (less-append gs hs)
   where
-    go : (m : Bool) → lessMet (gs ++ hs) ≡ lessMet gs ++ lessMet hs
-        → cond m (lessMet (gs ++ hs)) (g .event ∷ lessMet (gs ++ hs)) ≡ cond m (lessMet gs) (g .event ∷ lessMet gs) ++ lessMet hs
-    go true e = e
-    go false e = ap (λ (l : List KeyEvent). g .event ∷ l) e
+    go : (m : Answer Success) → lessMet (gs ++ hs) ≡ lessMet gs ++ lessMet hs
+        → ifGiven m (g .event ∷ lessMet (gs ++ hs)) (lessMet (gs ++ hs)) ≡ ifGiven m (g .event ∷ lessMet gs) (lessMet gs) ++ lessMet hs
+    go (gives x) e = ap (λ (l : List (Sided KeyEvent)). g .event ∷ l) e
+    go (refuses n) e = e
 
 pub events-append : (gs hs : List Given) → events (gs ++ hs) ≡ events gs ++ events hs
 events-append [] hs = refl
-events-append (g ∷ gs) hs = ap (λ (l : List KeyEvent). g .event ∷ l) (events-append gs hs)
+events-append (g ∷ gs) hs = ap (λ (l : List (Sided KeyEvent)). g .event ∷ l) (events-append gs hs)
 
-pub events-given : (es ks : List KeyEvent) → events (givenTo es ks) ≡ ks
-unfolding givenTo
-events-given es [] = refl
-events-given es (k ∷ ks) = ap (λ (l : List KeyEvent). k ∷ l) (events-given es ks)
+-- the events of a side among those that a side gives: all of them, or none
+module _ (keyboards : Keyboards) (row : List (Sided KeyEvent)) where
+  pub own-given : (side : Side) (ks : List KeyEvent) → ofSide side (events (givenTo keyboards side row ks)) ≡ ks
+  unfolding givenTo ofSide
+  own-given Side.First [] = refl
+  own-given Side.Second [] = refl
+  own-given Side.First (k ∷ ks) = ap (λ (l : List KeyEvent). k ∷ l) (own-given Side.First ks)
+  own-given Side.Second (k ∷ ks) = ap (λ (l : List KeyEvent). k ∷ l) (own-given Side.Second ks)
+
+  pub other-given : (t side : Side) (ks : List KeyEvent) → sameSide t side ≡ false → ofSide t (events (givenTo keyboards side row ks)) ≡ []
+  unfolding givenTo ofSide
+  other-given t side [] n = refl
+  other-given t side (k ∷ ks) n = rw n (other-given t side ks n)
 
 -- the events of one more counted scancode, if there is one
 pub more-given : (bytes : Past ℕ) (sc : Option ℕ) → eventsGiven (count bytes sc) ≡ eventsGiven bytes ++ eventOfCall bytes sc
@@ -80,7 +102,7 @@ more-given bytes none = sym (append-nil (eventsGiven bytes))
 more-given bytes (some b) = refl
 
 -- a taking that answers a row's first, then the row without it
-pub taken-first : (past : Past (Answer (Option KeyEvent))) (es : List KeyEvent) → eventsTaken (past ▸ first es) ++ rest es ≡ eventsTaken past ++ es
+pub taken-first : (past : Past (Answer (Option (Sided KeyEvent)))) (es : List (Sided KeyEvent)) → eventsTaken (past ▸ first es) ++ rest es ≡ eventsTaken past ++ es
 unfolding eventsTaken
 taken-first past [] = refl
 taken-first past (e ∷ es) = append-assoc (eventsTaken past) (e ∷ []) es

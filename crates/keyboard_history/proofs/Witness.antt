@@ -1,259 +1,386 @@
--- The history rule is not vacuous: lists of calls that fill the queue and drain it, in which a lamp exchange fails, and that go on after a 2.
+-- The history rule is not vacuous: lists of calls that fill the queue, or a side's share of it, go on and drain it; in which a lamp exchange fails; and that go on after a 2.
 -- Assumes nothing.
 use mathlib.Core.Path.{_≡_, refl, ap, ap₂, sym, _∙_}
-use mathlib.Core.Bool.{Bool, true, false}
+use mathlib.Core.Bool.{Bool, true, false, true≢false}
 use mathlib.Core.List.{List, [], _∷_, _++_, append-nil}
 use mathlib.Core.Option.{Option, none, some}
 use Prim.Native.Nat.{ℕ, zero, suc, _+_, _<_, _≤_}
-use native.Mathlib.Nat.{suc-add}
+use native.Mathlib.Nat.{zero-add, suc-add}
 use native.Mathlib.Numerals.{add-one}
 use native.Mathlib.Omega.{arith}
 use lib.ListN.{length, drop, replicate, length-replicate, replicate-append-replicate}
-use Rattle.bits.specs.Bits.{odd, bit, putBit}
+use Rattle.bits.specs.Bits.{odd, bit, putBit, weigh}
 use Rattle.bits.specs.Table.{decode}
 use Rattle.exchange.specs.Exchange.{p60, noScript, Exchange, bind, yields, lacks, play}
 use Rattle.exchange.specs.Answer.{Answer, gives, refuses}
 use Rattle.exchange.specs.Keeping.{keeping}
-use Rattle.ps2_answers.specs.Refusals.{success}
+use Rattle.ps2_answers.specs.Refusals.{Success, success}
 use Rattle.keycodes_ascii.specs.declared.KeyEvent.{KeyEvent}
 use Rattle.keycodes_ascii.specs.declared.Keycode.{Keycode}
 use Rattle.keycodes_ascii.specs.Keycode.{keycodeOf, numbered, keycodes}
+use Rattle.keyboard_sides.specs.declared.Side.{Side}
+use Rattle.keyboard_sides.specs.Sides.{sameSide, bitSides, countOf, withSide}
+use Rattle.keyboard_sides.specs.Named.{Sided, named, sidesIn}
+use Rattle.keyboard_sides.proofs.Named.{sides-in-length}
 use Rattle.keyboard_history.specs.Past.{Past, nothing, _▸_, each}
-use Rattle.keyboard_record.specs.Queue.{round, waiting}
+use Rattle.keyboard_record.specs.declared.Keyboards.{Keyboards}
+use Rattle.keyboard_record.specs.Queue.{areTwo, meets, round, waiting}
+use Rattle.keyboard_record.proofs.Meeting.{meets-free, meets-31, meets-20}
 use Rattle.keyboard_scancodes.specs.Strokes.{stroke}
 use Rattle.keyboard_history.specs.Said.{prefixSaid, flagsSaid, eventGiven}
 use Rattle.keyboard_scancodes.specs.FlagTable.{flagTable, flagLimit, isOf, pressesLock}
 use Rattle.keyboard_scancodes.specs.Lamps.{lampsLit}
 use Rattle.keyboard_scancodes.specs.Waiting.{bytesFrom}
 use Rattle.keyboard_scancodes.specs.Events.{keycodeAt, eventOf}
-use Rattle.keyboard_history.specs.Counted.{Call, handling, taking, count, scancodeAfter, thrownAfter, behindAfter, joinedAfter, waitingAfter, counted, waits}
+use Rattle.keyboard_history.specs.Counted.{Call, handling, taking, own, count, scancodeAfter, thrownAfter, behindAfter, joinedAfter, waitingAfter, counted, waits, countedOf, waitsOf, scancodeOf}
 use Rattle.keyboard.specs.Scancode.{caught, scancode}
-use Rattle.keyboard_history.specs.Row.{Given, eventOfCall, lessMet, anyMet, givenTo, first, rest, newly, row, given, meets, removed}
-use Rattle.keyboard_record.specs.Record.{fresh, wellFormed}
+use Rattle.keyboard_history.specs.Row.{Given, eventOfCall, lessMet, anyMet, givenTo, first, rest, newly, row, given, meetsWith, removed}
+use Rattle.keyboard_record.specs.Record.{atTable, fresh, keyboardFormed, wellFormed, callFormed}
 use Rattle.keyboard_scancodes.specs.FlagsAfter.{flagsAfter, flagsThen}
-use Rattle.keyboard.specs.Handler.{queued, lampExchange, onByte, handle, effects, handled, logLeft}
+use Rattle.keyboard.specs.Byte.{keyEvent, lampExchange, onByte, keyCall}
+use Rattle.keyboard.specs.Handler.{handle, effects, handled, logLeft}
 use Rattle.keyboard_history.specs.Run.{leaves, after, answers, takings, eventsTaken}
-use Rattle.keyboard.specs.Answers.{ends20}
-use Rattle.keyboard_history.specs.Examples.{press, pressesOfA, thenTakings, shortLamps, fourFree, failingLamps, cutInLamps}
-use Rattle.keyboard_history.proofs.Row.{less-room, less-full, met-full}
+use Rattle.keyboard.specs.Answers.{endsWith}
+use Rattle.keyboard_history.specs.Examples.{press, thenPresses, thenTakings, shortLamps, fourFree, failingLamps, cutInLamps}
+use Rattle.keyboard_history.proofs.Row.{sided, less-room, less-full, met-one}
+use Rattle.keyboard_history.proofs.Own.{same-side, own-more, own-other}
 use Rattle.keyboard_history.proofs.Flags.{flags-none, flags-more}
 use Rattle.keyboard_history.proofs.History.{history}
 
--- ---- a list that fills the queue, goes on and drains it
+-- ---- lists
+
+replicate-more : {A : Type 0} (n : ℕ) (e : A) → replicate n e ++ (e ∷ []) ≡ replicate (suc n) e
+replicate-more {A} n e = replicate-append-replicate n 1 e ∙ ap (λ (k : ℕ). replicate {A = A} k e) (add-one n)
+
+drop-more : (n : ℕ) (l : List (Sided KeyEvent)) → rest (drop n l) ≡ drop (suc n) l
+drop-more zero [] = refl
+drop-more zero (e ∷ l) = refl
+drop-more (suc n) [] = refl
+drop-more (suc n) (e ∷ l) = drop-more n l
+
+-- ---- presses of A, after which no flag is on and no byte waits
 
 -- one byte more of a letter leaves the flags as they are
 letter-flags : (x : Bool) (w : ℕ) → flagsAfter flagTable (stroke 0x1E x) w ≡ w
 unfolding flagsAfter flagTable isOf
 letter-flags x w = refl
 
-replicate-more : (n : ℕ) (e : KeyEvent) → replicate n e ++ (e ∷ []) ≡ replicate (suc n) e
-replicate-more n e = replicate-append-replicate n 1 e ∙ ap (λ (k : ℕ). replicate k e) (add-one n)
+said-letter : (bytes : Past ℕ) → flagsSaid (bytes ▸ 0x1E) ≡ flagsSaid bytes
+said-letter bytes = flags-more bytes 0x1E ∙ letter-flags (prefixSaid bytes) (flagsSaid bytes)
 
-drop-more : (n : ℕ) (l : List KeyEvent) → rest (drop n l) ≡ drop (suc n) l
-drop-more zero [] = refl
-drop-more zero (e ∷ l) = refl
-drop-more (suc n) [] = refl
-drop-more (suc n) (e ∷ l) = drop-more n l
+abbrev A-pressed : KeyEvent
+A-pressed = press Keycode.A 0
 
-module _ {A : Type 0} (lamps : ℕ → Exchange (Answer A)) where
-  abbrev A-pressed : KeyEvent
-  A-pressed = press Keycode.A 0
+letter-event : eventOf 0x1E 0 ≡ A-pressed
+unfolding eventOf keycodeAt keycodeOf numbered keycodes
+letter-event = refl
+
+-- n of them, of a side
+abbrev letters : Side → ℕ → List (Sided KeyEvent)
+letters side n = replicate n (sided side A-pressed)
+
+count-letters : (side : Side) (n : ℕ) → countOf side (sidesIn (letters side n)) ≡ n
+unfolding countOf sidesIn
+count-letters side zero = refl
+count-letters Side.First (suc n) = omega (arith, count-letters Side.First n)
+count-letters Side.Second (suc n) = omega (arith, count-letters Side.Second n)
+
+length-letters : (side : Side) (n : ℕ) → length (sidesIn (letters side n)) ≡ n
+length-letters side n = sides-in-length (letters side n) ∙ length-replicate n (sided side A-pressed)
+
+-- how many events of one side wait at the most, and the number that answers one more
+abbrev pub most : Keyboards → ℕ
+most Keyboards.One = 128
+most Keyboards.Two = 96
+
+abbrev pub oneMoreMeets : Keyboards → ℕ
+oneMoreMeets Keyboards.One = 20
+oneMoreMeets Keyboards.Two = 31
+
+letters-free : (keyboards : Keyboards) (side : Side) (n : ℕ) → n < most keyboards → meets keyboards side (sidesIn (letters side n)) ≡ gives success
+letters-free Keyboards.One side n h = meets-free Keyboards.One side (sidesIn (letters side n)) (λ e. absurd (true≢false (sym e))) (rw (length-letters side n) h)
+letters-free Keyboards.Two side n h =
+    meets-free Keyboards.Two side (sidesIn (letters side n)) (λ e. rw (count-letters side n) h) (omega (arith, length-letters side n))
+
+letters-full : (keyboards : Keyboards) (side : Side) → meets keyboards side (sidesIn (letters side (most keyboards))) ≡ refuses (oneMoreMeets keyboards)
+letters-full Keyboards.One side =
+    meets-20 Keyboards.One side (sidesIn (letters side 128)) (λ e. absurd (true≢false (sym e))) (omega (arith, length-letters side 128))
+letters-full Keyboards.Two side = meets-31 Keyboards.Two side (sidesIn (letters side 96)) refl (omega (arith, count-letters side 96))
+
+module _ {A : Type 0} (keyboards : Keyboards) (lamps : Side → ℕ → Exchange (Answer A)) (side : Side) (at : atTable keyboards side ≡ true) where
+  -- calls after which the side has no flag on and no byte waiting
+  pub record Quiet (calls : Past Call) : Type 0 where
+    pub no-flags : flagsSaid (countedOf keyboards lamps side calls) ≡ 0
+    pub none-wait : waitsOf keyboards lamps side calls ≡ []
+
+  pub quiet-none : Quiet nothing
+  unfolding own counted waits
+  quiet-none = record { no-flags = flags-none; none-wait = refl }
+
+  abbrev letter : Past Call → Past Call
+  letter calls = calls ▸ handling side (0x1E ∷ []) []
 
   -- a press of A is counted, and no byte comes to wait
-  counts-letter : (bytes : Past ℕ) → scancodeAfter lamps bytes [] (0x1E ∷ []) [] ≡ some 0x1E
+  counts-letter : (bytes : Past ℕ) → scancodeAfter (lamps side) bytes [] (0x1E ∷ []) [] ≡ some 0x1E
   unfolding scancodeAfter scancode flagTable isOf pressesLock
   counts-letter bytes = refl
 
-  none-caught : (bytes : Past ℕ) → waitingAfter lamps bytes [] (0x1E ∷ []) [] ≡ []
+  none-caught : (bytes : Past ℕ) → waitingAfter (lamps side) bytes [] (0x1E ∷ []) [] ≡ []
   unfolding behindAfter joinedAfter thrownAfter caught scancodeAfter scancode flagTable isOf pressesLock
   none-caught bytes = refl
 
-  none-wait : (n : ℕ) → waits lamps (pressesOfA n) ≡ []
-  unfolding waits pressesOfA
-  none-wait zero = refl
-  none-wait (suc n) = rw (none-wait n) (none-caught (counted lamps (pressesOfA n)))
+  module _ {calls : Past Call} (q : Quiet calls) where
+    pub quiet-letter : Quiet (letter calls)
+    unfolding counted waits
+    quiet-letter =
+        let more = own-more keyboards calls side (0x1E ∷ []) [] at in
+        record {
+          no-flags = rw (more, q .none-wait, counts-letter (countedOf keyboards lamps side calls)) (said-letter (countedOf keyboards lamps side calls) ∙ q .no-flags);
+          none-wait = rw (more, q .none-wait) (none-caught (countedOf keyboards lamps side calls));
+        }
 
-  counted-letter : (n : ℕ) → counted lamps (pressesOfA (suc n)) ≡ counted lamps (pressesOfA n) ▸ 0x1E
-  unfolding counted pressesOfA
-  counted-letter n = rw (none-wait n) (ap (count (counted lamps (pressesOfA n))) (counts-letter (counted lamps (pressesOfA n))))
+    scanned-letter : scancodeOf keyboards lamps calls side (0x1E ∷ []) [] ≡ some 0x1E
+    unfolding scancodeOf
+    scanned-letter = rw (at, q .none-wait) (counts-letter (countedOf keyboards lamps side calls))
 
-  said-letter : (bytes : Past ℕ) → flagsSaid (bytes ▸ 0x1E) ≡ flagsSaid bytes
-  said-letter bytes = flags-more bytes 0x1E ∙ letter-flags (prefixSaid bytes) (flagsSaid bytes)
+    new-letter : (es : List (Sided KeyEvent)) → newly keyboards lamps calls es side (0x1E ∷ []) [] ≡ givenTo keyboards side es (A-pressed ∷ [])
+    unfolding newly eventGiven
+    new-letter es = rw (scanned-letter, said-letter (countedOf keyboards lamps side calls), q .no-flags, letter-event)
 
-  no-flags : (n : ℕ) → flagsSaid (counted lamps (pressesOfA n)) ≡ 0
-  no-flags zero = unfold counted pressesOfA in flags-none
-  no-flags (suc n) = ap flagsSaid (counted-letter n) ∙ said-letter (counted lamps (pressesOfA n)) ∙ no-flags n
+    pub row-letter : {es : List (Sided KeyEvent)} → row keyboards lamps calls ≡ es → row keyboards lamps (letter calls) ≡ es ++ lessMet (givenTo keyboards side es (A-pressed ∷ []))
+    unfolding row
+    row-letter e = rw (new-letter (row keyboards lamps calls), e)
 
-  letter-event : eventOf 0x1E 0 ≡ A-pressed
-  unfolding eventOf keycodeAt keycodeOf numbered keycodes
-  letter-event = refl
+    pub meets-letter : (n : ℕ) {es : List (Sided KeyEvent)} → row keyboards lamps calls ≡ es
+        → meetsWith keyboards lamps n (letter calls) ≡ meetsWith keyboards lamps n calls ▸ endsWith n (yields (meets keyboards side (sidesIn es)))
+    unfolding meetsWith
+    meets-letter n {es} e = rw (new-letter (row keyboards lamps calls), e, met-one keyboards side es A-pressed n)
 
-  new-letter : (bytes : Past ℕ) {ws : List ℕ} (es : List KeyEvent) → ws ≡ [] → flagsSaid bytes ≡ 0 → newly lamps bytes ws es (0x1E ∷ []) [] ≡ givenTo es (A-pressed ∷ [])
-  unfolding newly eventGiven
-  new-letter bytes es q e =
-      ap (λ (ws : List ℕ). newly lamps bytes ws es (0x1E ∷ []) []) q
-      ∙ ap (λ (sc : Option ℕ). givenTo es (eventOfCall bytes sc)) (counts-letter bytes)
-      ∙ ap (λ (w : ℕ). givenTo es (eventOf 0x1E w ∷ [])) (said-letter bytes ∙ e)
-      ∙ ap (λ (k : KeyEvent). givenTo es (k ∷ [])) letter-event
+    pub given-letter : {es : List (Sided KeyEvent)} → row keyboards lamps calls ≡ es
+        → given keyboards lamps (letter calls) ≡ given keyboards lamps calls ++ givenTo keyboards side es (A-pressed ∷ [])
+    unfolding given
+    given-letter e = rw (new-letter (row keyboards lamps calls), e)
 
-  row-letter : (n : ℕ) → row lamps (pressesOfA (suc n)) ≡ row lamps (pressesOfA n) ++ lessMet (givenTo (row lamps (pressesOfA n)) (A-pressed ∷ []))
-  unfolding row pressesOfA
-  row-letter n = ap (λ (gs : List Given). row lamps (pressesOfA n) ++ lessMet gs) (new-letter (counted lamps (pressesOfA n)) (row lamps (pressesOfA n)) (none-wait n) (no-flags n))
+  -- ---- from a fresh record: a row that fills, and then takes no more
 
-  row-none : row lamps (pressesOfA 0) ≡ []
-  unfolding row pressesOfA
+  abbrev presses : ℕ → Past Call
+  presses n = thenPresses side n nothing
+
+  quiet-presses : (n : ℕ) → Quiet (presses n)
+  unfolding thenPresses
+  quiet-presses zero = quiet-none
+  quiet-presses (suc n) = quiet-letter (quiet-presses n)
+
+  row-none : row keyboards lamps (presses 0) ≡ []
+  unfolding row thenPresses
   row-none = refl
 
-  -- up to 128 presses wait
-  pub row-fills : (n : ℕ) → n ≤ 128 → row lamps (pressesOfA n) ≡ replicate n A-pressed
+  -- up to 128 presses wait at a table with one keyboard, up to 96 at one with two
+  pub row-fills : (n : ℕ) → n ≤ most keyboards → row keyboards lamps (presses n) ≡ letters side n
+  unfolding thenPresses
   row-fills zero h = row-none
   row-fills (suc n) h =
-      let ih = row-fills n (omega arith) in
-      let few : length (row lamps (pressesOfA n)) < 128 = rw (ih, length-replicate n A-pressed) (omega arith) in
-      row-letter n ∙ rw (less-room (row lamps (pressesOfA n)) A-pressed few, ih) (replicate-more n A-pressed)
+      row-letter (quiet-presses n) (row-fills n (omega arith))
+      ∙ rw (less-room keyboards side (letters side n) A-pressed (letters-free keyboards side n (omega arith))) (replicate-more n (sided side A-pressed))
 
-  -- and no more: every further press meets 128 waiting
-  full-length : (m : ℕ) → row lamps (pressesOfA m) ≡ replicate 128 A-pressed → 128 ≤ length (row lamps (pressesOfA m))
-  full-length m e = rw e (omega (arith, length-replicate 128 A-pressed))
-
-  pub row-full : (m : ℕ) → row lamps (pressesOfA (m + 128)) ≡ replicate 128 A-pressed
-  row-full zero = row-fills 128 (omega arith)
+  -- and no more: every further press meets 20, or 31
+  pub row-full : (m : ℕ) → row keyboards lamps (presses (m + most keyboards)) ≡ letters side (most keyboards)
+  unfolding thenPresses
+  row-full zero = rw zero-add (row-fills (most keyboards) (omega arith))
   row-full (suc m) =
-      let ih = row-full m in
-      rw suc-add (row-letter (m + 128)
-      ∙ rw (less-full (row lamps (pressesOfA (m + 128))) A-pressed (full-length (m + 128) ih), append-nil (row lamps (pressesOfA (m + 128)))) ih)
+      rw suc-add (row-letter (quiet-presses (m + most keyboards)) (row-full m)
+      ∙ rw (less-full keyboards side (letters side (most keyboards)) A-pressed (letters-full keyboards side)) (append-nil (letters side (most keyboards))))
 
-  meets-letter : (n : ℕ) → meets lamps (pressesOfA (suc n)) ≡ meets lamps (pressesOfA n) ▸ anyMet (givenTo (row lamps (pressesOfA n)) (A-pressed ∷ []))
-  unfolding meets pressesOfA
-  meets-letter n = ap (λ (gs : List Given). meets lamps (pressesOfA n) ▸ anyMet gs) (new-letter (counted lamps (pressesOfA n)) (row lamps (pressesOfA n)) (none-wait n) (no-flags n))
+  pub meets-full : (n m : ℕ) → meetsWith keyboards lamps n (presses (suc (m + most keyboards)))
+      ≡ meetsWith keyboards lamps n (presses (m + most keyboards)) ▸ endsWith n (yields (refuses (oneMoreMeets keyboards)))
+  unfolding thenPresses
+  meets-full n m = meets-letter (quiet-presses (m + most keyboards)) n (row-full m) ∙ rw (letters-full keyboards side)
 
-  meets-full : (m : ℕ) → meets lamps (pressesOfA (suc (m + 128))) ≡ meets lamps (pressesOfA (m + 128)) ▸ true
-  meets-full m =
-      meets-letter (m + 128)
-      ∙ ap (λ (c : Bool). meets lamps (pressesOfA (m + 128)) ▸ c) (met-full (row lamps (pressesOfA (m + 128))) A-pressed (full-length (m + 128) (row-full m)))
+  no-takings : (n : ℕ) → takings keyboards lamps (presses n) ≡ nothing
+  unfolding takings thenPresses
+  no-takings zero = refl
+  no-takings (suc n) = no-takings n
 
+-- ---- takings
+
+module _ {A : Type 0} (keyboards : Keyboards) (lamps : Side → ℕ → Exchange (Answer A)) where
   -- takings take the row's first ones, and give no event
-  pub row-drained : (k : ℕ) (calls : Past Call) → row lamps (thenTakings k calls) ≡ drop k (row lamps calls)
+  pub row-drained : (k : ℕ) (calls : Past Call) → row keyboards lamps (thenTakings k calls) ≡ drop k (row keyboards lamps calls)
   unfolding row thenTakings
   row-drained zero calls = refl
-  row-drained (suc k) calls = ap rest (row-drained k calls) ∙ drop-more k (row lamps calls)
+  row-drained (suc k) calls = ap rest (row-drained k calls) ∙ drop-more k (row keyboards lamps calls)
 
-  given-drained : (k : ℕ) (calls : Past Call) → given lamps (thenTakings k calls) ≡ given lamps calls
+  given-drained : (k : ℕ) (calls : Past Call) → given keyboards lamps (thenTakings k calls) ≡ given keyboards lamps calls
   unfolding given thenTakings
   given-drained zero calls = refl
   given-drained (suc k) calls = given-drained k calls
 
-  no-takings : (n : ℕ) → takings lamps (pressesOfA n) ≡ nothing
-  unfolding takings pressesOfA
-  no-takings zero = refl
-  no-takings (suc n) = no-takings n
+  own-drained : (t : Side) (k : ℕ) (calls : Past Call) → own keyboards t (thenTakings k calls) ≡ own keyboards t calls
+  unfolding own thenTakings
+  own-drained t zero calls = refl
+  own-drained t (suc k) calls = own-drained t k calls
 
-  -- 130 presses, then 128 takings
+-- ---- one keyboard: 130 presses, of which 128 wait and two are refused; all are taken; after one taking a press takes the place that was freed
+
+module _ {A : Type 0} (lamps : Side → ℕ → Exchange (Answer A)) where
   abbrev filled : Past Call
-  filled = pressesOfA 130
+  filled = thenPresses Side.First 130 nothing
 
   abbrev drained : Past Call
   drained = thenTakings 128 filled
 
+  filled-row : row Keyboards.One lamps filled ≡ letters Side.First 128
+  filled-row = row-full Keyboards.One lamps Side.First refl 2
+
   -- the queue then holds 128 events
-  pub full-waits : waiting (after lamps filled) ≡ replicate 128 A-pressed
-  full-waits = history lamps filled .queue ∙ row-full 2
+  pub full-waits : waiting (after Keyboards.One lamps filled) ≡ letters Side.First 128
+  full-waits = history Keyboards.One lamps filled .queue ∙ filled-row
 
   -- the last two presses were answered 20
-  pub full-answers : each ends20 (answers lamps filled) ≡ each ends20 (answers lamps (pressesOfA 128)) ▸ true ▸ true
+  pub full-answers : each (endsWith 20) (answers Keyboards.One lamps filled) ≡ each (endsWith 20) (answers Keyboards.One lamps (thenPresses Side.First 128 nothing)) ▸ true ▸ true
   full-answers =
-      history lamps filled .answers-20 ∙ meets-full 1
-      ∙ ap (λ (p : Past Bool). p ▸ true) (meets-full 0 ∙ ap (λ (p : Past Bool). p ▸ true) (sym (history lamps (pressesOfA 128) .answers-20)))
+      history Keyboards.One lamps filled .answers-20 ∙ meets-full Keyboards.One lamps Side.First refl 20 1
+      ∙ ap (λ (p : Past Bool). p ▸ true) (meets-full Keyboards.One lamps Side.First refl 20 0
+      ∙ ap (λ (p : Past Bool). p ▸ true) (sym (history Keyboards.One lamps (thenPresses Side.First 128 nothing) .answers-20)))
 
   -- the takings bring the 128, and leave the queue empty
-  pub drained-waits : waiting (after lamps drained) ≡ []
-  drained-waits = history lamps drained .queue ∙ row-drained 128 filled ∙ ap (drop 128) (row-full 2)
+  pub drained-waits : waiting (after Keyboards.One lamps drained) ≡ []
+  drained-waits = history Keyboards.One lamps drained .queue ∙ row-drained Keyboards.One lamps 128 filled ∙ ap (drop 128) filled-row
 
-  pub drained-taken : eventsTaken (takings lamps drained) ≡ replicate 128 A-pressed
+  pub drained-taken : eventsTaken (takings Keyboards.One lamps drained) ≡ letters Side.First 128
   unfolding eventsTaken
   drained-taken =
-      sym (append-nil (eventsTaken (takings lamps drained)))
-      ∙ ap (λ (l : List KeyEvent). eventsTaken (takings lamps drained) ++ l) (sym drained-waits)
-      ∙ history lamps drained .taken-then-waiting
-      ∙ ap lessMet (given-drained 128 filled)
-      ∙ sym (history lamps filled .taken-then-waiting)
-      ∙ ap₂ {C = List KeyEvent} (λ (t : Past (Answer (Option KeyEvent))) (l : List KeyEvent). eventsTaken t ++ l) (no-takings 130) full-waits
+      sym (append-nil (eventsTaken (takings Keyboards.One lamps drained)))
+      ∙ ap (λ (l : List (Sided KeyEvent)). eventsTaken (takings Keyboards.One lamps drained) ++ l) (sym drained-waits)
+      ∙ history Keyboards.One lamps drained .taken-then-waiting
+      ∙ ap lessMet (given-drained Keyboards.One lamps 128 filled)
+      ∙ sym (history Keyboards.One lamps filled .taken-then-waiting)
+      ∙ ap₂ {C = List (Sided KeyEvent)} (λ (t : Past (Answer (Option (Sided KeyEvent)))) (l : List (Sided KeyEvent)). eventsTaken t ++ l) (no-takings Keyboards.One lamps Side.First refl 130) full-waits
 
   -- a further taking answers none
-  pub drained-none : takings lamps (drained ▸ taking) ≡ takings lamps drained ▸ gives none
+  pub drained-none : takings Keyboards.One lamps (drained ▸ taking) ≡ takings Keyboards.One lamps drained ▸ gives none
   drained-none =
-      history lamps (drained ▸ taking) .taking-answers ∙ removed-next
-      ∙ ap₂ {C = Past (Answer (Option KeyEvent))} (λ (p : Past (Answer (Option KeyEvent))) (l : List KeyEvent). p ▸ first l) (sym (history lamps drained .taking-answers)) (sym (history lamps drained .queue) ∙ drained-waits)
+      history Keyboards.One lamps (drained ▸ taking) .taking-answers ∙ removed-next
+      ∙ ap₂ {C = Past (Answer (Option (Sided KeyEvent)))} (λ (p : Past (Answer (Option (Sided KeyEvent)))) (l : List (Sided KeyEvent)). p ▸ first l)
+      (sym (history Keyboards.One lamps drained .taking-answers)) (sym (history Keyboards.One lamps drained .queue) ∙ drained-waits)
     where
-      removed-next : removed lamps (drained ▸ taking) ≡ removed lamps drained ▸ first (row lamps drained)
+      removed-next : removed Keyboards.One lamps (drained ▸ taking) ≡ removed Keyboards.One lamps drained ▸ first (row Keyboards.One lamps drained)
       removed-next = unfold removed in refl
 
   -- after one taking from the full queue, a press takes the place that was freed
   abbrev refilled : Past Call
-  refilled = thenTakings 1 filled ▸ handling (0x1E ∷ []) []
+  refilled = letter Keyboards.One lamps Side.First refl (thenTakings 1 filled)
 
-  counted-drained : (k : ℕ) (calls : Past Call) → counted lamps (thenTakings k calls) ≡ counted lamps calls
-  unfolding counted thenTakings
-  counted-drained zero calls = refl
-  counted-drained (suc k) calls = counted-drained k calls
+  row-one-off : row Keyboards.One lamps (thenTakings 1 filled) ≡ letters Side.First 127
+  row-one-off = row-drained Keyboards.One lamps 1 filled ∙ ap (drop 1) filled-row
 
-  waits-drained : (k : ℕ) (calls : Past Call) → waits lamps (thenTakings k calls) ≡ waits lamps calls
-  unfolding waits thenTakings
-  waits-drained zero calls = refl
-  waits-drained (suc k) calls = waits-drained k calls
+  quiet-one-off : Quiet Keyboards.One lamps Side.First refl (thenTakings 1 filled)
+  quiet-one-off =
+      let q = quiet-presses Keyboards.One lamps Side.First refl 130 in
+      let o = own-drained Keyboards.One lamps Side.First 1 filled in
+      record { no-flags = rw o (q .no-flags); none-wait = rw o (q .none-wait) }
 
-  row-one-off : row lamps (thenTakings 1 filled) ≡ replicate 127 A-pressed
-  row-one-off = row-drained 1 filled ∙ ap (drop 1) (row-full 2)
+  pub refilled-waits : waiting (after Keyboards.One lamps refilled) ≡ letters Side.First 128
+  refilled-waits =
+      history Keyboards.One lamps refilled .queue ∙ row-letter Keyboards.One lamps Side.First refl quiet-one-off row-one-off
+      ∙ rw (less-room Keyboards.One Side.First (letters Side.First 127) A-pressed (letters-free Keyboards.One Side.First 127 (omega arith))) (replicate-more 127 (sided Side.First A-pressed))
 
-  row-refilled : row lamps refilled ≡ replicate 128 A-pressed
-  unfolding row
-  row-refilled =
-      let es = row lamps (thenTakings 1 filled) in
-      let bytes = counted lamps (thenTakings 1 filled) in
-      let none = ap flagsSaid (counted-drained 1 filled) ∙ no-flags 130 in
-      let few : length es < 128 = rw row-one-off (omega arith) in
-      ap (λ (gs : List Given). es ++ lessMet gs) (new-letter bytes es (waits-drained 1 filled ∙ none-wait 130) none)
-      ∙ ap (λ (l : List KeyEvent). es ++ l) (less-room es A-pressed few)
-      ∙ ap (λ (l : List KeyEvent). l ++ (A-pressed ∷ [])) row-one-off
-      ∙ replicate-more 127 A-pressed
+-- ---- two keyboards: 200 presses of the first side, of which 96 wait, and then one of the second, which still gets its place
 
-  pub refilled-waits : waiting (after lamps refilled) ≡ replicate 128 A-pressed
-  refilled-waits = history lamps refilled .queue ∙ row-refilled
+module _ {A : Type 0} (lamps : Side → ℕ → Exchange (Answer A)) where
+  abbrev crowded : Past Call
+  crowded = thenPresses Side.First 200 nothing
+
+  abbrev heard : Past Call
+  heard = letter Keyboards.Two lamps Side.Second refl crowded
+
+  crowded-row : row Keyboards.Two lamps crowded ≡ letters Side.First 96
+  crowded-row = row-full Keyboards.Two lamps Side.First refl 104
+
+  -- the second side has sent nothing yet
+  own-crowded : (n : ℕ) → own Keyboards.Two Side.Second (thenPresses Side.First n nothing) ≡ nothing
+  unfolding own thenPresses
+  own-crowded zero = refl
+  own-crowded (suc n) = own-crowded n
+
+  quiet-second : Quiet Keyboards.Two lamps Side.Second refl crowded
+  unfolding counted waits
+  quiet-second = record { no-flags = rw (own-crowded 200) flags-none; none-wait = rw (own-crowded 200) }
+
+  none-of-second : (n : ℕ) → countOf Side.Second (sidesIn (letters Side.First n)) ≡ 0
+  unfolding countOf sidesIn
+  none-of-second zero = refl
+  none-of-second (suc n) = omega (arith, none-of-second n)
+
+  second-free : meets Keyboards.Two Side.Second (sidesIn (letters Side.First 96)) ≡ gives success
+  second-free =
+      meets-free Keyboards.Two Side.Second (sidesIn (letters Side.First 96)) (λ e. omega (arith, none-of-second 96)) (omega (arith, length-letters Side.First 96))
+
+  pub crowded-waits : waiting (after Keyboards.Two lamps crowded) ≡ letters Side.First 96
+  crowded-waits = history Keyboards.Two lamps crowded .queue ∙ crowded-row
+
+  pub heard-waits : waiting (after Keyboards.Two lamps heard) ≡ letters Side.First 96 ++ (sided Side.Second A-pressed ∷ [])
+  heard-waits =
+      history Keyboards.Two lamps heard .queue ∙ row-letter Keyboards.Two lamps Side.Second refl quiet-second crowded-row
+      ∙ rw (less-room Keyboards.Two Side.Second (letters Side.First 96) A-pressed second-free)
+
+  -- the 200th press was answered 31, the second side's neither 31 nor 20
+  pub crowded-answers : each (endsWith 31) (answers Keyboards.Two lamps heard) ≡ each (endsWith 31) (answers Keyboards.Two lamps (thenPresses Side.First 199 nothing)) ▸ true ▸ false
+  crowded-answers =
+      history Keyboards.Two lamps heard .answers-31 ∙ meets-letter Keyboards.Two lamps Side.Second refl quiet-second 31 crowded-row
+      ∙ ap₂ {C = Past Bool} (λ (p : Past Bool) (x : Answer Success). p ▸ endsWith 31 (yields x)) (meets-full Keyboards.Two lamps Side.First refl 31 103) second-free
+      ∙ ap (λ (p : Past Bool). p ▸ true ▸ false) (sym (history Keyboards.Two lamps (thenPresses Side.First 199 nothing) .answers-31))
+
+-- ---- a side that is not at the table: its call ends in 21 and counts nothing
+
+pub absent-answers : {A : Type 0} (lamps : Side → ℕ → Exchange (Answer A))
+    → answers Keyboards.One lamps (nothing ▸ handling Side.Second (0x1E ∷ []) []) ≡ nothing ▸ yields (refuses 21)
+unfolding answers after handled effects handle callFormed play
+absent-answers lamps = refl
+
+-- ---- closed examples, at a table with one keyboard
+
+-- the short lamp exchange, for either side
+abbrev oneShort : Side → ℕ → Exchange (Answer ℕ)
+oneShort side = shortLamps
+
+abbrev first-press : Keycode → ℕ → Sided KeyEvent
+first-press key flags = sided Side.First (press key flags)
 
 -- ---- a lamp exchange that fails: 14 is shown, the lock is on, its event waits
 
-pub failing-handled : handled shortLamps fresh (0x3A ∷ 0xFE ∷ []) fourFree
-    ≡ record { end = yields (gives success); lamps = refuses 14; used = 2; pairs = 2; handler = after shortLamps failingLamps; dropped = 0 }
-unfolding after leaves handled effects handle onByte lampExchange keeping decode bytesFrom play bind wellFormed flagTable flagLimit isOf pressesLock queued
+pub failing-handled : handled oneShort Side.First (fresh Keyboards.One) (0x3A ∷ 0xFE ∷ []) fourFree
+    ≡ record { end = yields (gives success); lamps = refuses 14; used = 2; pairs = 2; handler = after Keyboards.One oneShort failingLamps; dropped = 0 }
+unfolding after leaves handled effects handle callFormed keyboardFormed keyCall onByte keyEvent lampExchange keeping decode bytesFrom play bind wellFormed flagTable meets countOf bitSides withSide named flagLimit isOf pressesLock
 failing-handled = refl
 
-pub failing-log : logLeft shortLamps (fresh .state) (0x3A ∷ 0xFE ∷ []) fourFree ≡ 0x60 ∷ 0xED ∷ 0x60 ∷ 0x04 ∷ []
-unfolding logLeft handle onByte lampExchange keeping decode bytesFrom play bind wellFormed flagTable flagLimit isOf pressesLock lampsLit bit odd flagsThen flagsAfter putBit
+pub failing-log : logLeft oneShort Side.First (fresh Keyboards.One .state) (0x3A ∷ 0xFE ∷ []) fourFree ≡ 0x60 ∷ 0xED ∷ 0x60 ∷ 0x04 ∷ []
+unfolding logLeft handle callFormed keyboardFormed keyCall onByte keyEvent lampExchange keeping decode bytesFrom play bind wellFormed flagTable meets countOf bitSides withSide named flagLimit isOf pressesLock lampsLit bit odd flagsThen flagsAfter putBit
 failing-log = refl
 
-pub failing-flags : after shortLamps failingLamps .state .keyboard .modifiers .bits ≡ 0x80
-unfolding after leaves handled effects handle onByte lampExchange keeping decode bytesFrom play bind wellFormed flagTable flagLimit isOf pressesLock lampsLit bit odd flagsThen flagsAfter putBit queued
+pub failing-flags : after Keyboards.One oneShort failingLamps .state .first .modifiers .bits ≡ 0x80
+unfolding after leaves handled effects handle callFormed keyboardFormed keyCall onByte keyEvent lampExchange keeping decode bytesFrom play bind wellFormed flagTable meets countOf bitSides withSide named flagLimit isOf pressesLock lampsLit bit odd flagsThen flagsAfter putBit
 failing-flags = refl
 
-pub failing-waits : waiting (after shortLamps failingLamps) ≡ press Keycode.CapsLock 0x80 ∷ []
-unfolding after leaves handled effects handle onByte lampExchange keeping decode bytesFrom play bind wellFormed flagTable flagLimit isOf pressesLock lampsLit bit odd flagsThen flagsAfter putBit queued round eventOf keycodeAt keycodeOf numbered keycodes
+pub failing-waits : waiting (after Keyboards.One oneShort failingLamps) ≡ first-press Keycode.CapsLock 0x80 ∷ []
+unfolding after leaves handled effects handle callFormed keyboardFormed keyCall onByte keyEvent lampExchange keeping decode bytesFrom play bind wellFormed flagTable meets countOf bitSides withSide named flagLimit isOf pressesLock lampsLit bit odd flagsThen flagsAfter putBit round eventOf keycodeAt keycodeOf numbered keycodes
 failing-waits = refl
 
 -- an exchange that succeeds shows nothing
-pub lit-handled : handled shortLamps fresh (0x3A ∷ 0xFA ∷ []) fourFree .lamps ≡ gives success
-unfolding handled effects handle onByte lampExchange keeping decode bytesFrom play bind wellFormed flagTable flagLimit isOf pressesLock queued
+pub lit-handled : handled oneShort Side.First (fresh Keyboards.One) (0x3A ∷ 0xFA ∷ []) fourFree .lamps ≡ gives success
+unfolding handled effects handle callFormed keyboardFormed keyCall onByte keyEvent lampExchange keeping decode bytesFrom play bind wellFormed flagTable meets countOf bitSides withSide named flagLimit isOf pressesLock
 lit-handled = refl
 
 -- ---- a call that ends in 2 inside its lamp exchange: its byte is left out, and the calls after it count as if it had not been made
 
-pub cut-answers : answers shortLamps cutInLamps ≡ nothing ▸ lacks (noScript p60) ▸ yields (gives success) ▸ yields (gives success)
-unfolding answers after leaves handled effects handle onByte lampExchange keeping decode bytesFrom play bind wellFormed flagTable flagLimit isOf pressesLock lampsLit bit odd flagsThen flagsAfter putBit queued
+pub cut-answers : answers Keyboards.One oneShort cutInLamps ≡ nothing ▸ lacks (noScript p60) ▸ yields (gives success) ▸ yields (gives success)
+unfolding answers after leaves handled effects handle callFormed keyboardFormed keyCall onByte keyEvent lampExchange keeping decode bytesFrom play bind wellFormed flagTable meets countOf bitSides withSide named flagLimit isOf pressesLock lampsLit bit odd flagsThen flagsAfter putBit
 cut-answers = refl
 
-pub cut-counted : counted shortLamps cutInLamps ≡ nothing ▸ 0x3A ▸ 0x1E
-unfolding counted waits behindAfter joinedAfter thrownAfter caught scancodeAfter scancode keeping decode play flagTable isOf pressesLock
+pub cut-counted : countedOf Keyboards.One oneShort Side.First cutInLamps ≡ nothing ▸ 0x3A ▸ 0x1E
+unfolding own counted waits behindAfter joinedAfter thrownAfter caught scancodeAfter scancode keeping decode play flagTable isOf pressesLock
 cut-counted = refl
 
-pub cut-waits : waiting (after shortLamps cutInLamps) ≡ press Keycode.CapsLock 0x80 ∷ press Keycode.A 0x80 ∷ []
-unfolding after leaves handled effects handle onByte lampExchange keeping decode bytesFrom play bind wellFormed flagTable flagLimit isOf pressesLock lampsLit bit odd flagsThen flagsAfter putBit queued round eventOf keycodeAt keycodeOf numbered keycodes
+pub cut-waits : waiting (after Keyboards.One oneShort cutInLamps) ≡ first-press Keycode.CapsLock 0x80 ∷ first-press Keycode.A 0x80 ∷ []
+unfolding after leaves handled effects handle callFormed keyboardFormed keyCall onByte keyEvent lampExchange keeping decode bytesFrom play bind wellFormed flagTable meets countOf bitSides withSide named flagLimit isOf pressesLock lampsLit bit odd flagsThen flagsAfter putBit round eventOf keycodeAt keycodeOf numbered keycodes
 cut-waits = refl

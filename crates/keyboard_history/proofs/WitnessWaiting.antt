@@ -5,7 +5,7 @@ use mathlib.Core.Bool.{true, false}
 use mathlib.Core.List.{[], _∷_}
 use Rattle.bits.specs.Bits.{odd, bit, putBit}
 use Rattle.bits.specs.Table.{decode}
-use Rattle.exchange.specs.Exchange.{play}
+use Rattle.exchange.specs.Exchange.{Exchange, play}
 use Rattle.exchange.specs.Keeping.{keeping}
 use Rattle.keycodes_ascii.specs.declared.Keycode.{Keycode}
 use Rattle.keycodes_ascii.specs.Keycode.{keycodeOf, numbered, keycodes}
@@ -13,82 +13,97 @@ use Rattle.keyboard_scancodes.specs.FlagTable.{flagTable, isOf, pressesLock}
 use Rattle.keyboard_scancodes.specs.Lamps.{lampsLit}
 use Rattle.keyboard_scancodes.specs.Events.{keycodeAt, eventOf}
 use Rattle.keyboard_scancodes.specs.Waiting.{waitingBytes}
-use Rattle.keyboard_record.specs.Queue.{waiting}
+use Prim.Native.Nat.{ℕ}
+use Rattle.exchange.specs.Answer.{Answer}
+use Rattle.keycodes_ascii.specs.declared.KeyEvent.{KeyEvent}
+use Rattle.keyboard_sides.specs.declared.Side.{Side}
+use Rattle.keyboard_sides.specs.Sides.{countOf}
+use Rattle.keyboard_sides.specs.Named.{Sided, sidesIn}
+use Rattle.keyboard_record.specs.declared.Keyboards.{Keyboards}
+use Rattle.keyboard_record.specs.Queue.{meets, waiting}
 use Rattle.keyboard.specs.Answers.{ends2-3-21}
 use Rattle.keyboard.specs.Scancode.{caught, scancode}
 use Rattle.keyboard_history.specs.Past.{nothing, _▸_, each}
 use Rattle.keyboard_history.specs.Said.{prefixSaid, strokes, times, lastWasPress, saidOf, wordOf, flagsSaid, eventGiven}
-use Rattle.keyboard_history.specs.Counted.{scancodeAfter, thrownAfter, behindAfter, joinedAfter, droppedAfter, counted, waits, counts}
+use Rattle.keyboard_history.specs.Counted.{own, scancodeAfter, thrownAfter, behindAfter, joinedAfter, droppedAfter, counted, waits, countedOf, waitsOf, scancodeOf, counts}
 use Rattle.keyboard_history.specs.Waited.{dropped}
 use Rattle.keyboard_history.specs.Row.{lessMet, givenTo, newly, row}
 use Rattle.keyboard_history.specs.Run.{after, answers, reported}
 use Rattle.keyboard_history.specs.Examples.{press, untilFA, patientLamps, letterInLamps, seventeen, lockWaits, lockFirstOf16, waitingCut, waitingLit}
+use Rattle.keyboard_history.proofs.Row.{sided}
 use Rattle.keyboard_history.proofs.History.{history}
+
+-- the patient lamp exchange, for either side, at a table with one keyboard
+abbrev patient : Side → ℕ → Exchange (Answer ℕ)
+patient side = patientLamps
+
+abbrev first-press : Keycode → ℕ → Sided KeyEvent
+first-press key flags = sided Side.First (press key flags)
 
 -- ---- a letter typed during Caps Lock's lamp exchange gives its event in the next call, which has no script
 
-letter-row : row patientLamps letterInLamps ≡ press Keycode.CapsLock 0x80 ∷ press Keycode.A 0x80 ∷ []
-unfolding row newly givenTo lessMet counted waits behindAfter joinedAfter thrownAfter caught scancodeAfter scancode keeping decode play untilFA flagsSaid wordOf saidOf times lastWasPress strokes prefixSaid flagTable isOf pressesLock lampsLit putBit odd bit eventGiven eventOf keycodeAt keycodeOf numbered keycodes
+letter-row : row Keyboards.One patient letterInLamps ≡ first-press Keycode.CapsLock 0x80 ∷ first-press Keycode.A 0x80 ∷ []
+unfolding row newly scancodeOf own givenTo sidesIn countOf meets lessMet counted waits behindAfter joinedAfter thrownAfter caught scancodeAfter scancode keeping decode play untilFA flagsSaid wordOf saidOf times lastWasPress strokes prefixSaid flagTable isOf pressesLock lampsLit putBit odd bit eventGiven eventOf keycodeAt keycodeOf numbered keycodes
 letter-row = refl
 
-pub letter-waits : waiting (after patientLamps letterInLamps) ≡ press Keycode.CapsLock 0x80 ∷ press Keycode.A 0x80 ∷ []
-letter-waits = history patientLamps letterInLamps .queue ∙ letter-row
+pub letter-waits : waiting (after Keyboards.One patient letterInLamps) ≡ first-press Keycode.CapsLock 0x80 ∷ first-press Keycode.A 0x80 ∷ []
+letter-waits = history Keyboards.One patient letterInLamps .queue ∙ letter-row
 
 -- ---- 17 bytes come: the earliest 16 wait, and one is reported
 
 seventeen-said :
-    (waits patientLamps seventeen ≡ 0x10 ∷ 0x11 ∷ 0x12 ∷ 0x13 ∷ 0x14 ∷ 0x15 ∷ 0x16 ∷ 0x17 ∷ 0x18 ∷ 0x19 ∷ 0x1A ∷ 0x1B ∷ 0x1C ∷ 0x1D ∷ 0x1E ∷ 0x1F ∷ [])
-    × (dropped patientLamps seventeen ≡ nothing ▸ (0x20 ∷ []))
-unfolding dropped droppedAfter counted waits behindAfter joinedAfter thrownAfter caught scancodeAfter scancode keeping decode play untilFA flagTable isOf pressesLock
+    (waitsOf Keyboards.One patient Side.First seventeen ≡ 0x10 ∷ 0x11 ∷ 0x12 ∷ 0x13 ∷ 0x14 ∷ 0x15 ∷ 0x16 ∷ 0x17 ∷ 0x18 ∷ 0x19 ∷ 0x1A ∷ 0x1B ∷ 0x1C ∷ 0x1D ∷ 0x1E ∷ 0x1F ∷ [])
+    × (dropped patientLamps (own Keyboards.One Side.First seventeen) ≡ nothing ▸ (0x20 ∷ []))
+unfolding own dropped droppedAfter counted waits behindAfter joinedAfter thrownAfter caught scancodeAfter scancode keeping decode play untilFA flagTable isOf pressesLock
 seventeen-said = (refl, refl)
 
-pub seventeen-wait : waitingBytes (after patientLamps seventeen .state .keyboard .waiting)
+pub seventeen-wait : waitingBytes (after Keyboards.One patient seventeen .state .first .waiting)
     ≡ 0x10 ∷ 0x11 ∷ 0x12 ∷ 0x13 ∷ 0x14 ∷ 0x15 ∷ 0x16 ∷ 0x17 ∷ 0x18 ∷ 0x19 ∷ 0x1A ∷ 0x1B ∷ 0x1C ∷ 0x1D ∷ 0x1E ∷ 0x1F ∷ []
-seventeen-wait = history patientLamps seventeen .waiting-bytes ∙ seventeen-said .0
+seventeen-wait = history Keyboards.One patient seventeen .waiting-bytes Side.First ∙ seventeen-said .0
 
-pub seventeen-reported : reported patientLamps seventeen ≡ nothing ▸ 1
+pub seventeen-reported : reported Keyboards.One patient Side.First seventeen ≡ nothing ▸ 1
 unfolding each
-seventeen-reported = history patientLamps seventeen .drops ∙ rw (seventeen-said .1)
+seventeen-reported = history Keyboards.One patient seventeen .drops Side.First ∙ rw (seventeen-said .1)
 
 -- ---- a lock waits among the bytes, and what its own lamp exchange catches waits behind those that waited
 
-lock-row : row patientLamps lockWaits ≡ press Keycode.CapsLock 0x80 ∷ press Keycode.NumLock 0x180 ∷ press Keycode.A 0x180 ∷ press Keycode.B 0x180 ∷ []
-unfolding row newly givenTo lessMet counted waits behindAfter joinedAfter thrownAfter caught scancodeAfter scancode keeping decode play untilFA flagsSaid wordOf saidOf times lastWasPress strokes prefixSaid flagTable isOf pressesLock lampsLit putBit odd bit eventGiven eventOf keycodeAt keycodeOf numbered keycodes
+lock-row : row Keyboards.One patient lockWaits ≡ first-press Keycode.CapsLock 0x80 ∷ first-press Keycode.NumLock 0x180 ∷ first-press Keycode.A 0x180 ∷ first-press Keycode.B 0x180 ∷ []
+unfolding row newly scancodeOf own givenTo sidesIn countOf meets lessMet counted waits behindAfter joinedAfter thrownAfter caught scancodeAfter scancode keeping decode play untilFA flagsSaid wordOf saidOf times lastWasPress strokes prefixSaid flagTable isOf pressesLock lampsLit putBit odd bit eventGiven eventOf keycodeAt keycodeOf numbered keycodes
 lock-row = refl
 
-pub lock-waits : waiting (after patientLamps lockWaits) ≡ press Keycode.CapsLock 0x80 ∷ press Keycode.NumLock 0x180 ∷ press Keycode.A 0x180 ∷ press Keycode.B 0x180 ∷ []
-lock-waits = history patientLamps lockWaits .queue ∙ lock-row
+pub lock-waits : waiting (after Keyboards.One patient lockWaits) ≡ first-press Keycode.CapsLock 0x80 ∷ first-press Keycode.NumLock 0x180 ∷ first-press Keycode.A 0x180 ∷ first-press Keycode.B 0x180 ∷ []
+lock-waits = history Keyboards.One patient lockWaits .queue ∙ lock-row
 
 -- ---- 16 wait, and the oldest is a lock: of two bytes that its exchange catches one finds its place, and one is reported
 
 first-said :
-    (waits patientLamps lockFirstOf16 ≡ 0x10 ∷ 0x11 ∷ 0x12 ∷ 0x13 ∷ 0x14 ∷ 0x15 ∷ 0x16 ∷ 0x17 ∷ 0x18 ∷ 0x19 ∷ 0x1A ∷ 0x1B ∷ 0x1C ∷ 0x1D ∷ 0x1F ∷ 0x1E ∷ [])
-    × (dropped patientLamps lockFirstOf16 ≡ nothing ▸ [] ▸ (0x30 ∷ []))
-unfolding dropped droppedAfter counted waits behindAfter joinedAfter thrownAfter caught scancodeAfter scancode keeping decode play untilFA flagTable isOf pressesLock
+    (waitsOf Keyboards.One patient Side.First lockFirstOf16 ≡ 0x10 ∷ 0x11 ∷ 0x12 ∷ 0x13 ∷ 0x14 ∷ 0x15 ∷ 0x16 ∷ 0x17 ∷ 0x18 ∷ 0x19 ∷ 0x1A ∷ 0x1B ∷ 0x1C ∷ 0x1D ∷ 0x1F ∷ 0x1E ∷ [])
+    × (dropped patientLamps (own Keyboards.One Side.First lockFirstOf16) ≡ nothing ▸ [] ▸ (0x30 ∷ []))
+unfolding own dropped droppedAfter counted waits behindAfter joinedAfter thrownAfter caught scancodeAfter scancode keeping decode play untilFA flagTable isOf pressesLock
 first-said = (refl, refl)
 
-pub first-wait : waitingBytes (after patientLamps lockFirstOf16 .state .keyboard .waiting)
+pub first-wait : waitingBytes (after Keyboards.One patient lockFirstOf16 .state .first .waiting)
     ≡ 0x10 ∷ 0x11 ∷ 0x12 ∷ 0x13 ∷ 0x14 ∷ 0x15 ∷ 0x16 ∷ 0x17 ∷ 0x18 ∷ 0x19 ∷ 0x1A ∷ 0x1B ∷ 0x1C ∷ 0x1D ∷ 0x1F ∷ 0x1E ∷ []
-first-wait = history patientLamps lockFirstOf16 .waiting-bytes ∙ first-said .0
+first-wait = history Keyboards.One patient lockFirstOf16 .waiting-bytes Side.First ∙ first-said .0
 
-pub first-reported : reported patientLamps lockFirstOf16 ≡ nothing ▸ 0 ▸ 1
+pub first-reported : reported Keyboards.One patient Side.First lockFirstOf16 ≡ nothing ▸ 0 ▸ 1
 unfolding each
-first-reported = history patientLamps lockFirstOf16 .drops ∙ rw (first-said .1)
+first-reported = history Keyboards.One patient lockFirstOf16 .drops Side.First ∙ rw (first-said .1)
 
 -- ---- a call that ends in 2 inside the exchange of a lock that waited leaves it waiting, and drops nothing; the next call takes it
 
 lock-cut-said :
-    (counts patientLamps waitingCut ≡ nothing ▸ true ▸ false) × (waits patientLamps waitingCut ≡ 0x45 ∷ [])
-    × (counted patientLamps waitingLit ≡ nothing ▸ 0x3A ▸ 0x45) × (waits patientLamps waitingLit ≡ [])
-unfolding counts counted waits behindAfter joinedAfter thrownAfter caught scancodeAfter scancode keeping decode play untilFA flagTable isOf pressesLock
+    (counts Keyboards.One patient waitingCut ≡ nothing ▸ true ▸ false) × (waitsOf Keyboards.One patient Side.First waitingCut ≡ 0x45 ∷ [])
+    × (countedOf Keyboards.One patient Side.First waitingLit ≡ nothing ▸ 0x3A ▸ 0x45) × (waitsOf Keyboards.One patient Side.First waitingLit ≡ [])
+unfolding counts scancodeOf own counted waits behindAfter joinedAfter thrownAfter caught scancodeAfter scancode keeping decode play untilFA flagTable isOf pressesLock
 lock-cut-said = (refl, refl, refl, refl)
 
-pub lock-cut-ends : each ends2-3-21 (answers patientLamps waitingCut) ≡ nothing ▸ false ▸ true
+pub lock-cut-ends : each ends2-3-21 (answers Keyboards.One patient waitingCut) ≡ nothing ▸ false ▸ true
 unfolding each
-lock-cut-ends = history patientLamps waitingCut .left-out ∙ rw (lock-cut-said .0)
+lock-cut-ends = history Keyboards.One patient waitingCut .left-out ∙ rw (lock-cut-said .0)
 
-pub lock-cut-waits : waitingBytes (after patientLamps waitingCut .state .keyboard .waiting) ≡ 0x45 ∷ []
-lock-cut-waits = history patientLamps waitingCut .waiting-bytes ∙ lock-cut-said .1
+pub lock-cut-waits : waitingBytes (after Keyboards.One patient waitingCut .state .first .waiting) ≡ 0x45 ∷ []
+lock-cut-waits = history Keyboards.One patient waitingCut .waiting-bytes Side.First ∙ lock-cut-said .1
 
-pub lock-lit-waits : waitingBytes (after patientLamps waitingLit .state .keyboard .waiting) ≡ []
-lock-lit-waits = history patientLamps waitingLit .waiting-bytes ∙ lock-cut-said .3
+pub lock-lit-waits : waitingBytes (after Keyboards.One patient waitingLit .state .first .waiting) ≡ []
+lock-lit-waits = history Keyboards.One patient waitingLit .waiting-bytes Side.First ∙ lock-cut-said .3

@@ -8,6 +8,7 @@ use lib.Dec.{eqb}
 use lib.ListN.{getD}
 use Rattle.bits.specs.Bits.{odd}
 use Rattle.scancode_set1.specs.Set1.{releaseOf}
+use Rattle.keyboard_sides.specs.declared.Side.{Side}
 use Rattle.keyboard_history.specs.Past.{Past, nothing, _▸_, onto}
 use Rattle.keyboard_history.specs.Said.{prefixSaid}
 use Rattle.keyboard_scancodes.specs.FlagTable.{Kind, lock, held, left, right}
@@ -21,7 +22,7 @@ pub data AllBytes : Past ℕ → Type 0 where
 -- Every script of the calls holds bytes.
 pub data ByteCalls : Past Call → Type 0 where
   no-calls : ByteCalls nothing
-  one-handling : {past : Past Call} {script log : List ℕ} → ByteCalls past → ((n : ℕ) → getD script n 0 < 256) → ByteCalls (past ▸ handling script log)
+  one-handling : {past : Past Call} {side : Side} {script log : List ℕ} → ByteCalls past → ((n : ℕ) → getD script n 0 < 256) → ByteCalls (past ▸ handling side script log)
   one-taking : {past : Past Call} → ByteCalls past → ByteCalls (past ▸ taking)
 
 -- How many times the byte p came.

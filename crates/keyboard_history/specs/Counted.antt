@@ -1,6 +1,6 @@
--- The calls of a list, which of them count a scancode, and the bytes that wait after them: from scripts and logs, not from answers and without the record.
+-- The calls of a list, those of each side, which of them count a scancode, and the bytes that wait after them: from scripts and logs, not from answers and without the record.
 -- Assumes nothing.
-use mathlib.Core.Bool.{Bool, true}
+use mathlib.Core.Bool.{Bool, true, false, cond, _&&_}
 use mathlib.Core.List.{List, [], _++_}
 use mathlib.Core.Option.{Option, none, some}
 use Prim.Native.Nat.{ℕ, _-_}
@@ -8,14 +8,36 @@ use lib.ListN.{length, take, drop}
 use Rattle.exchange.specs.Exchange.{Exchange}
 use Rattle.exchange.specs.Answer.{Answer}
 use Rattle.ps2_kept.specs.Kept.{keptLimit}
+use Rattle.keyboard_sides.specs.declared.Side.{Side}
+use Rattle.keyboard_sides.specs.Sides.{sameSide}
+use Rattle.keyboard_record.specs.declared.Keyboards.{Keyboards}
+use Rattle.keyboard_record.specs.Record.{atTable}
 use Rattle.keyboard_history.specs.Past.{Past, nothing, _▸_}
 use Rattle.keyboard.specs.Scancode.{Took, takes, isSome, caught, scancode}
 use Rattle.keyboard_history.specs.Said.{flagsSaid}
 
--- A call: of the handler, with its script and its log, or a taking from the queue.
+-- A call: of the handler for a side, with its script and its log, or a taking from the queue.
 pub data Call : Type 0 where
-  handling : List ℕ → List ℕ → Call
+  handling : Side → List ℕ → List ℕ → Call
   taking : Call
+
+-- A handler call as its keyboard sees it: the script and the log that it is lent.
+pub record Lent : Type 0 where
+  pub script : List ℕ
+  pub log : List ℕ
+
+abbrev pub lent : List ℕ → List ℕ → Lent
+lent script log = record { script = script; log = log }
+
+-- The handler calls of a side, in order, "whatever the other sends". A side that is not at the table has none: its calls end in 21.
+abbrev pub ownCall : Bool → Past Lent → Lent → Past Lent
+ownCall true past x = past ▸ x
+ownCall false past x = past
+
+unfoldable pub own : Keyboards → Side → Past Call → Past Lent
+own keyboards side nothing = nothing
+own keyboards side (past ▸ handling s script log) = ownCall (sameSide side s && atTable keyboards s) (own keyboards side past) (lent script log)
+own keyboards side (past ▸ taking) = own keyboards side past
 
 -- The bytes counted, with one more where a call counts one.
 abbrev pub count : Past ℕ → Option ℕ → Past ℕ
@@ -60,23 +82,35 @@ module _ {A : Type 0} (lamps : ℕ → Exchange (Answer A)) where
   abbrev pub waitingAfter : Past ℕ → List ℕ → List ℕ → List ℕ → List ℕ
   waitingAfter bytes waiting script log = behindAfter bytes waiting script log ++ joinedAfter bytes waiting script log
 
-  -- ---- a list of calls
+  -- ---- the calls of one keyboard
 
   unfoldable mutual
-    -- The counted scancodes of a list of calls, in order.
-    pub counted : Past Call → Past ℕ
+    -- The counted scancodes of its calls, in order.
+    pub counted : Past Lent → Past ℕ
     counted nothing = nothing
-    counted (past ▸ handling script log) = count (counted past) (scancodeAfter (counted past) (waits past) script log)
-    counted (past ▸ taking) = counted past
+    counted (past ▸ x) = count (counted past) (scancodeAfter (counted past) (waits past) (x .script) (x .log))
 
-    -- The bytes that wait after it, the oldest first: "a fresh record has none".
-    pub waits : Past Call → List ℕ
+    -- The bytes that wait after them, the oldest first: "a fresh record has none".
+    pub waits : Past Lent → List ℕ
     waits nothing = []
-    waits (past ▸ handling script log) = waitingAfter (counted past) (waits past) script log
-    waits (past ▸ taking) = waits past
+    waits (past ▸ x) = waitingAfter (counted past) (waits past) (x .script) (x .log)
+
+-- ---- a list of calls at a table
+
+module _ {A : Type 0} (keyboards : Keyboards) (lamps : Side → ℕ → Exchange (Answer A)) where
+  -- The counted scancodes of a side, and the bytes of its own that wait: "Each side has its own prefix, flags and waiting bytes (those its own lamp exchanges caught)."
+  abbrev pub countedOf : Side → Past Call → Past ℕ
+  countedOf side calls = counted (lamps side) (own keyboards side calls)
+
+  abbrev pub waitsOf : Side → Past Call → List ℕ
+  waitsOf side calls = waits (lamps side) (own keyboards side calls)
+
+  -- The scancode that a handler call for a side counts after a list of calls, if it counts one; at a table without that side, none.
+  unfoldable pub scancodeOf : Past Call → Side → List ℕ → List ℕ → Option ℕ
+  scancodeOf past side script log = cond (atTable keyboards side) (scancodeAfter (lamps side) (countedOf side past) (waitsOf side past) script log) none
 
   -- Of each handler call of the list, whether it counts a scancode.
   unfoldable pub counts : Past Call → Past Bool
   counts nothing = nothing
-  counts (past ▸ handling script log) = counts past ▸ isSome (scancodeAfter (counted past) (waits past) script log)
+  counts (past ▸ handling side script log) = counts past ▸ isSome (scancodeOf past side script log)
   counts (past ▸ taking) = counts past

@@ -9,6 +9,7 @@ use Rattle.exchange.specs.Answer.{Answer, gives, refuses}
 use Rattle.keycodes_ascii.specs.declared.KeyAction.{KeyAction}
 use Rattle.keycodes_ascii.specs.declared.KeyEvent.{KeyEvent}
 use Rattle.keycodes_ascii.specs.declared.Keycode.{Keycode}
+use Rattle.keyboard_sides.specs.declared.Side.{Side}
 use Rattle.keyboard_history.specs.Past.{Past, nothing, _▸_}
 use Rattle.keyboard_history.specs.Counted.{Call, handling, taking}
 
@@ -16,10 +17,10 @@ use Rattle.keyboard_history.specs.Counted.{Call, handling, taking}
 abbrev pub press : Keycode → ℕ → KeyEvent
 press key flags = record { keycode = key; action = KeyAction.Pressed; modifiers = record { bits = flags } }
 
--- n presses of A: n handler calls, each with the byte 1E for its script and with an empty log.
-unfoldable pub pressesOfA : ℕ → Past Call
-pressesOfA zero = nothing
-pressesOfA (suc n) = pressesOfA n ▸ handling (0x1E ∷ []) []
+-- n presses of A at a side, after some calls: n handler calls, each with the byte 1E for its script and with an empty log.
+unfoldable pub thenPresses : Side → ℕ → Past Call → Past Call
+thenPresses side zero calls = calls
+thenPresses side (suc n) calls = thenPresses side n calls ▸ handling side (0x1E ∷ []) []
 
 -- Some calls, then n takings.
 unfoldable pub thenTakings : ℕ → Past Call → Past Call
@@ -44,34 +45,34 @@ fourFree = 0 ∷ 0 ∷ 0 ∷ 0 ∷ []
 
 -- Caps Lock, whose lamp exchange fails.
 abbrev pub failingLamps : Past Call
-failingLamps = nothing ▸ handling (0x3A ∷ 0xFE ∷ []) fourFree
+failingLamps = nothing ▸ handling Side.First (0x3A ∷ 0xFE ∷ []) fourFree
 
 -- Caps Lock, whose lamp exchange finds the script used up; Caps Lock again, whose lamps are lit; A.
 abbrev pub cutInLamps : Past Call
-cutInLamps = nothing ▸ handling (0x3A ∷ []) fourFree ▸ handling (0x3A ∷ 0xFA ∷ []) fourFree ▸ handling (0x1E ∷ []) []
+cutInLamps = nothing ▸ handling Side.First (0x3A ∷ []) fourFree ▸ handling Side.First (0x3A ∷ 0xFA ∷ []) fourFree ▸ handling Side.First (0x1E ∷ []) []
 
 -- Caps Lock, and A typed during its lamp exchange; then a call without script and log.
 abbrev pub letterInLamps : Past Call
-letterInLamps = nothing ▸ handling (0x3A ∷ 0x1E ∷ 0xFA ∷ []) fourFree ▸ handling [] []
+letterInLamps = nothing ▸ handling Side.First (0x3A ∷ 0x1E ∷ 0xFA ∷ []) fourFree ▸ handling Side.First [] []
 
 -- Caps Lock, and 17 keys during its lamp exchange.
 abbrev pub seventeen : Past Call
 seventeen =
-    nothing ▸ handling (0x3A ∷ 0x10 ∷ 0x11 ∷ 0x12 ∷ 0x13 ∷ 0x14 ∷ 0x15 ∷ 0x16 ∷ 0x17 ∷ 0x18 ∷ 0x19 ∷ 0x1A ∷ 0x1B ∷ 0x1C ∷ 0x1D ∷ 0x1E ∷ 0x1F ∷ 0x20 ∷ 0xFA ∷ []) fourFree
+    nothing ▸ handling Side.First (0x3A ∷ 0x10 ∷ 0x11 ∷ 0x12 ∷ 0x13 ∷ 0x14 ∷ 0x15 ∷ 0x16 ∷ 0x17 ∷ 0x18 ∷ 0x19 ∷ 0x1A ∷ 0x1B ∷ 0x1C ∷ 0x1D ∷ 0x1E ∷ 0x1F ∷ 0x20 ∷ 0xFA ∷ []) fourFree
 
 -- Caps Lock, and Num Lock and A during its lamp exchange; Num Lock, and B during its own; then a call each for A and B.
 abbrev pub lockWaits : Past Call
-lockWaits = nothing ▸ handling (0x3A ∷ 0x45 ∷ 0x1E ∷ 0xFA ∷ []) fourFree ▸ handling (0x30 ∷ 0xFA ∷ []) fourFree ▸ handling [] [] ▸ handling [] []
+lockWaits = nothing ▸ handling Side.First (0x3A ∷ 0x45 ∷ 0x1E ∷ 0xFA ∷ []) fourFree ▸ handling Side.First (0x30 ∷ 0xFA ∷ []) fourFree ▸ handling Side.First [] [] ▸ handling Side.First [] []
 
 -- Caps Lock, and Num Lock and 15 keys during its lamp exchange; Num Lock, and A and B during its own: its place is free for the first of them.
 abbrev pub lockFirstOf16 : Past Call
 lockFirstOf16 =
-    nothing ▸ handling (0x3A ∷ 0x45 ∷ 0x10 ∷ 0x11 ∷ 0x12 ∷ 0x13 ∷ 0x14 ∷ 0x15 ∷ 0x16 ∷ 0x17 ∷ 0x18 ∷ 0x19 ∷ 0x1A ∷ 0x1B ∷ 0x1C ∷ 0x1D ∷ 0x1F ∷ 0xFA ∷ []) fourFree
-    ▸ handling (0x1E ∷ 0x30 ∷ 0xFA ∷ []) fourFree
+    nothing ▸ handling Side.First (0x3A ∷ 0x45 ∷ 0x10 ∷ 0x11 ∷ 0x12 ∷ 0x13 ∷ 0x14 ∷ 0x15 ∷ 0x16 ∷ 0x17 ∷ 0x18 ∷ 0x19 ∷ 0x1A ∷ 0x1B ∷ 0x1C ∷ 0x1D ∷ 0x1F ∷ 0xFA ∷ []) fourFree
+    ▸ handling Side.First (0x1E ∷ 0x30 ∷ 0xFA ∷ []) fourFree
 
 -- Caps Lock, and Num Lock during its lamp exchange; Num Lock, in whose own the script ends after B; and Num Lock again, whose lamps are lit.
 abbrev pub waitingCut : Past Call
-waitingCut = nothing ▸ handling (0x3A ∷ 0x45 ∷ 0xFA ∷ []) fourFree ▸ handling (0x30 ∷ []) fourFree
+waitingCut = nothing ▸ handling Side.First (0x3A ∷ 0x45 ∷ 0xFA ∷ []) fourFree ▸ handling Side.First (0x30 ∷ []) fourFree
 
 abbrev pub waitingLit : Past Call
-waitingLit = waitingCut ▸ handling (0xFA ∷ []) fourFree
+waitingLit = waitingCut ▸ handling Side.First (0xFA ∷ []) fourFree

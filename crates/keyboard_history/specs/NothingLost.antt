@@ -1,4 +1,4 @@
--- Nothing is lost: each byte that the lamp exchange of a counted call threw away was taken by a later call, or still waits, or is among those that its call reported.
+-- Nothing is lost, of either side: each byte that the lamp exchange of a counted call threw away was taken by a later call, or still waits, or is among those that its call reported.
 -- Assumes nothing.
 use mathlib.Core.List.{List, [], _++_}
 use mathlib.Core.Path.{_≡_}
@@ -8,7 +8,10 @@ use Rattle.exchange.specs.Exchange.{Exchange}
 use Rattle.exchange.specs.Answer.{Answer}
 use Rattle.keyboard_scancodes.specs.Waiting.{waitingBytes}
 use Rattle.keyboard_history.specs.Past.{Past, nothing, _▸_}
-use Rattle.keyboard_history.specs.Counted.{Call}
+use Rattle.keyboard_sides.specs.declared.Side.{Side}
+use Rattle.keyboard_record.specs.declared.Keyboards.{Keyboards}
+use Rattle.keyboard_record.specs.Record.{keyboardAt}
+use Rattle.keyboard_history.specs.Counted.{Call, own}
 use Rattle.keyboard_history.specs.Waited.{thrownAway, joined, takenWaiting}
 use Rattle.keyboard_history.specs.Run.{after, reported}
 
@@ -23,9 +26,10 @@ pub data Reported : Past (List ℕ) → Past (List ℕ) → Past ℕ → Type 0 
   one-call : {thrown joined : Past (List ℕ)} {reported : Past ℕ} {room : List ℕ} → Reported thrown joined reported → (others : List ℕ)
       → Reported (thrown ▸ room ++ others) (joined ▸ room) (reported ▸ length others)
 
-module _ {A : Type 0} (lamps : ℕ → Exchange (Answer A)) where
-  pub record NothingLost (calls : Past Call) : Type 0 where
+module _ {A : Type 0} (keyboards : Keyboards) (lamps : Side → ℕ → Exchange (Answer A)) where
+  pub record NothingLost (side : Side) (calls : Past Call) : Type 0 where
     -- Of the bytes that each call's exchange threw away the earliest found room; the others are as many as the call reported.
-    pub others-reported : Reported (thrownAway lamps calls) (joined lamps calls) (reported lamps calls)
+    pub others-reported : Reported (thrownAway (lamps side) (own keyboards side calls)) (joined (lamps side) (own keyboards side calls)) (reported keyboards lamps side calls)
     -- The bytes that found room are, in order, those that later calls took, then those that wait in the record.
-    pub taken-then-waiting : takenWaiting lamps calls ++ waitingBytes (after lamps calls .state .keyboard .waiting) ≡ inOrder (joined lamps calls)
+    pub taken-then-waiting : takenWaiting (lamps side) (own keyboards side calls) ++ waitingBytes (keyboardAt side (after keyboards lamps calls .state) .waiting)
+        ≡ inOrder (joined (lamps side) (own keyboards side calls))

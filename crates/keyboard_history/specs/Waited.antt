@@ -1,4 +1,4 @@
--- What became of the bytes that the lamp exchanges of a list of calls threw away, kept from the list alone.
+-- What became of the bytes that the lamp exchanges of one keyboard's calls threw away, kept from the calls alone.
 -- Assumes nothing.
 use mathlib.Core.List.{List, [], _∷_, _++_}
 use mathlib.Core.Option.{Option, none, some}
@@ -6,7 +6,7 @@ use Prim.Native.Nat.{ℕ}
 use Rattle.exchange.specs.Exchange.{Exchange}
 use Rattle.exchange.specs.Answer.{Answer}
 use Rattle.keyboard_history.specs.Past.{Past, nothing, _▸_}
-use Rattle.keyboard_history.specs.Counted.{Call, handling, taking, scancodeAfter, thrownAfter, joinedAfter, droppedAfter, counted, waits}
+use Rattle.keyboard_history.specs.Counted.{Lent, scancodeAfter, thrownAfter, joinedAfter, droppedAfter, counted, waits}
 
 -- The scancode that a call counts, where it took it from the waiting bytes.
 abbrev pub fromWaiting : Option ℕ → List ℕ → List ℕ
@@ -15,25 +15,21 @@ fromWaiting (some b) [] = []
 fromWaiting (some b) (oldest ∷ waiting) = b ∷ []
 
 module _ {A : Type 0} (lamps : ℕ → Exchange (Answer A)) where
-  -- Of each handler call, the bytes that its lamp exchange threw away where it counted a scancode: all of them; those that found room to wait; and those that found none.
-  unfoldable pub thrownAway : Past Call → Past (List ℕ)
+  -- Of each call, the bytes that its lamp exchange threw away where it counted a scancode: all of them; those that found room to wait; and those that found none.
+  unfoldable pub thrownAway : Past Lent → Past (List ℕ)
   thrownAway nothing = nothing
-  thrownAway (past ▸ handling script log) = thrownAway past ▸ thrownAfter lamps (counted lamps past) (waits lamps past) script log
-  thrownAway (past ▸ taking) = thrownAway past
+  thrownAway (past ▸ x) = thrownAway past ▸ thrownAfter lamps (counted lamps past) (waits lamps past) (x .script) (x .log)
 
-  unfoldable pub joined : Past Call → Past (List ℕ)
+  unfoldable pub joined : Past Lent → Past (List ℕ)
   joined nothing = nothing
-  joined (past ▸ handling script log) = joined past ▸ joinedAfter lamps (counted lamps past) (waits lamps past) script log
-  joined (past ▸ taking) = joined past
+  joined (past ▸ x) = joined past ▸ joinedAfter lamps (counted lamps past) (waits lamps past) (x .script) (x .log)
 
-  unfoldable pub dropped : Past Call → Past (List ℕ)
+  unfoldable pub dropped : Past Lent → Past (List ℕ)
   dropped nothing = nothing
-  dropped (past ▸ handling script log) = dropped past ▸ droppedAfter lamps (counted lamps past) (waits lamps past) script log
-  dropped (past ▸ taking) = dropped past
+  dropped (past ▸ x) = dropped past ▸ droppedAfter lamps (counted lamps past) (waits lamps past) (x .script) (x .log)
 
   -- The scancodes that calls took from the waiting bytes, in order.
-  unfoldable pub takenWaiting : Past Call → List ℕ
+  unfoldable pub takenWaiting : Past Lent → List ℕ
   takenWaiting nothing = []
-  takenWaiting (past ▸ handling script log) =
-      takenWaiting past ++ fromWaiting (scancodeAfter lamps (counted lamps past) (waits lamps past) script log) (waits lamps past)
-  takenWaiting (past ▸ taking) = takenWaiting past
+  takenWaiting (past ▸ x) =
+      takenWaiting past ++ fromWaiting (scancodeAfter lamps (counted lamps past) (waits lamps past) (x .script) (x .log)) (waits lamps past)
