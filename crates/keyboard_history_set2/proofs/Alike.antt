@@ -21,6 +21,7 @@ use Rattle.keyboard_history.specs.Said.{prefixSaid, strokes, said, flagsSaid, e
 use Rattle.keyboard_history.proofs.Flags.{word-after, said-more, flags-more}
 use Rattle.keyboard_history.proofs.Row.{given-none, given-one}
 use Rattle.keyboard_history_set2.specs.SaidSet2.{isPrefixCode, prefixSet2, strokeOf, strokeSet2, strokesSet2, flagsSet2, eventOfStroke, eventOfStrokes, eventSet2, eventsSet2}
+use Rattle.keyboard_history_set2.specs.Turns.{eachSet2, eachSaid}
 use Rattle.keyboard_history_set2.proofs.Says.{says, prefix-says, stroke-says, nonzero-says}
 
 -- each code of the one became the byte of the other
@@ -119,3 +120,9 @@ pub events-reads : {codes : Past Code} {bytes : Past ℕ} → Reads codes bytes 
 unfolding eventsGiven eventsSet2
 events-reads no-reads = refl
 events-reads (one-read {c = c} r q) = ap₂ {C = List KeyEvent} (λ (x y : List KeyEvent). x ++ y) (events-reads r) (event-reads r c q)
+
+-- and the same, one by one
+pub each-reads : {codes : Past Code} {bytes : Past ℕ} → Reads codes bytes → eachSaid bytes ≡ eachSet2 codes
+unfolding eachSaid eachSet2
+each-reads no-reads = refl
+each-reads (one-read {c = c} r q) = ap₂ {C = Past (List KeyEvent)} (λ (past : Past (List KeyEvent)) (es : List KeyEvent). past ▸ es) (each-reads r) (event-reads r c q)

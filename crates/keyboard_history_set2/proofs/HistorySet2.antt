@@ -1,46 +1,102 @@
--- The history rule over set 2 (request 2.2), for every lamp exchange and every list of calls whose counted scancodes are a converted stream.
+-- The history rule over set 2 (request 2.2), for every lamp exchange and every list of calls in which the counted scancodes of a side are a converted stream.
 -- Assumes nothing.
 use mathlib.Core.Path.{_≡_, sym, ap, _∙_, subst, subst⁻¹}
 use mathlib.Core.List.{List}
+use mathlib.Core.Logic.{⊎-elim}
 use Prim.Native.Nat.{ℕ}
 use lib.ListN.{take}
 use Rattle.exchange.specs.Exchange.{Exchange}
 use Rattle.exchange.specs.Answer.{Answer, gives}
 use Rattle.ps2_answers.specs.Refusals.{success}
+use Rattle.keycodes_ascii.specs.declared.KeyEvent.{KeyEvent}
 use Rattle.scancode_set2.specs.Convert.{convertStream}
 use Rattle.scancode_set2.proofs.Laws.{convert-became, convert-done}
+use Rattle.keyboard_sides.specs.declared.Side.{Side}
+use Rattle.keyboard_sides.specs.Named.{ofSide}
+use Rattle.keyboard_record.specs.declared.Keyboards.{Keyboards}
 use Rattle.keyboard_history.specs.Past.{Past, nothing, onto}
-use Rattle.keyboard_history.specs.Counted.{Call, counted}
-use Rattle.keyboard_history.specs.Row.{events, lessMet}
+use Rattle.keyboard_history.specs.Counted.{Call, countedOf}
+use Rattle.keyboard_history.specs.Row.{Given, events, lessMet}
 use Rattle.keyboard_history.proofs.History.{history}
-use Rattle.keyboard_history_set2.specs.Turns.{Turn, rowOf, givenOf, meetsOf, removedOf}
-use Rattle.keyboard_history_set2.specs.HistorySet2.{codesOf, HistorySet2}
-use Rattle.keyboard_history_set2.proofs.Alike.{Reads, reads-all, prefix-reads, flags-reads, events-reads}
+use Rattle.keyboard_history.proofs.Own.{same-side, which-side}
+use Rattle.keyboard_history_set2.specs.Turns.{eachSet2, eachSaid, rowOf, givenOf, meetsOf, removedOf}
+use Rattle.keyboard_history_set2.specs.HistorySet2.{codesOf, RowSaid, oneSet2, HistorySet2, BothSet2}
+use Rattle.keyboard_history_set2.proofs.Alike.{Reads, reads-all, prefix-reads, flags-reads, events-reads, each-reads}
 use Rattle.keyboard_history_set2.proofs.Turns.{row-turns, given-turns, meets-turns, removed-turns, turns-same}
 
-module _ {A : Type 0} (lamps : ℕ → Exchange (Answer A)) where
-  by-reads : (calls : Past Call) (stream : List ℕ) → Reads (codesOf stream) (counted lamps calls) → HistorySet2 lamps calls stream
-  by-reads calls stream r =
-      let h = history lamps calls in
-      let t = turns-same lamps calls (codesOf stream) r in
+module _ {A : Type 0} (keyboards : Keyboards) (lamps : Side → ℕ → Exchange (Answer A)) where
+  -- the row, by whatever says what the counted scancodes give
+  pub row-said : (calls : Past Call) (said : Side → Past (List KeyEvent)) → ((t : Side) → said t ≡ eachSaid (countedOf keyboards lamps t calls)) → RowSaid keyboards lamps calls said
+  row-said calls said is =
+      let h = history keyboards lamps calls in
+      let t = turns-same keyboards lamps calls said is in
       record {
-        flags = h .flags ∙ flags-reads r;
-        prefix = h .prefix ∙ prefix-reads r;
-        code-order = ap (λ (t : Past Turn). events (givenOf t)) (sym t) ∙ ap events (sym (given-turns lamps calls)) ∙ h .byte-order ∙ events-reads r;
-        taking-answers = h .taking-answers ∙ removed-turns lamps calls ∙ ap removedOf t;
-        queue = h .queue ∙ row-turns lamps calls ∙ ap rowOf t;
-        taken-then-waiting = h .taken-then-waiting ∙ ap lessMet (given-turns lamps calls ∙ ap givenOf t);
-        answers-20 = h .answers-20 ∙ meets-turns lamps calls ∙ ap meetsOf t;
+        taking-answers = h .taking-answers ∙ removed-turns keyboards lamps calls ∙ ap (removedOf keyboards) t;
+        queue = h .queue ∙ row-turns keyboards lamps calls ∙ ap (rowOf keyboards) t;
+        taken-then-waiting = h .taken-then-waiting ∙ ap lessMet (given-turns keyboards lamps calls ∙ ap (givenOf keyboards) t);
+        answers-20 = h .answers-20 ∙ meets-turns keyboards lamps 20 calls ∙ ap (meetsOf keyboards 20) t;
+        answers-31 = h .answers-31 ∙ meets-turns keyboards lamps 31 calls ∙ ap (meetsOf keyboards 31) t;
       }
 
-  -- what was used of a stream, however its conversion ended
-  pub history-set2-used : (calls : Past Call) (stream : List ℕ) (room : ℕ) → counted lamps calls ≡ onto nothing (convertStream stream room .bytes)
-      → HistorySet2 lamps calls (take (convertStream stream room .used) stream)
-  history-set2-used calls stream room e =
-      by-reads calls (take (convertStream stream room .used) stream)
-      (subst⁻¹ (λ (bytes : Past ℕ). Reads (codesOf (take (convertStream stream room .used) stream)) bytes) e (reads-all (convert-became stream room)))
+  module _ (side : Side) (calls : Past Call) (stream : List ℕ) (r : Reads (codesOf stream) (countedOf keyboards lamps side calls)) where
+    abbrev OneSays : Side → Type 0
+    OneSays t = oneSet2 keyboards lamps side stream calls t ≡ eachSaid (countedOf keyboards lamps t calls)
 
-  -- a stream that was converted whole
-  pub history-set2 : (calls : Past Call) (stream : List ℕ) (room : ℕ) → counted lamps calls ≡ onto nothing (convertStream stream room .bytes)
-      → convertStream stream room .end ≡ gives success → HistorySet2 lamps calls stream
-  history-set2 calls stream room e d = subst (HistorySet2 lamps calls) (convert-done stream room d) (history-set2-used calls stream room e)
+    own-says : OneSays side
+    own-says = rw (same-side side) (sym (each-reads r))
+
+    one-says : (t : Side) → OneSays t
+    one-says t = ⊎-elim (λ e. subst OneSays (sym e) own-says) (λ d. rw (d .1)) (which-side t side)
+
+    by-reads : HistorySet2 keyboards lamps side calls stream
+    by-reads =
+        let h = history keyboards lamps calls in
+        record {
+          flags = h .flags side ∙ flags-reads r;
+          prefix = h .prefix side ∙ prefix-reads r;
+          code-order =
+              ap (λ (g : List Given). ofSide side (events g)) (sym (given-turns keyboards lamps calls ∙ ap (givenOf keyboards) (turns-same keyboards lamps calls (oneSet2 keyboards lamps side stream calls) one-says)))
+              ∙ h .byte-order side ∙ events-reads r;
+          row = row-said calls (oneSet2 keyboards lamps side stream calls) one-says;
+        }
+
+  by-both : (calls : Past Call) (streams : Side → List ℕ) → ((side : Side) → Reads (codesOf (streams side)) (countedOf keyboards lamps side calls))
+      → BothSet2 keyboards lamps calls streams
+  by-both calls streams rs =
+      record {
+        each-side = λ side. by-reads side calls (streams side) (rs side);
+        row = row-said calls (λ side. eachSet2 (codesOf (streams side))) (λ side. sym (each-reads (rs side)));
+      }
+
+  -- ---- what was used of a stream, however its conversion ended
+
+  abbrev Converted : Side → Past Call → List ℕ → ℕ → Type 0
+  Converted side calls stream room = countedOf keyboards lamps side calls ≡ onto nothing (convertStream stream room .bytes)
+
+  abbrev used : List ℕ → ℕ → List ℕ
+  used stream room = take (convertStream stream room .used) stream
+
+  used-reads : (side : Side) (calls : Past Call) (stream : List ℕ) (room : ℕ) → Converted side calls stream room → Reads (codesOf (used stream room)) (countedOf keyboards lamps side calls)
+  used-reads side calls stream room e = subst⁻¹ (λ (bytes : Past ℕ). Reads (codesOf (used stream room)) bytes) e (reads-all (convert-became stream room))
+
+  pub history-set2-used : (side : Side) (calls : Past Call) (stream : List ℕ) (room : ℕ) → Converted side calls stream room → HistorySet2 keyboards lamps side calls (used stream room)
+  history-set2-used side calls stream room e = by-reads side calls (used stream room) (used-reads side calls stream room e)
+
+  pub both-set2-used : (calls : Past Call) (streams : Side → List ℕ) (rooms : Side → ℕ) → ((side : Side) → Converted side calls (streams side) (rooms side))
+      → BothSet2 keyboards lamps calls (λ side. used (streams side) (rooms side))
+  both-set2-used calls streams rooms es = by-both calls (λ side. used (streams side) (rooms side)) (λ side. used-reads side calls (streams side) (rooms side) (es side))
+
+  -- ---- a stream that was converted whole
+
+  whole-reads : (side : Side) (calls : Past Call) (stream : List ℕ) (room : ℕ) → Converted side calls stream room → convertStream stream room .end ≡ gives success
+      → Reads (codesOf stream) (countedOf keyboards lamps side calls)
+  whole-reads side calls stream room e d =
+      subst (λ (l : List ℕ). Reads (codesOf l) (countedOf keyboards lamps side calls)) (convert-done stream room d) (used-reads side calls stream room e)
+
+  pub history-set2 : (side : Side) (calls : Past Call) (stream : List ℕ) (room : ℕ) → Converted side calls stream room → convertStream stream room .end ≡ gives success
+      → HistorySet2 keyboards lamps side calls stream
+  history-set2 side calls stream room e d = by-reads side calls stream (whole-reads side calls stream room e d)
+
+  pub both-set2 : (calls : Past Call) (streams : Side → List ℕ) (rooms : Side → ℕ) → ((side : Side) → Converted side calls (streams side) (rooms side))
+      → ((side : Side) → convertStream (streams side) (rooms side) .end ≡ gives success) → BothSet2 keyboards lamps calls streams
+  both-set2 calls streams rooms es ds = by-both calls streams (λ side. whole-reads side calls (streams side) (rooms side) (es side) (ds side))

@@ -20,12 +20,15 @@ use Rattle.scancode_set2.specs.Convert.{withTopBit, convertStream}
 use Rattle.scancode_set2.proofs.Table.{entry-above, both, entry-press}
 use Rattle.scancode_set2.proofs.Becomes.{top-bit}
 use Rattle.scancode_set2.proofs.Laws.{convert-became}
+use Rattle.keyboard_sides.specs.declared.Side.{Side}
+use Rattle.keyboard_record.specs.declared.Keyboards.{Keyboards}
+use Rattle.keyboard_record.specs.Record.{keyboardAt}
 use Rattle.keyboard_scancodes.specs.Strokes.{stroke, lowPart, isPress}
 use Rattle.keyboard_scancodes.specs.FlagTable.{Kind, lock, held, left, right, FlagRow, flagRow, flagTable, isOf, has}
 use Rattle.keyboard_scancodes.proofs.Tests.{one-holds}
 use Rattle.keyboard_history.specs.Past.{Past, nothing, _▸_, onto}
 use Rattle.keyboard_history.specs.Said.{prefixSaid, strokes, times, lastWasPress, saidOf, said, flagsSaid}
-use Rattle.keyboard_history.specs.Counted.{Call, counted}
+use Rattle.keyboard_history.specs.Counted.{Call, countedOf}
 use Rattle.keyboard_history.specs.Run.{after}
 use Rattle.keyboard_history.proofs.Flags.{flag-bit}
 use Rattle.keyboard_history.proofs.History.{history}
@@ -177,9 +180,10 @@ flag-codes-said {r} m {codes} {bytes} h =
     flag-bit bytes {r = inSet1 r} (subst (List·Memᴰ (inSet1 r)) flag-codes (in-table m))
     ∙ kind-codes (r .kind) (r .flag) (r .code) (flagged (r .code) (each-in (λ (r : FlagRow). isFlagged (r .code)) all-flagged m)) h
 
--- each flag after a list of calls whose counted scancodes are a converted stream, by the request's sentence on the codes that were used
-module _ {A : Type 0} (lamps : ℕ → Exchange (Answer A)) where
-  pub flag-set2 : (calls : Past Call) (stream : List ℕ) (room : ℕ) {r : FlagRow} → List·Memᴰ r flagCodes → counted lamps calls ≡ onto nothing (convertStream stream room .bytes)
-      → bit (r .flag) (after lamps calls .state .keyboard .modifiers .bits) ≡ demandedSet2 (r .kind) (r .code) (codesOf (take (convertStream stream room .used) stream))
-  flag-set2 calls stream room {r} m e =
-      ap (bit (r .flag)) (history lamps calls .flags ∙ ap flagsSaid e) ∙ flag-codes-said m (reads-all (convert-became stream room))
+-- each flag of a side after a list of calls in which its counted scancodes are a converted stream, by the request's sentence on the codes that were used
+module _ {A : Type 0} (keyboards : Keyboards) (lamps : Side → ℕ → Exchange (Answer A)) where
+  pub flag-set2 : (side : Side) (calls : Past Call) (stream : List ℕ) (room : ℕ) {r : FlagRow} → List·Memᴰ r flagCodes
+      → countedOf keyboards lamps side calls ≡ onto nothing (convertStream stream room .bytes)
+      → bit (r .flag) (keyboardAt side (after keyboards lamps calls .state) .modifiers .bits) ≡ demandedSet2 (r .kind) (r .code) (codesOf (take (convertStream stream room .used) stream))
+  flag-set2 side calls stream room {r} m e =
+      ap (bit (r .flag)) (history keyboards lamps calls .flags side ∙ ap flagsSaid e) ∙ flag-codes-said m (reads-all (convert-became stream room))

@@ -1,10 +1,11 @@
--- Closed examples of the rule over set 2, by computation; the first by the theorem, so that its premise is met by something.
+-- Closed examples of the rule over set 2, by computation; the first by the theorems, so that their premises are met by something.
 -- Assumes nothing.
 use mathlib.Core.Path.{_≡_, refl, _∙_}
 use mathlib.Core.List.{List, [], _∷_}
 use Prim.Native.Nat.{ℕ}
 use Rattle.bits.specs.Bits.{odd, putBit}
-use Rattle.exchange.specs.Answer.{gives}
+use Rattle.exchange.specs.Exchange.{Exchange}
+use Rattle.exchange.specs.Answer.{Answer, gives}
 use Rattle.ps2_answers.specs.Refusals.{success}
 use Rattle.keycodes_ascii.specs.declared.KeyAction.{KeyAction}
 use Rattle.keycodes_ascii.specs.declared.KeyEvent.{KeyEvent}
@@ -14,50 +15,89 @@ use Rattle.scancode_set2.specs.Table.{printed, entryOf}
 use Rattle.scancode_set2.specs.Codes.{alone, afterF0, codes}
 use Rattle.scancode_set2.specs.Convert.{becomes, convertCodes, convertStream}
 use Rattle.keyboard.specs.Scancode.{caught, scancode}
-use Rattle.keyboard_record.specs.Queue.{waiting}
+use Rattle.keyboard_sides.specs.declared.Side.{Side}
+use Rattle.keyboard_sides.specs.Sides.{countOf}
+use Rattle.keyboard_sides.specs.Named.{Sided, sidesIn}
+use Rattle.keyboard_record.specs.declared.Keyboards.{Keyboards}
+use Rattle.keyboard_record.specs.Queue.{meets, waiting}
 use Rattle.keyboard_scancodes.specs.FlagTable.{flagTable, isOf, pressesLock}
-use Rattle.keyboard_scancodes.specs.Events.{keycodeAt}
+use Rattle.keyboard_scancodes.specs.Events.{keycodeAt, eventOf}
 use Rattle.keyboard_history.specs.Past.{Past, nothing, _▸_, onto}
-use Rattle.keyboard_history.specs.Said.{times, lastWasPress, saidOf, wordOf}
-use Rattle.keyboard_history.specs.Counted.{Call, handling, scancodeAfter, thrownAfter, behindAfter, joinedAfter, counted, waits, counts}
+use Rattle.keyboard_history.specs.Said.{prefixSaid, strokes, times, lastWasPress, saidOf, wordOf, flagsSaid, eventGiven}
+use Rattle.keyboard_history.specs.Counted.{Call, handling, taking, own, scancodeAfter, thrownAfter, behindAfter, joinedAfter, counted, waits, countedOf, scancodeOf, counts}
 use Rattle.keyboard_history.specs.Row.{lessMet, givenTo}
 use Rattle.keyboard_history.specs.Run.{after}
 use Rattle.keyboard_history.specs.Examples.{press, shortLamps}
+use Rattle.keyboard_history.proofs.Row.{sided}
 use Rattle.keyboard_history_set2.specs.SaidSet2.{prefixSet2, strokeSet2, strokesSet2, flagsSet2, eventSet2, eventsSet2}
-use Rattle.keyboard_history_set2.specs.Turns.{turns, rowOf}
-use Rattle.keyboard_history_set2.specs.HistorySet2.{codesOf}
-use Rattle.keyboard_history_set2.proofs.HistorySet2.{history-set2}
+use Rattle.keyboard_history_set2.specs.Turns.{eachSet2, eachSaid, turns, rowOf}
+use Rattle.keyboard_history_set2.specs.HistorySet2.{codesOf, oneSet2}
+use Rattle.keyboard_history_set2.proofs.HistorySet2.{history-set2, both-set2}
 
--- ---- Shift, A, and both released
+-- ---- Shift, A, and both released on the second side; meanwhile A on the first, and one event taken
+
+abbrev two : Keyboards
+two = Keyboards.Two
+
+abbrev lamps : Side → ℕ → Exchange (Answer ℕ)
+lamps side = shortLamps
 
 abbrev stream : List ℕ
 stream = 0x12 ∷ 0x1C ∷ 0xF0 ∷ 0x1C ∷ 0xF0 ∷ 0x12 ∷ []
 
--- four handler calls, each with a converted byte
+-- handler calls, each with a converted byte
 abbrev calls : Past Call
-calls = nothing ▸ handling (0x2A ∷ []) [] ▸ handling (0x1E ∷ []) [] ▸ handling (0x9E ∷ []) [] ▸ handling (0xAA ∷ []) []
+calls =
+    nothing ▸ handling Side.Second (0x2A ∷ []) [] ▸ handling Side.First (0x1E ∷ []) [] ▸ handling Side.Second (0x1E ∷ []) [] ▸ taking
+    ▸ handling Side.Second (0x9E ∷ []) [] ▸ handling Side.First (0x9E ∷ []) [] ▸ handling Side.Second (0xAA ∷ []) []
 
 abbrev release : Keycode → ℕ → KeyEvent
 release key flags = record { keycode = key; action = KeyAction.Released; modifiers = record { bits = flags } }
 
-counted-bytes : counted shortLamps calls ≡ onto nothing (convertStream stream 4 .bytes)
-unfolding counted waits behindAfter joinedAfter thrownAfter caught scancodeAfter scancode flagTable isOf pressesLock onto convertCodes codes becomes entryOf printed putBit
+-- The first side's A has no Shift: each side has its own flags.
+abbrev left : List (Sided KeyEvent)
+left =
+    sided Side.First (press Keycode.A 0x000) ∷ sided Side.Second (press Keycode.A 0x001) ∷ sided Side.Second (release Keycode.A 0x001)
+    ∷ sided Side.First (release Keycode.A 0x000) ∷ sided Side.Second (release Keycode.LeftShift 0x000) ∷ []
+
+counted-bytes : countedOf two lamps Side.Second calls ≡ onto nothing (convertStream stream 4 .bytes)
+unfolding own counted waits behindAfter joinedAfter thrownAfter caught scancodeAfter scancode flagTable isOf pressesLock onto convertCodes codes becomes entryOf printed putBit
 counted-bytes = refl
 
 converted-whole : convertStream stream 4 .end ≡ gives success
 unfolding convertCodes codes becomes entryOf printed putBit
 converted-whole = refl
 
--- what the codes say of the row
-row-codes : rowOf (turns shortLamps calls (codesOf stream))
-    ≡ press Keycode.LeftShift 0x001 ∷ press Keycode.A 0x001 ∷ release Keycode.A 0x001 ∷ release Keycode.LeftShift 0x000 ∷ []
-unfolding rowOf turns counts counted waits behindAfter joinedAfter thrownAfter caught scancodeAfter scancode lessMet givenTo onto codes eventSet2 flagsSet2 strokeSet2 strokesSet2 prefixSet2 wordOf saidOf times lastWasPress flagTable isOf pressesLock entryOf printed putBit odd keycodeAt keycodeOf numbered keycodes
+-- what the codes of the second side and the bytes of the first say of the row
+row-codes : rowOf two (turns two lamps calls (oneSet2 two lamps Side.Second stream calls)) ≡ left
+unfolding rowOf turns counts scancodeOf own counted waits behindAfter joinedAfter thrownAfter caught scancodeAfter scancode lessMet givenTo meets countOf sidesIn onto codes eachSet2 eachSaid eventGiven eventOf flagsSaid strokes prefixSaid eventSet2 flagsSet2 strokeSet2 strokesSet2 prefixSet2 wordOf saidOf times lastWasPress flagTable isOf pressesLock entryOf printed putBit odd keycodeAt keycodeOf numbered keycodes
 row-codes = refl
 
--- the events of the four lines that tablekeys prints
-pub shift-a-waits : waiting (after shortLamps calls)
-    ≡ press Keycode.LeftShift 0x001 ∷ press Keycode.A 0x001 ∷ release Keycode.A 0x001 ∷ release Keycode.LeftShift 0x000 ∷ []
-shift-a-waits = history-set2 shortLamps calls stream 4 counted-bytes converted-whole .queue ∙ row-codes
+pub shift-a-waits : waiting (after two lamps calls) ≡ left
+shift-a-waits = history-set2 two lamps Side.Second calls stream 4 counted-bytes converted-whole .row .queue ∙ row-codes
+
+-- ---- the same where the first side speaks set 2 too
+
+abbrev streams : Side → List ℕ
+streams Side.First = 0x1C ∷ 0xF0 ∷ 0x1C ∷ []
+streams Side.Second = stream
+
+counted-both : (side : Side) → countedOf two lamps side calls ≡ onto nothing (convertStream (streams side) 4 .bytes)
+unfolding own counted waits behindAfter joinedAfter thrownAfter caught scancodeAfter scancode flagTable isOf pressesLock onto convertCodes codes becomes entryOf printed putBit
+counted-both Side.First = refl
+counted-both Side.Second = counted-bytes
+
+converted-both : (side : Side) → convertStream (streams side) 4 .end ≡ gives success
+unfolding convertCodes codes becomes entryOf printed putBit
+converted-both Side.First = refl
+converted-both Side.Second = converted-whole
+
+row-both : rowOf two (turns two lamps calls (λ side. eachSet2 (codesOf (streams side)))) ≡ left
+unfolding rowOf turns counts scancodeOf own counted waits behindAfter joinedAfter thrownAfter caught scancodeAfter scancode lessMet givenTo meets countOf sidesIn onto codes eachSet2 eventSet2 flagsSet2 strokeSet2 strokesSet2 prefixSet2 wordOf saidOf times lastWasPress flagTable isOf pressesLock entryOf printed putBit odd keycodeAt keycodeOf numbered keycodes
+row-both = refl
+
+pub both-wait : waiting (after two lamps calls) ≡ left
+both-wait = both-set2 two lamps calls streams (λ side. 4) counted-both converted-both .row .queue ∙ row-both
 
 -- ---- what single codes say
 
