@@ -12,6 +12,6 @@ use Rattle.ps2_detect.specs.Detection.{keyboardDetect}
 unfoldable pub detection : Exchange (Answer KeyboardType)
 detection = refusingAs 18 keyboardDetect
 
--- "`keyboard_detect`, then `set_keyboard_scancode_set` with set 1."
+-- "`keyboard_detect`, then `set_keyboard_scancode_set` with set 1." At a table with two keyboards "initialisation still speaks to the first only".
 unfoldable pub keyboardInit : Exchange (Answer Success)
 keyboardInit = andThen detection (λ _. setScancodeSet Set1)

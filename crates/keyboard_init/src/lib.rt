@@ -6,6 +6,7 @@ ghost use Rattle.keyboard_init.specs.KeyboardInit.{detection, keyboardIn
 ghost use Rattle.keyboard_record.specs.Record.{fresh};
 ghost use Rattle.ps2_answers.specs.Refusals.{saidDone};
 use keyboard_record::KeyboardHandler;
+use keyboard_record::Keyboards;
 use ps2_answers::Completion;
 use ps2_answers::Failure;
 use ps2_bytes::ScancodeSet;
@@ -23,9 +24,9 @@ pub struct KeyboardInitialized {
     pub pairs: usize,
 }
 
-// Initialises the keyboard.
-pub fn keyboard_init(script: &[u8], log: &mut [u8]) -> KeyboardInitialized
-    ensures { λ r. ⌜ (played (saidDone (r .answer)) (r .used) (r .pairs) (now (log .exit)) ≡ play keyboardInit (now (script .entry)) (now (log .entry))) × (r .handler ≡ fresh) ⌝ }
+// Initialises the first keyboard, with a fresh record for a table with so many keyboards.
+pub fn keyboard_init(keyboards: Keyboards, script: &[u8], log: &mut [u8]) -> KeyboardInitialized
+    ensures { λ r. ⌜ (played (saidDone (r .answer)) (r .used) (r .pairs) (now (log .exit)) ≡ play keyboardInit (now (script .entry)) (now (log .entry))) × (r .handler ≡ fresh keyboards) ⌝ }
 {
     let d = detect_type(script, log);
     let used = d.used;
@@ -38,14 +39,14 @@ pub fn keyboard_init(script: &[u8], log: &mut [u8]) -> KeyboardInitialized
             let answer = s.answer;
             KeyboardInitialized {
                 answer,
-                handler: KeyboardHandler::fresh(),
+                handler: KeyboardHandler::fresh(keyboards),
                 used: used + s.used,
                 pairs: pairs + s.pairs,
             }
         }
         TypeAnswer::Refused(e) => KeyboardInitialized {
             answer: Completion::Refused(e),
-            handler: KeyboardHandler::fresh(),
+            handler: KeyboardHandler::fresh(keyboards),
             used,
             pairs,
         },

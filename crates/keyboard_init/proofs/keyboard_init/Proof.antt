@@ -25,13 +25,13 @@ sub-script c = call-used-le _ _ _ (c .before .before .before .before .detect-typ
 sub-log : tie.Need-sub-set-keyboard-scancode-set-2
 sub-log c = call-tail-le _ _ _ (c .before .before .before .before .before .detect-type .ensures)
 
-add-used : tie.Need-add-t15
+add-used : tie.Need-add-t16
 add-used c =
     let d = c .before .before .before .before in
     let w = d .before .before .before .before .before .before .before in
     omega (arith, two-used-le _ _ _ _ (w .detect-type .ensures) refl (d .set-keyboard-scancode-set .ensures), w .before .before .before .before .good)
 
-add-pairs : tie.Need-add-t19
+add-pairs : tie.Need-add-t20
 add-pairs c =
     let d = c .before .before .before .before .before in
     let w = d .before .before .before .before .before .before .before in
