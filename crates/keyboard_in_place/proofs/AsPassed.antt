@@ -4,6 +4,7 @@ use mathlib.Core.Path.{_≡_, sym, ap, _∙_}
 use mathlib.Core.Bool.{true}
 use mathlib.Core.List.{List}
 use Prim.Native.Nat.{ℕ}
+use Rattle.keyboard_sides.specs.declared.Side.{Side}
 use Rattle.keyboard_record.specs.declared.KeyboardHandler.{KeyboardHandler}
 use Rattle.keyboard.specs.Answers.{saidCall, ends2-3-21}
 use Rattle.keyboard.specs.KeyboardLamps.{keyboardLamps}
@@ -13,8 +14,8 @@ use Rattle.keyboard_in_place.specs.declared.HandledInPlace.{HandledInPla
 use Rattle.keyboard_in_place.specs.InPlace.{saidInPlace}
 
 -- "After 2, 3 or 21 records are as passed in": of any outcome that `handle_in_place`'s contract allows
-pub in-place-as-passed : (before after : KeyboardHandler) (script log : List ℕ) (r : HandledInPlace)
-    → saidInPlace r after ≡ handled keyboardLamps before script log → ends2-3-21 (saidCall (r .answer)) ≡ true → after ≡ before
-in-place-as-passed before after script log r is t =
+pub in-place-as-passed : (side : Side) (before after : KeyboardHandler) (script log : List ℕ) (r : HandledInPlace)
+    → saidInPlace r after ≡ handled keyboardLamps side before script log → ends2-3-21 (saidCall (r .answer)) ≡ true → after ≡ before
+in-place-as-passed side before after script log r is t =
     ap (λ (c : Called). c .handler) is
-    ∙ record-as-passed keyboardLamps before script log (sym (ap (λ (c : Called). ends2-3-21 (c .end)) is) ∙ t)
+    ∙ record-as-passed keyboardLamps side before script log (sym (ap (λ (c : Called). ends2-3-21 (c .end)) is) ∙ t)

@@ -6,6 +6,7 @@ ghost use Rattle.keyboard_in_place.specs.InPlace.{saidInPlace};
 use keyboard::HandlerAnswer;
 use keyboard::handle;
 use keyboard_record::KeyboardHandler;
+use keyboard_sides::Side;
 
 // What the call gives back beside the record, which it changes in place.
 pub struct HandledInPlace {
@@ -16,15 +17,16 @@ pub struct HandledInPlace {
     pub dropped: u32,
 }
 
-// A handler call that changes the record in place.
+// A handler call for a side that changes the record in place.
 pub fn handle_in_place(
     handler: &mut KeyboardHandler,
+    side: Side,
     script: &[u8],
     log: &mut [u8],
 ) -> HandledInPlace
-    ensures { λ r. ⌜ (saidInPlace r (now (handler .exit)) ≡ handled keyboardLamps (now (handler .entry)) (now (script .entry)) (now (log .entry))) × (now (log .exit) ≡ logLeft keyboardLamps (now (handler .entry) .state) (now (script .entry)) (now (log .entry))) ⌝ }
+    ensures { λ r. ⌜ (saidInPlace r (now (handler .exit)) ≡ handled keyboardLamps side (now (handler .entry)) (now (script .entry)) (now (log .entry))) × (now (log .exit) ≡ logLeft keyboardLamps side (now (handler .entry) .state) (now (script .entry)) (now (log .entry))) ⌝ }
 {
-    let done = handle(*handler, script, log);
+    let done = handle(*handler, side, script, log);
     *handler = done.handler;
     HandledInPlace {
         answer: done.answer,
