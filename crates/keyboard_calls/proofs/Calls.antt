@@ -1,29 +1,36 @@
--- Handler calls in a row, one more at a time.
+-- Handler calls in a row, one more at a time: what holds in a loop of them, by value or in place.
 -- Assumes nothing.
 use mathlib.Core.Path.{_≡_, refl, ap, _∙_}
 use mathlib.Core.List.{List}
 use native.Mathlib.Numerals.{add-one}
 use native.Mathlib.Omega.{arith}
-use Prim.Native.Nat.{ℕ, _+_, _≤_}
+use Prim.Native.Nat.{ℕ, _+_, _≤_, _<_}
+use lib.ListN.{length}
+use Rattle.keyboard_sides.specs.declared.Side.{Side}
 use Rattle.keyboard_record.specs.declared.KeyboardHandler.{KeyboardHandler}
 use Rattle.keyboard.specs.KeyboardLamps.{keyboardLamps}
 use Rattle.keyboard.specs.Handler.{handled, logLeft}
-use Rattle.keyboard_record.specs.Record.{fresh}
 use Rattle.keyboard_calls.specs.Calls.{Left, left, oneMore, called}
 
-pub none-called : (script log : List ℕ) {h : KeyboardHandler} → h ≡ fresh → left h log ≡ called 0 script (left fresh log)
-unfolding called
-none-called script log e = rw e
+-- from a record and a log on, calls for a side with one script
+module _ (side : Side) (script : List ℕ) (h₀ : KeyboardHandler) (log₀ : List ℕ) (times : ℕ) where
+  -- after i calls of so many: the record and the log are what i calls leave
+  abbrev pub Reached : KeyboardHandler → List ℕ → ℕ → Type 0
+  Reached h log i = (i ≤ times) × (length log ≡ length log₀) × (left h log ≡ called side i script (left h₀ log₀))
 
-pub one-more-called : (n : ℕ) (script : List ℕ) (x : Left) {h h′ : KeyboardHandler} {l l′ : List ℕ} → left h l ≡ called n script x
-    → h′ ≡ handled keyboardLamps h script l .handler → l′ ≡ logLeft keyboardLamps (h .state) script l → left h′ l′ ≡ called (n + 1) script x
-unfolding called
-one-more-called n script x so-far a b = rw (add-one n, a, b) (ap (oneMore script) so-far)
+  pub none-called : {h : KeyboardHandler} → h ≡ h₀ → Reached h log₀ 0
+  unfolding called
+  none-called e = (omega arith, refl, rw e)
 
--- what the exported functions answer, once no call is left
-pub all-called : (n times : ℕ) (script : List ℕ) (x : Left) {h : KeyboardHandler} {l : List ℕ} → left h l ≡ called n script x → n ≤ times → times ≤ n
-    → (h .state .count ≡ called times script x .handler .state .count) × (l ≡ called times script x .log)
-all-called n times script x so-far le ge =
-    let all : n ≡ times = omega (arith, le, ge) in
-    let done : left _ _ ≡ called times script x = so-far ∙ ap (λ (k : ℕ). called k script x) all in
-    (ap (λ (y : Left). y .handler .state .count) done, ap (λ (y : Left). y .log) done)
+  pub one-more-called : {h h′ : KeyboardHandler} {l l′ : List ℕ} {i : ℕ} {side′ : Side} → Reached h l i → i < times → side′ ≡ side
+      → h′ ≡ handled keyboardLamps side′ h script l .handler → l′ ≡ logLeft keyboardLamps side′ (h .state) script l → length l′ ≡ length l → Reached h′ l′ (i + 1)
+  unfolding called
+  one-more-called {i = i} so-far below same a b long = (omega (arith, below), long ∙ so-far .1, rw (add-one i, a, b, same) (ap (oneMore side script) (so-far .2)))
+
+  -- what the exported functions answer, once no call is left
+  pub all-called : {h : KeyboardHandler} {l : List ℕ} {i : ℕ} → Reached h l i → times ≤ i
+      → (h .state .count ≡ called side times script (left h₀ log₀) .handler .state .count) × (l ≡ called side times script (left h₀ log₀) .log)
+  all-called {i = i} so-far ge =
+      let all : i ≡ times = omega (arith, so-far .0, ge) in
+      let done : left _ _ ≡ called side times script (left h₀ log₀) = so-far .2 ∙ ap (λ (k : ℕ). called side k script (left h₀ log₀)) all in
+      (ap (λ (y : Left). y .handler .state .count) done, ap (λ (y : Left). y .log) done)

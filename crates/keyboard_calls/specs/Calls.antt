@@ -1,10 +1,18 @@
--- Handler calls in a row, each with the same script, on one record and one log.
+-- Handler calls in a row for one side, each with the same script, on one record and one log.
 -- Assumes nothing.
+use mathlib.Core.Bool.{Bool, true, false}
 use mathlib.Core.List.{List}
 use Prim.Native.Nat.{ℕ, zero, suc}
+use Rattle.keyboard_sides.specs.declared.Side.{Side}
 use Rattle.keyboard_record.specs.declared.KeyboardHandler.{KeyboardHandler}
+use Rattle.keyboard_record.specs.declared.Keyboards.{Keyboards}
 use Rattle.keyboard.specs.KeyboardLamps.{keyboardLamps}
 use Rattle.keyboard.specs.Handler.{handled, logLeft}
+
+-- Two keyboards, or one.
+abbrev pub keyboardsOf : Bool → Keyboards
+keyboardsOf true = Keyboards.Two
+keyboardsOf false = Keyboards.One
 
 -- What a call leaves: the record and the log.
 pub record Left : Type 0 where
@@ -15,10 +23,10 @@ abbrev pub left : KeyboardHandler → List ℕ → Left
 left h log = record { handler = h; log = log }
 
 -- One call more.
-abbrev pub oneMore : List ℕ → Left → Left
-oneMore script x = left (handled keyboardLamps (x .handler) script (x .log) .handler) (logLeft keyboardLamps (x .handler .state) script (x .log))
+abbrev pub oneMore : Side → List ℕ → Left → Left
+oneMore side script x = left (handled keyboardLamps side (x .handler) script (x .log) .handler) (logLeft keyboardLamps side (x .handler .state) script (x .log))
 
 -- What so many calls leave.
-unfoldable pub called : ℕ → List ℕ → Left → Left
-called zero script x = x
-called (suc n) script x = oneMore script (called n script x)
+unfoldable pub called : Side → ℕ → List ℕ → Left → Left
+called side zero script x = x
+called side (suc n) script x = oneMore side script (called side n script x)

@@ -13,8 +13,8 @@ use std::hint::black_box;
 
 extern "C" {
     /// The port's proved functions (crates/keyboard_calls). A slice is a pointer and a length.
-    fn keyboard_calls_by_value(script: *const u8, bytes: usize, log: *mut u8, room: usize, times: usize) -> usize;
-    fn keyboard_calls_in_place(script: *const u8, bytes: usize, log: *mut u8, room: usize, times: usize) -> usize;
+    fn keyboard_calls_by_value(script: *const u8, bytes: usize, log: *mut u8, room: usize, times: usize, two: bool, second: bool) -> usize;
+    fn keyboard_calls_in_place(script: *const u8, bytes: usize, log: *mut u8, room: usize, times: usize, two: bool, second: bool) -> usize;
 
     fn clock_gettime(clock: i32, time: *mut [i64; 2]) -> i32;
 }
@@ -35,10 +35,10 @@ fn seconds() -> f64 {
     time[0] as f64 + time[1] as f64 / 1e9
 }
 
-/// The port's calls in a row, each with this script; answers how many events then wait.
+/// The port's calls in a row for the first side of a table with one keyboard, each with this script; answers how many events then wait.
 fn port(script: &[u8], log: &mut [u8], times: usize, in_place: bool) -> usize {
     let calls = if in_place { keyboard_calls_in_place } else { keyboard_calls_by_value };
-    unsafe { calls(script.as_ptr(), script.len(), log.as_mut_ptr(), log.len(), times) }
+    unsafe { calls(script.as_ptr(), script.len(), log.as_mut_ptr(), log.len(), times, false, false) }
 }
 
 /// Calls whose answers document 01 gives, so that a library that is linked wrongly isn't measured.

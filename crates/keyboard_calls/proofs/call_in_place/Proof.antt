@@ -1,6 +1,6 @@
 -- `keyboard_calls::call_in_place` meets its contract: a walk of its MIR, by hand.
 -- The record is stored in a local, which is lent to `handle_in_place` for a lifetime of its own; the lifetime ends, and the local holds what that call left there.
--- The script is Copy. The log goes to `handle_in_place` at its own lifetime, share and ghost name, and is given up for good.
+-- The side is plain data, passed on as it is. The script is Copy. The log goes to `handle_in_place` at its own lifetime, share and ghost name, and is given up for good.
 -- All that the proof knows of `handle_in_place` is that it meets its contract.
 -- Assumes nothing.
 use mathlib.Core.Path.{_≡_, refl, ap}
@@ -36,6 +36,7 @@ use denote.Signature.{plain}
 use denote.Steps.{owned, peeks, heard, nothing}
 use denote.Struct.Steps.{spelt}
 use denote.Struct.Laws as LL
+use denote.Enum.Laws as EL
 use denote.Triple.Statement.{Contract, Triple}
 use denote.Triple.Call.{calls-at}
 use denote.Triple.Clauses.{ensured, lasts}
@@ -44,9 +45,12 @@ use denote.Triple.Spec.{Meets, tripleOf}
 use denote.Triple.Table.{entered, cited}
 use denote.Triple.Walked.{says, Stays, stay-none, stay-none-slice, gave-slice, walkOf, AllGo, goes-none, goes-none-slice, goes-gave-slice, Walks, ends-at, walked, walk-meets}
 use denote.Exit.{yes}
+use Rattle.keyboard_sides.specs.declared.Side.{Side}
 use Rattle.keyboard_record.specs.declared.KeyboardHandler.{KeyboardHandler}
 use Rattle.keyboard.specs.KeyboardLamps.{keyboardLamps}
 use Rattle.keyboard.specs.Handler.{Called, handled, logLeft}
+use Rattle.keyboard_sides.proofs.Side as D
+use Rattle.keyboard_sides.proofs.Side.Laws as D′
 use Rattle.keyboard_record.proofs.KeyboardHandler as T
 use Rattle.keyboard_record.proofs.KeyboardHandler.Laws as T′
 use Rattle.keyboard_in_place.specs.declared.HandledInPlace.{HandledInPlace}
@@ -64,9 +68,15 @@ use Rattle.keyboard_calls.proofs.call_in_place.Statement as stated
 use Rattle.keyboard_calls.proofs.call_in_place.Code as code
 
 abbrev stayed : Stays (self.ended .signature .params) (self.ended .kept)
-stayed = (stay-none (λ _. T.the-row) yes, (stay-none-slice (0 ∷ []) tt (plain (λ _. u8)) yes, (gave-slice (1 ∷ []) tt (plain (λ _. u8)), tt)))
+stayed = (stay-none (λ _. T.the-row) yes, (stay-none (λ _. D.the-row) yes, (stay-none-slice (0 ∷ []) tt (plain (λ _. u8)) yes, (gave-slice (1 ∷ []) tt (plain (λ _. u8)), tt))))
 
--- the machine value of a record
+-- the machine values of a side and of a record
+abbrev valD : Side → Val
+valD = EL.val D.the-type D′.the-laws
+
+abbrev IsD : Side → Type 0
+IsD side = Is D.the-row side (valD side ∷ [])
+
 abbrev valT : KeyboardHandler → Val
 valT = LL.val T.the-type T′.the-laws
 
@@ -100,7 +110,7 @@ module _ {M : Type 1} (𝓤 : URA M) (H : Heap 𝓤) (A : Atoms 𝓤) (W : Given
 abbrev InPlace : {M : Type 1} (𝓤 : URA M) (H : Heap 𝓤) (A : Atoms 𝓤) (mem : Memory → SProp 𝓤) (run : Routine → Fun 𝓤) → Contract 𝓤
 InPlace 𝓤 H A mem run = tripleOf 𝓤 H A in-place.signature (in-place.spec 𝓤 H A mem run)
 
-module _ {M : Type 1} (𝓤 : URA M) (H : Heap 𝓤) (A : Atoms 𝓤) (W : Given 𝓤 H A) (at-mem : Memory → SProp 𝓤) (run : Routine → Fun 𝓤) (κₛ κₗ : Lft) (qₛ qₗ : Share) (h : KeyboardHandler) (s l : RefT (List ℕ)) where
+module _ {M : Type 1} (𝓤 : URA M) (H : Heap 𝓤) (A : Atoms 𝓤) (W : Given 𝓤 H A) (at-mem : Memory → SProp 𝓤) (run : Routine → Fun 𝓤) (κₛ κₗ : Lft) (qₛ qₗ : Share) (h : KeyboardHandler) (side : Side) (s l : RefT (List ℕ)) where
   abbrev sv : Val
   sv = sliceVal (s .ptr) (length (s .now))
 
@@ -108,13 +118,13 @@ module _ {M : Type 1} (𝓤 : URA M) (H : Heap 𝓤) (A : Atoms 𝓤) (W : Given
   lv = sliceVal (l .ptr) (length (l .now))
 
   abbrev Arg : Type 0
-  Arg = KeyboardHandler × (RefT (List ℕ) × (RefT (List ℕ) × Unit {0}))
+  Arg = KeyboardHandler × (Side × (RefT (List ℕ) × (RefT (List ℕ) × Unit {0})))
 
   abbrev a : Arg
-  a = (h, (s, (l, tt)))
+  a = (h, (side, (s, (l, tt))))
 
-  abbrev vals : List Val × (List Val × (List Val × Unit {0}))
-  vals = (valT h ∷ [], (sv ∷ [], (lv ∷ [], tt)))
+  abbrev vals : List Val × (List Val × (List Val × (List Val × Unit {0})))
+  vals = (valT h ∷ [], (valD side ∷ [], (sv ∷ [], (lv ∷ [], tt))))
 
   -- the triple in which the walk ends, and what it binds outside
   abbrev Walked : Contract 𝓤
@@ -141,82 +151,83 @@ module _ {M : Type 1} (𝓤 : URA M) (H : Heap 𝓤) (A : Atoms 𝓤) (W : Given
     OwnR = MutRef (named 0) (α ∷ []) T.the-row .own lent (vptr b 0 ∷ [])
 
     abbrev to-in-place : InPlace 𝓤 H A at-mem run .Ghost
-    to-in-place = (((α ∷ [], (κₛ, (κₗ, tt))), (fullShare, (qₛ, (qₗ, tt))), tt, (lent, (s, (l, tt))), (vptr b 0 ∷ [], (sv ∷ [], (lv ∷ [], tt)))), tt)
+    to-in-place = (((α ∷ [], (κₛ, (κₗ, tt))), (fullShare, (qₛ, (qₗ, tt))), tt, (lent, (side, (s, (l, tt)))), (vptr b 0 ∷ [], (valD side ∷ [], (sv ∷ [], (lv ∷ [], tt))))), tt)
 
     abbrev Asked : List (Item 𝓤)
-    Asked = (‵ (flft (α ∷ []) fullShare) ⊛ Toks) ∷ ‵ OwnR ∷ ‵ OwnS ∷ ‵ OwnL ∷ []
+    Asked = (‵ (flft (α ∷ []) fullShare) ⊛ Toks) ∷ ‵ OwnR ∷ ‵ (D.the-row .own side (valD side ∷ [])) ∷ ‵ OwnS ∷ ‵ OwnL ∷ []
 
     goes-in-place : ent 𝓤 (⋆ 𝓤 H A Asked) (InPlace 𝓤 H A at-mem run .pre to-in-place)
     goes-in-place =
         qed W Asked ∵
-        nothing ! $ move ! (4 ∷ 0 ∷ []) $ fjoin ! $ move ! (3 ∷ 0 ∷ []) $ fjoin ! $ move ! (2 ∷ 0 ∷ []) $ fjoin ! $ move ! (1 ∷ 0 ∷ []) $ join ! $ frame ! $ done !
+        nothing ! $ move ! (5 ∷ 0 ∷ []) $ fjoin ! $ move ! (4 ∷ 0 ∷ []) $ fjoin ! $ move ! (3 ∷ 0 ∷ []) $ fjoin ! $ move ! (2 ∷ 0 ∷ []) $ fjoin ! $ move ! (1 ∷ 0 ∷ []) $ join ! $ frame ! $ done !
 
   -- what `handle_in_place` ensures of its result, of the last record and of the last log
   abbrev Said : HandledInPlace → KeyboardHandler → List ℕ → Type 0
-  Said r h′ zs = (saidInPlace r h′ ≡ handled keyboardLamps h (s .now) (l .now)) × (zs ≡ logLeft keyboardLamps (h .state) (s .now) (l .now))
+  Said r h′ zs = (saidInPlace r h′ ≡ handled keyboardLamps side h (s .now) (l .now)) × (zs ≡ logLeft keyboardLamps side (h .state) (s .now) (l .now))
 
   -- what is left at the return: the tokens, the script, the last log
   abbrev Left : List ℕ → List (Item 𝓤)
   Left zs = Toks ∷ ‵ OwnS ∷ ‵ (finally u8 (l .name) zs) ∷ []
 
-  exits : (r : HandledInPlace) (h′ : KeyboardHandler) (zs : List ℕ) → IsT h → IsT h′ → Said r h′ zs → length zs ≡ length (l .now)
+  exits : (r : HandledInPlace) (h′ : KeyboardHandler) (zs : List ℕ) → IsT h → IsD side → IsT h′ → Said r h′ zs → length zs ≡ length (l .now)
       → ent 𝓤 (⋆ 𝓤 H A (Left zs)) (Walked .post bound (valT h′))
-  exits r h′ zs was is e fits =
+  exits r h′ zs was given-side is e fits =
       qed W (Left zs) ∵
-      suffices ! _ (ends-at 𝓤 H A self.ended stayed (self.clauses 𝓤 H A at-mem run) W bound (valT h′) h′ (tt, (tt, (zs, tt))) (tt, (tt, (fits, tt)))) $
+      suffices ! _ (ends-at 𝓤 H A self.ended stayed (self.clauses 𝓤 H A at-mem run) W bound (valT h′) h′ (tt, (tt, (tt, (zs, tt)))) (tt, (tt, (tt, (fits, tt))))) $
       says ! (ap (λ (x : Called). x .handler) (e .0), e .1) $ frame ! $
       nothing ! $ move ! (2 ∷ 0 ∷ []) $ fjoin ! $ move ! (1 ∷ 0 ∷ []) $ fjoin ! $
+      owned ! D.the-row (Is D.the-row) (EL.makes D.the-type D′.the-plain 𝓤 H A) side _ given-side $ fjoin ! $
       owned ! T.the-row (Is T.the-row) (LL.makes T.the-type T′.the-plain 𝓤 H A) h _ was $ fjoin ! $ frame ! $
       owned ! T.the-row (Is T.the-row) (LL.makes T.the-type T′.the-plain 𝓤 H A) h′ _ is $ done !
 
   module _ (C : Calls 𝓤 H) (Λ : Loops 𝓤 H) (fm : FmC 𝓤 H (W .laws) C) (known : Triple 𝓤 (C #keyboard-in-place·handle-in-place) (InPlace 𝓤 H A at-mem run)) where
-    walk : IsT h → Is (ShrSlice (named 0) κₛ u8) s (sv ∷ []) → Room u8 (length (l .now))
-        → ent 𝓤 (onEntry 𝓤 H A self.signature (κₛ, (κₗ, tt)) (qₛ, (qₗ, tt)) a vals) (WpFn 𝓤 H C Λ code.function (valT h ∷ sv ∷ lv ∷ []) (Walked .post bound))
-    walk was p room =
-        qed W (Toks ∷ ‵ (owns (T.the-row ∷ ShrSlice (named 0) κₛ u8 ∷ MutSlice (named 1) κₗ u8 ∷ []) a vals) ∷ []) ∵
-        move ! (1 ∷ []) $ fsplit ! $ drop ! $ fsplit ! $ use1 W (‵ OwnS ⊛ ‵ OwnS) (shr-slice-copy 𝓤 H A W (named 0) κₛ u8 .twice s (sv ∷ [])) $ split ! $ move ! (2 ∷ []) $ fsplit ! $
-        keep ! (4 ∷ 2 ∷ 0 ∷ 3 ∷ []) $
-        -- [the slices' tokens; what the script owns; what the log owns; what the script owns, again]
-        enter ! C Λ code.function (valT h ∷ sv ∷ lv ∷ []) _ $
-        alloc1 ! (λ l₀. alloc1 ! (λ l₁. alloc1 ! (λ l₂. alloc1 ! (λ l₃. alloc1 ! (λ l₄. alloc1 ! (λ l₅. alloc1 ! (λ l₆. alloc1 ! (λ l₇. alloc1 ! (λ l₈. alloc0 ! $ params1 ! $
-        pass1 ! (init ! 14 refl (LL.lawful T.the-type T′.the-laws 𝓤 H A W .typed h _ was .0)) $ pass1 ! (init ! 12 refl (shr-slice-lawful 𝓤 H A W (named 0) κₛ u8 .typed s (sv ∷ []) p .0)) $ pass1 ! (init ! 10 refl (tt, (tt, (record { fits = room .0 }, tt)))) $ pass0 ! $
-        -- the record is stored in _4, which _6 refers to, and the log lent again as _8:
-        -- [_8; …; _0; …; the slices' tokens; the script; the log; the script]
-        assigns ! (of-opd ! (load ! (from ! (stop !)) (look ! 14 refl))) (from ! (stop !)) (init ! 8 refl (LL.lawful T.the-type T′.the-laws 𝓤 H A W .typed h _ was .0)) $
+    walk : IsT h → IsD side → Is (ShrSlice (named 0) κₛ u8) s (sv ∷ []) → Room u8 (length (l .now))
+        → ent 𝓤 (onEntry 𝓤 H A self.signature (κₛ, (κₗ, tt)) (qₛ, (qₗ, tt)) a vals) (WpFn 𝓤 H C Λ code.function (valT h ∷ valD side ∷ sv ∷ lv ∷ []) (Walked .post bound))
+    walk was given-side p room =
+        qed W (Toks ∷ ‵ (owns (T.the-row ∷ D.the-row ∷ ShrSlice (named 0) κₛ u8 ∷ MutSlice (named 1) κₗ u8 ∷ []) a vals) ∷ []) ∵
+        move ! (1 ∷ []) $ fsplit ! $ drop ! $ fsplit ! $ move ! (1 ∷ []) $ fsplit ! $ use1 W (‵ OwnS ⊛ ‵ OwnS) (shr-slice-copy 𝓤 H A W (named 0) κₛ u8 .twice s (sv ∷ [])) $ split ! $ move ! (2 ∷ []) $ fsplit ! $
+        keep ! (5 ∷ 2 ∷ 0 ∷ 3 ∷ 4 ∷ []) $
+        -- [the slices' tokens; what the script owns; what the log owns; what the script owns, again; what the side owns]
+        enter ! C Λ code.function (valT h ∷ valD side ∷ sv ∷ lv ∷ []) _ $
+        alloc1 ! (λ l₀. alloc1 ! (λ l₁. alloc1 ! (λ l₂. alloc1 ! (λ l₃. alloc1 ! (λ l₄. alloc1 ! (λ l₅. alloc1 ! (λ l₆. alloc1 ! (λ l₇. alloc1 ! (λ l₈. alloc1 ! (λ l₉. alloc0 ! $ params1 ! $
+        pass1 ! (init ! 16 refl (LL.lawful T.the-type T′.the-laws 𝓤 H A W .typed h _ was .0)) $ pass1 ! (init ! 14 refl (EL.lawful D.the-type D′.the-laws 𝓤 H A W tt .typed side _ given-side .0)) $ pass1 ! (init ! 12 refl (shr-slice-lawful 𝓤 H A W (named 0) κₛ u8 .typed s (sv ∷ []) p .0)) $ pass1 ! (init ! 10 refl (tt, (tt, (record { fits = room .0 }, tt)))) $ pass0 ! $
+        -- the record is stored in _5, which _7 refers to, and the log lent again as _9:
+        -- [_9; …; _0; …; the slices' tokens; the script; the log; the script; the side]
+        assigns ! (of-opd ! (load ! (from ! (stop !)) (look ! 16 refl))) (from ! (stop !)) (init ! 8 refl (LL.lawful T.the-type T′.the-laws 𝓤 H A W .typed h _ was .0)) $
         assigns ! (addr ! (from ! (stop !))) (from ! (stop !)) (init ! 4 refl (tt, tt)) $
         assigns ! (addr ! (from ! (fld ! refl (hop ! (look-in ! 10 (sub ! 0 refl (whole !))) (stop !))))) (from ! (stop !)) (init ! 2 refl (tt, tt)) $
         assigns ! (agg ! (and-then ! (load ! (from ! (stop !)) (look ! 2 refl)) (and-then ! (field-of ! 10 refl refl refl) (no-more !)))) (from ! (stop !)) (init ! 0 refl (tt, (tt, (record { fits = room .0 }, tt)))) $
-        -- a lifetime is made, and _4 is lent for it
-        move ! (8 ∷ []) $ use1 W (‵ (Lies 𝓤 H A W h l₄)) (lies-in 𝓤 H A W h l₄ was) $
+        -- a lifetime is made, and _5 is lent for it
+        move ! (8 ∷ []) $ use1 W (‵ (Lies 𝓤 H A W h l₅)) (lies-in 𝓤 H A W h l₅ was) $
         lft-new ! tt (λ α. move ! (1 ∷ []) $
-        use1 W (later (some (λ (δ : GName). ‵ (OwnR α l₄ δ) ⊛ ‵ (flent (α ∷ []) (Body (mem T.the-row) l₄ 0 δ))))) (lends-ref 𝓤 H A W T.the-row (named 0) (α ∷ []) h l₄ 0) $ await ! tt $ pick ! (λ δ. split ! $
-        -- [the reference; the lender's part; the new token; _8; …; _5; …; _4's end; _3; …; _0; …; the slices' tokens; the script; the log; the script]
-        move ! (2 ∷ 20 ∷ []) $ join ! $ move ! (0 ∷ 1 ∷ 20 ∷ 21 ∷ []) $ group ! 4 $ use1 W (raw (InPlace 𝓤 H A at-mem run .pre (to-in-place α l₄ δ))) (goes-in-place α l₄ δ) $
-        calls-at ! fm (InPlace 𝓤 H A at-mem run) known (to-in-place α l₄ δ) (and-then ! (load ! (from ! (stop !)) (look ! 6 refl)) (and-then ! (load ! (from ! (stop !)) (look ! 13 refl)) (and-then ! (load ! (from ! (stop !)) (look ! 2 refl)) (no-more !)))) (λ v.
-        use1 W (later (some (λ (r : HandledInPlace). ((‵ (flft (α ∷ []) fullShare) ⊛ Toks) ⊛ ‵ (P.the-row .own r (v ∷ []))) ⊛ raw (ensured 𝓤 H A in-place.ended (in-place.clauses 𝓤 H A at-mem run) (α ∷ [], (κₛ, (κₗ, tt))) (lent α l₄ δ, (s, (l, tt))) tt r)))) (id⊢ 𝓤 _) $ await ! tt $ pick ! (λ r.
+        use1 W (later (some (λ (δ : GName). ‵ (OwnR α l₅ δ) ⊛ ‵ (flent (α ∷ []) (Body (mem T.the-row) l₅ 0 δ))))) (lends-ref 𝓤 H A W T.the-row (named 0) (α ∷ []) h l₅ 0) $ await ! tt $ pick ! (λ δ. split ! $
+        -- [the reference; the lender's part; the new token; _9; …; _6; …; _5's end; _4; …; _0; …; the slices' tokens; the script; the log; the script; the side]
+        move ! (2 ∷ 22 ∷ []) $ join ! $ move ! (0 ∷ 1 ∷ 25 ∷ 22 ∷ 23 ∷ []) $ group ! 5 $ use1 W (raw (InPlace 𝓤 H A at-mem run .pre (to-in-place α l₅ δ))) (goes-in-place α l₅ δ) $
+        calls-at ! fm (InPlace 𝓤 H A at-mem run) known (to-in-place α l₅ δ) (and-then ! (load ! (from ! (stop !)) (look ! 6 refl)) (and-then ! (load ! (from ! (stop !)) (look ! 15 refl)) (and-then ! (load ! (from ! (stop !)) (look ! 13 refl)) (and-then ! (load ! (from ! (stop !)) (look ! 2 refl)) (no-more !))))) (λ v.
+        use1 W (later (some (λ (r : HandledInPlace). ((‵ (flft (α ∷ []) fullShare) ⊛ Toks) ⊛ ‵ (P.the-row .own r (v ∷ []))) ⊛ raw (ensured 𝓤 H A in-place.ended (in-place.clauses 𝓤 H A at-mem run) (α ∷ [], (κₛ, (κₗ, tt))) (lent α l₅ δ, (side, (s, (l, tt)))) tt r)))) (id⊢ 𝓤 _) $ await ! tt $ pick ! (λ r.
         -- what `handle_in_place` ensures, at some last record and some last log
-        split ! $ move ! (1 ∷ []) $ use1 W (some (λ (zs : KeyboardHandler × (Unit {0} × (List ℕ × Unit {0}))). ‵ (lasts in-place.ended (α ∷ [], (κₛ, (κₗ, tt))) (lent α l₄ δ, (s, (l, tt))) zs) ⊛ raw (fact 𝓤 (Said r (zs .0) (zs .1 .1 .0))))) (id⊢ 𝓤 _) $ pick ! (λ zs.
-        split ! $ move ! (1 ∷ []) $ heard ! (Said r (zs .0) (zs .1 .1 .0)) (λ e. fsplit ! $ move ! (1 ∷ []) $ fsplit ! $ drop ! $ fsplit ! $ fsplit ! $ move ! (1 ∷ []) $ feqL ! (λ fits.
-        -- [the last log; true; the last record's name; the tokens and the result; the lender's part; _8; …; the script]
+        split ! $ move ! (1 ∷ []) $ use1 W (some (λ (zs : KeyboardHandler × (Unit {0} × (Unit {0} × (List ℕ × Unit {0})))). ‵ (lasts in-place.ended (α ∷ [], (κₛ, (κₗ, tt))) (lent α l₅ δ, (side, (s, (l, tt)))) zs) ⊛ raw (fact 𝓤 (Said r (zs .0) (zs .1 .1 .1 .0))))) (id⊢ 𝓤 _) $ pick ! (λ zs.
+        split ! $ move ! (1 ∷ []) $ heard ! (Said r (zs .0) (zs .1 .1 .1 .0)) (λ e. fsplit ! $ move ! (1 ∷ []) $ fsplit ! $ drop ! $ fsplit ! $ drop ! $ fsplit ! $ fsplit ! $ move ! (1 ∷ []) $ feqL ! (λ fits.
+        -- [the last log; true; the last record's name; the tokens and the result; the lender's part; _9; …; the script]
         move ! (3 ∷ []) $ split ! $ split ! $ move ! (2 ∷ []) $ peeks ! P.the-row (Is P.the-row) (shows 𝓤 H A P.the-row) r (v ∷ []) (λ is.
         land ! (from ! (stop !)) (init ! 13 refl (LL.lawful P.the-type P′.the-laws 𝓤 H A W .typed r _ is .0)) $ drop ! $
-        -- the lifetime is ended, and _4 holds the last record
-        lft-end ! tt $ move ! (0 ∷ 5 ∷ 4 ∷ []) $ use3 W (later (‵ (Lies 𝓤 H A W (zs .0) l₄))) (ref-back 𝓤 H A W T.the-row (α ∷ []) δ (zs .0) l₄ 0) $ await ! tt $
-        use1 W (given (IsT (zs .0)) (‵ (Local 𝓤 H A W (zs .0) l₄))) (lies-out 𝓤 H A W (zs .0) l₄) $ learn ! (λ is′.
-        -- [_4; the slices' tokens; the last log; true; _8; …; _5; …; _4's end; _3; …; _0; …; the script]
-        assigns ! (of-opd ! (load ! (from ! (stop !)) (look ! 0 refl))) (from ! (stop !)) (init ! 19 refl (LL.lawful T.the-type T′.the-laws 𝓤 H A W .typed (zs .0) _ is′ .0)) $
-        returns ! (look ! 19 refl) $ forget ! 0 refl $ forget ! 4 refl $ forget ! 6 refl $ forget ! 8 refl $ forget ! 10 refl $ forget ! 13 refl $ forget ! 15 refl $ forget ! 17 refl $ forget ! 19 refl $
-        move ! (19 ∷ 20 ∷ []) $ free1 ! $ move ! (17 ∷ 18 ∷ []) $ free1 ! $ move ! (15 ∷ 16 ∷ []) $ free1 ! $ move ! (13 ∷ 14 ∷ []) $ free1 ! $ move ! (0 ∷ 12 ∷ []) $ free1 ! $ move ! (9 ∷ 10 ∷ []) $ free1 ! $ move ! (7 ∷ 8 ∷ []) $ free1 ! $ move ! (5 ∷ 6 ∷ []) $ free1 ! $ move ! (3 ∷ 4 ∷ []) $ free1 ! $ free0 ! $
-        keep ! (0 ∷ 3 ∷ 1 ∷ []) $ by ! (exits r (zs .0) (zs .1 .1 .0) was is′ e fits)))))))))))))))))))
+        -- the lifetime is ended, and _5 holds the last record
+        lft-end ! tt $ move ! (0 ∷ 5 ∷ 4 ∷ []) $ use3 W (later (‵ (Lies 𝓤 H A W (zs .0) l₅))) (ref-back 𝓤 H A W T.the-row (α ∷ []) δ (zs .0) l₅ 0) $ await ! tt $
+        use1 W (given (IsT (zs .0)) (‵ (Local 𝓤 H A W (zs .0) l₅))) (lies-out 𝓤 H A W (zs .0) l₅) $ learn ! (λ is′.
+        -- [_5; the slices' tokens; the last log; true; _9; …; _6; …; _5's end; _4; …; _0; …; the script]
+        assigns ! (of-opd ! (load ! (from ! (stop !)) (look ! 0 refl))) (from ! (stop !)) (init ! 21 refl (LL.lawful T.the-type T′.the-laws 𝓤 H A W .typed (zs .0) _ is′ .0)) $
+        returns ! (look ! 21 refl) $ forget ! 0 refl $ forget ! 4 refl $ forget ! 6 refl $ forget ! 8 refl $ forget ! 10 refl $ forget ! 13 refl $ forget ! 15 refl $ forget ! 17 refl $ forget ! 19 refl $ forget ! 21 refl $
+        move ! (21 ∷ 22 ∷ []) $ free1 ! $ move ! (19 ∷ 20 ∷ []) $ free1 ! $ move ! (17 ∷ 18 ∷ []) $ free1 ! $ move ! (15 ∷ 16 ∷ []) $ free1 ! $ move ! (13 ∷ 14 ∷ []) $ free1 ! $ move ! (0 ∷ 12 ∷ []) $ free1 ! $ move ! (9 ∷ 10 ∷ []) $ free1 ! $ move ! (7 ∷ 8 ∷ []) $ free1 ! $ move ! (5 ∷ 6 ∷ []) $ free1 ! $ move ! (3 ∷ 4 ∷ []) $ free1 ! $ free0 ! $
+        keep ! (0 ∷ 3 ∷ 1 ∷ []) $ by ! (exits r (zs .0) (zs .1 .1 .1 .0) was given-side is′ e fits))))))))))))))))))))
 
 module _ {M : Type 1} (𝓤 : URA M) (H : Heap 𝓤) (A : Atoms 𝓤) (W : Given 𝓤 H A) (mem : Memory → SProp 𝓤) (run : Routine → Fun 𝓤) where
   call-walks : (C : Calls 𝓤 H) (Λ : Loops 𝓤 H) → FmC 𝓤 H (W .laws) C → Triple 𝓤 (C #keyboard-in-place·handle-in-place) (InPlace 𝓤 H A mem run) → Walks 𝓤 H A self.ended stayed (WpFn 𝓤 H C Λ code.function) (self.clauses 𝓤 H A mem run)
   call-walks C Λ fm known = walked 𝓤 H A self.ended stayed (self.clauses 𝓤 H A mem run) (WpFn 𝓤 H C Λ code.function)
-      (λ κs. (LL.vals T.the-type T′.the-laws, (slice-vals, (slice-vals, tt)))) (λ κs. (LL.tells T.the-type T′.the-laws, (shr-slice-tells (named 0) (κs .0) u8, (mut-slice-tells (named 1) (κs .1 .0) u8, tt))))
-      (λ κs qs bounds a _ are. via 𝓤 _ (fst∗ 𝓤 _ (emp 𝓤)) (walk 𝓤 H A W mem run (κs .0) (κs .1 .0) (qs .0) (qs .1 .0) (a .0) (a .1 .0) (a .1 .1 .0) C Λ fm known (are .0) (are .1 .0) (are .1 .1 .0 .0 .1)))
+      (λ κs. (LL.vals T.the-type T′.the-laws, (EL.vals D.the-type D′.the-laws, (slice-vals, (slice-vals, tt))))) (λ κs. (LL.tells T.the-type T′.the-laws, (EL.tells D.the-type D′.the-laws, (shr-slice-tells (named 0) (κs .0) u8, (mut-slice-tells (named 1) (κs .1 .0) u8, tt)))))
+      (λ κs qs bounds a _ are. via 𝓤 _ (fst∗ 𝓤 _ (emp 𝓤)) (walk 𝓤 H A W mem run (κs .0) (κs .1 .0) (qs .0) (qs .1 .0) (a .0) (a .1 .0) (a .1 .1 .0) (a .1 .1 .1 .0) C Λ fm known (are .0) (are .1 .0) (are .1 .1 .0) (are .1 .1 .1 .0 .0 .1)))
 
   goes : AllGo 𝓤 H A W 2 (self.signature .params) (self.ended .kept) stayed
-  goes = (goes-none 𝓤 H A W 2 (λ _. T.the-row) yes (λ κs x f. refl), (goes-none-slice 𝓤 H A W 2 (0 ∷ []) tt (plain (λ _. u8)) yes, (goes-gave-slice 𝓤 H A W 2 1 tt (plain (λ _. u8)), tt)))
+  goes = (goes-none 𝓤 H A W 2 (λ _. T.the-row) yes (λ κs x f. refl), (goes-none 𝓤 H A W 2 (λ _. D.the-row) yes (λ κs x f. refl), (goes-none-slice 𝓤 H A W 2 (0 ∷ []) tt (plain (λ _. u8)) yes, (goes-gave-slice 𝓤 H A W 2 1 tt (plain (λ _. u8)), tt))))
 
 call-meets : {M : Type 1} (𝓤 : URA M) (H : Heap 𝓤) (A : Atoms 𝓤) → Given 𝓤 H A → (mem : Memory → SProp 𝓤) (run : Routine → Fun 𝓤) (𝓣 : Tables 𝓤 H) → Triple 𝓤 (𝓣 .C #keyboard-in-place·handle-in-place) (InPlace 𝓤 H A mem run)
     → Meets 𝓤 H A self.signature (WpFn 𝓤 H (𝓣 .C) (𝓣 .Λ) code.function) (self.spec 𝓤 H A mem run)
