@@ -12,27 +12,33 @@ use lib.Dec.{eqb}
 use lib.ListN.{length, drop, length-append, length-take, length-drop}
 use lib.Seq.{drop-drop}
 use borrow.Author.Tests.{eq-eqb, ne-eqb, eqb-true, eqb-false}
+use Rattle.exchange.specs.Exchange.{Exchange, Played}
 use Rattle.exchange.specs.Parts.{part}
 use Rattle.exchange.proofs.Kept.{used-le}
 use Rattle.exchange.proofs.Parts.{part-drop}
 use Rattle.exchange.specs.Answer.{Answer, numberEnded}
+use Rattle.ps2_answers.specs.Refusals.{Success}
 use Rattle.keycodes_ascii.specs.declared.KeyEvent.{KeyEvent}
 use Rattle.keyboard_scancodes.specs.declared.KeyboardState.{KeyboardState}
 use Rattle.keyboard_scancodes.specs.FlagsAfter.{flagsThen}
 use Rattle.keyboard_scancodes.specs.Waiting.{waitingBytes}
 use Rattle.keyboard_scancodes.proofs.Tests.{which}
 use Rattle.keyboard_scancodes.proofs.Waiting.{length-bytes}
+use Rattle.keyboard_sides.specs.declared.Side.{Side}
+use Rattle.keyboard_sides.specs.Named.{Sided}
 use Rattle.keyboard_record.specs.declared.KeyboardHandler.{KeyboardHandler}
-use Rattle.keyboard_record.specs.Record.{wellFormed}
+use Rattle.keyboard_record.specs.Record.{callFormed}
 use Rattle.keyboard_record.specs.Taking.{taken}
-use Rattle.keyboard_record.proofs.Taking.{taken-malformed, taken-none, taken-one}
-use Rattle.keyboard_record.proofs.WellFormed.{well-is}
+use Rattle.keyboard_record.proofs.Taking.{keyboard-at-taken}
+use Rattle.keyboard_record.proofs.WellFormed.{call-is}
 use Rattle.keyboard.specs.Answers.{ends2-3-21}
 use Rattle.keyboard.specs.Scancode.{Took, takes, caught}
-use Rattle.keyboard.specs.Handler.{handle, effects, handled}
+use Rattle.keyboard.specs.Byte.{keyEffects}
+use Rattle.keyboard.specs.Handler.{Outcome, handle, effects, handled, endOutcome}
 use Rattle.keyboard.specs.KeyboardLamps.{keyboardLamps}
-use Rattle.keyboard.proofs.Ways.{endOf, scanned, waitsAfter, Course, malformed, lacking, at-silent, at-key}
-use Rattle.keyboard.proofs.Courses.{course}
+use Rattle.keyboard.proofs.Ways.{endOf, scanned, waitsAfter, lacking, at-silent, at-key}
+use Rattle.keyboard.proofs.Calls.{callEnd, CallCourse, malformed, formed, call-course, formed-play}
+use Rattle.keyboard.proofs.Formed.{left-at}
 use Rattle.keyboard.proofs.Counted.{answerEnd, lack-ends}
 use Rattle.keyboard.proofs.Refused.{malformed-handled}
 use Rattle.keyboard.proofs.Waiting.{waits-left}
@@ -46,15 +52,7 @@ use Rattle.key_listing.proofs.Used.{same-took, usedBehind, behind-le, l
 
 pub call-used-le : (h : KeyboardHandler) (s : List ℕ) → callOn h s .used ≤ length s
 unfolding handled effects
-call-used-le h s = used-le (handle keyboardLamps (h .state)) s freeLog
-
--- a taking from the queue changes nothing of the keyboard
-taken-keyboard : (h : KeyboardHandler) → taken h .now .state .keyboard ≡ h .state .keyboard
-taken-keyboard h =
-    ⊎-elim
-    (λ w. ⊎-elim (λ e. rw (taken-none h w e)) (λ e. rw (taken-one h w e)) (which (eqb (h .state .count) 0)))
-    (λ w. rw (taken-malformed h w))
-    (which (wellFormed (h .state)))
+call-used-le h s = used-le (handle keyboardLamps Side.First (h .state)) s freeLog
 
 -- a byte leaves the bytes that wait and those of the script
 pub took-length : (ws s : List ℕ) {t : Took} → takes ws s ≡ some t → suc (length (t .waiting) + length (t .script)) ≡ length ws + length s
@@ -69,57 +67,74 @@ took-length (b ∷ ws) s {t} q =
     rw (x, y) (omega arith)
 
 module _ (h : KeyboardHandler) (s : List ℕ) where
+  -- the keyboard that is called, its lamps, and its bytes that wait
+  abbrev keyboard : KeyboardState
+  keyboard = h .state .first
+
+  abbrev lamps : ℕ → Exchange (Answer Success)
+  lamps = keyboardLamps Side.First
+
   abbrev ws : List ℕ
-  ws = waitingBytes (h .state .keyboard .waiting)
+  ws = waitingBytes (keyboard .waiting)
 
   abbrev log : List ℕ
   log = freeLog
 
   -- a call that another follows takes a byte, which is counted
-  took-by : Course keyboardLamps (h .state) s log → ends2-3-21 (answerEnd (endOf keyboardLamps (h .state) s log)) ≡ false
-      → (t : Took) × (takes ws s ≡ some t) × (scanned keyboardLamps (h .state) s log ≡ some (t .byte))
+  took-by : CallCourse keyboardLamps Side.First (h .state) s log → ends2-3-21 (answerEnd (callEnd keyboardLamps Side.First (h .state) s log)) ≡ false
+      → (t : Took) × (takes ws s ≡ some t) × (scanned lamps keyboard s log ≡ some (t .byte))
   took-by (malformed w e n) f = absurd (true≢false (rw e at f))
-  took-by (lacking x e n) f = absurd (true≢false (sym (lack-ends x) ∙ (rw e at f)))
-  took-by (at-silent t q g e n) f = (t, g, n)
-  took-by (at-key t lit q g e n) f = (t, g, n)
+  took-by (formed w e n (lacking x q m)) f = absurd (true≢false (sym (lack-ends x) ∙ (rw (e, q) at f)))
+  took-by (formed w e n (at-silent t q g u m)) f = (t, g, m)
+  took-by (formed w e n (at-key t lit q g u m)) f = (t, g, m)
 
   module _ (f : ends2-3-21 (callOn h s .end) ≡ false) where
-    call-took : (t : Took) × (takes ws s ≡ some t) × (scanned keyboardLamps (h .state) s log ≡ some (t .byte))
+    call-took : (t : Took) × (takes ws s ≡ some t) × (scanned lamps keyboard s log ≡ some (t .byte))
     unfolding handled effects
-    call-took = took-by (course keyboardLamps (h .state) s log) f
+    call-took = took-by (call-course keyboardLamps Side.First (h .state) s log) f
 
-    call-well : wellFormed (h .state) ≡ true
-    call-well =
-        ⊎-elim (λ w. w) (λ w. absurd (true≢false (rw (malformed-handled keyboardLamps h s log w) at f))) (which (wellFormed (h .state)))
+    call-formed : callFormed Side.First (h .state) ≡ true
+    call-formed =
+        ⊎-elim (λ w. w) (λ w. absurd (true≢false (rw (malformed-handled keyboardLamps Side.First h s log w) at f))) (which (callFormed Side.First (h .state)))
+
+    -- the keyboard after the call is as its part of it leaves it
+    keyboard-after : callOn h s .handler .state .first ≡ keyEffects lamps keyboard s log .keyboard
+    unfolding handled effects keyEffects
+    keyboard-after =
+        ap (λ (o : Played Outcome). endOutcome (h .state) (o .end) .state .first) (formed-play keyboardLamps Side.First (h .state) s log call-formed)
+        ∙ left-at Side.First (h .state) (endOf lamps keyboard s log)
 
     -- what is left behind the byte t
     module _ (t : Took) (g : takes ws s ≡ some t) where
       abbrev used : ℕ
-      used = usedBehind keyboardLamps (h .state) t log
+      used = usedBehind lamps keyboard t log
 
       pub script-behind : drop (callOn h s .used) s ≡ drop used (t .script)
       unfolding handled effects
-      script-behind = left-behind keyboardLamps (h .state) call-well s log t g
+      script-behind =
+          ap (λ (o : Played Outcome). drop (o .used) s) (formed-play keyboardLamps Side.First (h .state) s log call-formed)
+          ∙ left-behind lamps keyboard s log t g
 
-      counted-byte : scanned keyboardLamps (h .state) s log ≡ some (t .byte)
+      counted-byte : scanned lamps keyboard s log ≡ some (t .byte)
       counted-byte =
           let c = call-took in
-          subst (λ (u : Took). scanned keyboardLamps (h .state) s log ≡ some (u .byte)) (same-took (sym (c .1) ∙ g)) (c .2)
+          subst (λ (u : Took). scanned lamps keyboard s log ≡ some (u .byte)) (same-took (sym (c .1) ∙ g)) (c .2)
 
-      pub count-behind : recordAfter h s .state .keyboard .waiting .count ≤ length (t .waiting) + used
-      unfolding handled recordAfter
+      pub count-behind : recordAfter h s .state .first .waiting .count ≤ length (t .waiting) + used
+      unfolding recordAfter
       count-behind =
-          let after = callOn h s .handler .state .keyboard .waiting in
-          let all = waitsAfter keyboardLamps (h .state) t log in
-          let x = waits-left keyboardLamps (h .state) (well-is (h .state) call-well) s log t g counted-byte in
+          let after = keyEffects lamps keyboard s log .keyboard .waiting in
+          let all = waitsAfter lamps keyboard t log in
+          let c = call-is Side.First (h .state) call-formed in
+          let x = waits-left lamps keyboard (c .1 .at Side.First (c .0) .waiting-in) s log t g counted-byte in
           omega (
             arith,
-            ap (λ (k : KeyboardState). k .waiting .count) (taken-keyboard (callOn h s .handler)),
+            ap (λ (k : KeyboardState). k .waiting .count) (keyboard-at-taken Side.First (callOn h s .handler) ∙ keyboard-after),
             length-bytes (after .bytes) 0 (after .count),
             ap length (x .0),
             length-take 16 all,
-            length-append (t .waiting) (caught keyboardLamps (flagsThen (h .state .keyboard)) t log),
-            caught-le keyboardLamps (h .state) t log,
+            length-append (t .waiting) (caught lamps (flagsThen keyboard) t log),
+            caught-le lamps keyboard t log,
           )
 
       bytes-behind : bytesLeft (recordAfter h s) (drop (callOn h s .used) s) < bytesLeft h s
@@ -129,9 +144,9 @@ module _ (h : KeyboardHandler) (s : List ℕ) where
             count-behind,
             ap length script-behind,
             length-drop used (t .script),
-            behind-le keyboardLamps (h .state) t log,
+            behind-le lamps keyboard t log,
             took-length ws s g,
-            length-bytes (h .state .keyboard .waiting .bytes) 0 (h .state .keyboard .waiting .count),
+            length-bytes (keyboard .waiting .bytes) 0 (keyboard .waiting .count),
           )
 
     -- so fewer are left for the call that follows
@@ -140,10 +155,10 @@ module _ (h : KeyboardHandler) (s : List ℕ) where
 
 -- ---- the text of a call, and of those that follow it
 
-pub call-text : (h : KeyboardHandler) (s : List ℕ) {n : ℕ} {t : Answer (Option KeyEvent)} → numberEnded (callOn h s .end) ≡ n → taken (callOn h s .handler) .answer ≡ t
+pub call-text : (h : KeyboardHandler) (s : List ℕ) {n : ℕ} {t : Answer (Option (Sided KeyEvent))} → numberEnded (callOn h s .end) ≡ n → taken (callOn h s .handler) .answer ≡ t
     → callText h s ≡ refusalLine n ++ takenLine t
 unfolding callText
-call-text h s e f = ap₂ {C = List ℕ} (λ (x : ℕ) (y : Answer (Option KeyEvent)). refusalLine x ++ takenLine y) e f
+call-text h s e f = ap₂ {C = List ℕ} (λ (x : ℕ) (y : Answer (Option (Sided KeyEvent))). refusalLine x ++ takenLine y) e f
 
 pub calls-over : (n : ℕ) (h : KeyboardHandler) (s : List ℕ) → bytesLeft h s ≡ 0 → callsText n h s ≡ []
 unfolding callsText

@@ -18,22 +18,24 @@ use Rattle.exchange.specs.Answer.{Answer, gives, numberEnded}
 use Rattle.ps2_answers.specs.Refusals.{Success}
 use Rattle.keyboard_record.specs.declared.KeyboardHandler.{KeyboardHandler}
 use Rattle.keyboard.specs.Answers.{ends2-3-21}
+use Rattle.keyboard_sides.specs.declared.Side.{Side}
+use Rattle.keyboard_sides.specs.Named.{Sided}
 use Rattle.keyboard.specs.KeyboardLamps.{keyboardLamps}
 use Rattle.keyboard.specs.Scancode.{Took, took, takes}
 use Rattle.keyboard_scancodes.specs.Events.{eventOf}
 use Rattle.keyboard_scancodes.specs.Waiting.{waitingBytes}
 use Rattle.keyboard_history.specs.Past.{Past, nothing, _▸_}
 use Rattle.keyboard_history.specs.Said.{flagsSaid}
-use Rattle.keyboard_record.specs.Record.{fresh}
 use Rattle.keyboard_record.specs.Taking.{taken}
-use Rattle.keyboard_history.proofs.AsSaid.{As, as-fresh, as-bytes}
+use Rattle.keyboard_history.proofs.AsKeyboard.{as-bytes}
+use Rattle.keyboard_history.proofs.Row.{sided}
 use Rattle.key_listing.specs.Text.{ascii, digits, decimal}
 use Rattle.key_listing.specs.Lines.{actionText, characterText, eventLine, takenLine, refusalLine}
-use Rattle.key_listing.specs.Listing.{scriptLimit, freeLog, callOn, recordAfter, bytesLeft, callsText, listing}
+use Rattle.key_listing.specs.Listing.{scriptLimit, freeLog, atFirst, callOn, recordAfter, bytesLeft, callsText, listing}
 use Rattle.key_listing.specs.Listed.{waitsThen, After, Listed, used-up, an-event, no-event, a-19, a-2}
 use Rattle.key_listing.proofs.Calls.{took-length, script-behind, count-behind, call-text, calls-over, calls-last, calls-more}
 use Rattle.key_listing.proofs.Used.{usedBehind, behind-le, plain-used}
-use Rattle.key_listing.proofs.Steps.{Step, step-2, step-19, step-silent, step-event, step}
+use Rattle.key_listing.proofs.Steps.{AsOne, one-fresh, Step, step-2, step-19, step-silent, step-event, step}
 
 -- ---- the lines
 
@@ -42,40 +44,40 @@ silent-line : refusalLine 0 ++ takenLine (gives none) ≡ []
 unfolding refusalLine
 silent-line = refl
 
-event-line : (e : KeyEvent) → refusalLine 0 ++ takenLine (gives (some e)) ≡ eventLine e
+event-line : (e : KeyEvent) → refusalLine 0 ++ takenLine (gives (some (sided Side.First e))) ≡ eventLine e
 unfolding refusalLine
 event-line e = refl
 
-module _ (n : ℕ) {h : KeyboardHandler} {bytes : Past ℕ} {ws : List ℕ} (a : As h bytes ws []) (s : List ℕ) (t : Took) (g : takes ws s ≡ some t) where
+module _ (n : ℕ) {h : KeyboardHandler} {bytes : Past ℕ} {ws : List ℕ} (a : AsOne h bytes ws []) (s : List ℕ) (t : Took) (g : takes ws s ≡ some t) where
   abbrev left : List ℕ
   left = drop (callOn h s .used) s
 
   -- the byte that the call takes
-  took-so : takes (waitingBytes (h .state .keyboard .waiting)) s ≡ some t
-  took-so = ap (λ (w : List ℕ). takes w s) (a .bytes-wait) ∙ g
+  took-so : takes (waitingBytes (h .state .first .waiting)) s ≡ some t
+  took-so = ap (λ (w : List ℕ). takes w s) (a .at Side.First .bytes-wait) ∙ g
 
   some-left : 0 < bytesLeft h s
-  some-left = omega (arith, took-length ws s g, as-bytes a)
+  some-left = omega (arith, took-length ws s g, as-bytes (a .at Side.First))
 
-  after-byte : ends2-3-21 (callOn h s .end) ≡ false → As (recordAfter h s) (bytes ▸ t .byte) (waitsThen bytes ws s) [] → After t (waitsThen bytes ws s) left
+  after-byte : ends2-3-21 (callOn h s .end) ≡ false → AsOne (recordAfter h s) (bytes ▸ t .byte) (waitsThen bytes ws s) [] → After t (waitsThen bytes ws s) left
   after-byte e r =
       record {
-        read = usedBehind keyboardLamps (h .state) t freeLog;
-        locks-only = plain-used keyboardLamps (h .state) t freeLog;
-        in-script = behind-le keyboardLamps (h .state) t freeLog;
+        read = usedBehind (keyboardLamps Side.First) (h .state .first) t freeLog;
+        locks-only = plain-used (keyboardLamps Side.First) (h .state .first) t freeLog;
+        in-script = behind-le (keyboardLamps Side.First) (h .state .first) t freeLog;
         is-left = script-behind h s e t took-so;
-        few-new = omega (arith, as-bytes r, count-behind h s e t took-so);
+        few-new = omega (arith, as-bytes (r .at Side.First), count-behind h s e t took-so);
       }
 
   -- a call that another follows: its line, and the text of what is left
-  goes-on : {x : End (Answer Success)} {y : Answer (Option KeyEvent)} {line : List ℕ} → callOn h s .end ≡ x → taken (callOn h s .handler) .answer ≡ y
-      → As (recordAfter h s) (bytes ▸ t .byte) (waitsThen bytes ws s) [] → ends2-3-21 x ≡ false → refusalLine (numberEnded x) ++ takenLine y ≡ line
+  goes-on : {x : End (Answer Success)} {y : Answer (Option (Sided KeyEvent))} {line : List ℕ} → callOn h s .end ≡ x → taken (callOn h s .handler) .answer ≡ y
+      → AsOne (recordAfter h s) (bytes ▸ t .byte) (waitsThen bytes ws s) [] → ends2-3-21 x ≡ false → refusalLine (numberEnded x) ++ takenLine y ≡ line
       → (After t (waitsThen bytes ws s) left → Listed bytes ws s (line ++ callsText n (recordAfter h s) left)) → Listed bytes ws s (callsText (suc n) h s)
   goes-on x y r e l more =
       let f = ap ends2-3-21 x ∙ e in
       rw (calls-more n h s some-left f, call-text h s (ap numberEnded x) y ∙ l) (more (after-byte f r))
 
-  by-step : (As (recordAfter h s) (bytes ▸ t .byte) (waitsThen bytes ws s) [] → After t (waitsThen bytes ws s) left → Listed (bytes ▸ t .byte) (waitsThen bytes ws s) left (callsText n (recordAfter h s) left))
+  by-step : (AsOne (recordAfter h s) (bytes ▸ t .byte) (waitsThen bytes ws s) [] → After t (waitsThen bytes ws s) left → Listed (bytes ▸ t .byte) (waitsThen bytes ws s) left (callsText n (recordAfter h s) left))
       → Step h bytes ws s t → Listed bytes ws s (callsText (suc n) h s)
   by-step ih (step-2 p k x y) =
       rw (calls-last n h s some-left (ap ends2-3-21 x), call-text h s (ap numberEnded x) y, append-nil (refusalLine 2)) (a-2 g k)
@@ -88,23 +90,23 @@ left-le : (ws s : List ℕ) {waits left : List ℕ} {t : Took} → takes ws s �
 left-le ws s {t = t} g f =
     omega (arith, took-length ws s g, f .few-new, f .in-script, ap length (f .is-left), length-drop (f .read) (t .script))
 
-one-listed : (n : ℕ) {h : KeyboardHandler} {bytes : Past ℕ} {ws : List ℕ} (s : List ℕ) (t : Took) → length ws + length s ≤ suc n → As h bytes ws [] → takes ws s ≡ some t
-    → ((h : KeyboardHandler) (bytes : Past ℕ) (ws s : List ℕ) → length ws + length s ≤ n → As h bytes ws [] → Listed bytes ws s (callsText n h s))
+one-listed : (n : ℕ) {h : KeyboardHandler} {bytes : Past ℕ} {ws : List ℕ} (s : List ℕ) (t : Took) → length ws + length s ≤ suc n → AsOne h bytes ws [] → takes ws s ≡ some t
+    → ((h : KeyboardHandler) (bytes : Past ℕ) (ws s : List ℕ) → length ws + length s ≤ n → AsOne h bytes ws [] → Listed bytes ws s (callsText n h s))
     → Listed bytes ws s (callsText (suc n) h s)
 one-listed n {h} {bytes} {ws} s t i a g next =
     by-step n a s t g (λ r f. next (recordAfter h s) (bytes ▸ t .byte) (waitsThen bytes ws s) (drop (callOn h s .used) s) (omega (arith, left-le ws s g f)) r) (step a s t g)
 
-calls-listed : (n : ℕ) {h : KeyboardHandler} {bytes : Past ℕ} (ws s : List ℕ) → length ws + length s ≤ n → As h bytes ws [] → Listed bytes ws s (callsText n h s)
-calls-listed zero {h} [] [] i a = rw (calls-over zero h [] (omega (arith, as-bytes a))) used-up
+calls-listed : (n : ℕ) {h : KeyboardHandler} {bytes : Past ℕ} (ws s : List ℕ) → length ws + length s ≤ n → AsOne h bytes ws [] → Listed bytes ws s (callsText n h s)
+calls-listed zero {h} [] [] i a = rw (calls-over zero h [] (omega (arith, as-bytes (a .at Side.First)))) used-up
 calls-listed zero [] (b ∷ s) i a = absurd (omega arith)
 calls-listed zero (b ∷ ws) s i a = absurd (omega arith)
-calls-listed (suc n) {h} [] [] i a = rw (calls-over (suc n) h [] (omega (arith, as-bytes a))) used-up
+calls-listed (suc n) {h} [] [] i a = rw (calls-over (suc n) h [] (omega (arith, as-bytes (a .at Side.First)))) used-up
 calls-listed (suc n) [] (b ∷ s) i a = one-listed n (b ∷ s) (took b [] s) i a refl (λ h bytes ws s l r. calls-listed n ws s l r)
 calls-listed (suc n) (b ∷ ws) s i a = one-listed n s (took b ws s) i a refl (λ h bytes ws s l r. calls-listed n ws s l r)
 
 pub listing-listed : (script : List ℕ) → Listed nothing [] (take scriptLimit script) (listing script)
 unfolding listing
-listing-listed script = calls-listed (bytesLeft fresh (take scriptLimit script)) [] (take scriptLimit script) (omega arith) as-fresh
+listing-listed script = calls-listed (bytesLeft atFirst (take scriptLimit script)) [] (take scriptLimit script) (omega arith) one-fresh
 
 -- ---- the bytes
 

@@ -25,11 +25,10 @@ use Rattle.keyboard_scancodes.specs.Lamps.{lampsLit}
 use Rattle.keyboard_scancodes.specs.Waiting.{waitingBytes}
 use Rattle.keyboard_scancodes.proofs.Silent.{silent-lock}
 use Rattle.keyboard_scancodes.proofs.Tests.{which}
-use Rattle.keyboard_record.specs.declared.HandlerState.{HandlerState}
-use Rattle.keyboard_record.specs.Record.{wellFormed}
+use Rattle.keyboard_scancodes.specs.declared.KeyboardState.{KeyboardState}
 use Rattle.keyboard.specs.Scancode.{Took, takes, thrownAt, caught}
-use Rattle.keyboard.specs.Handler.{shown, takeByte, lampExchange, onByte, handle}
-use Rattle.keyboard.proofs.Courses.{handle-well}
+use Rattle.keyboard.specs.Byte.{shown, takeByte, lampExchange, onByte, keyCall}
+use Rattle.keyboard.proofs.Courses.{call-taken}
 
 -- ---- an operation throws away no more bytes than it reads
 
@@ -61,7 +60,7 @@ used-done {B} {C} f t s l =
 pub same-took : {t u : Took} → _≡_ {A = Option Took} (some t) (some u) → t ≡ u
 same-took q = cc
 
-module _ {A : Type 0} (lamps : ℕ → Exchange (Answer A)) (h : HandlerState) where
+module _ {A : Type 0} (lamps : ℕ → Exchange (Answer A)) (h : KeyboardState) where
   -- the script bytes that a call uses behind its byte
   abbrev pub usedBehind : Took → List ℕ → ℕ
   usedBehind t l = play (onByte lamps h (t .waiting) (t .byte)) (t .script) l .used
@@ -71,27 +70,26 @@ module _ {A : Type 0} (lamps : ℕ → Exchange (Answer A)) (h : HandlerState) w
 
   -- ---- what is left of the script
 
-  module _ (w : wellFormed h ≡ true) where
-    tree : {x : List ℕ} → waitingBytes (h .keyboard .waiting) ≡ x → handle lamps h ≡ takeByte x (onByte lamps h)
-    tree q = handle-well lamps h w ∙ ap (λ (y : List ℕ). takeByte y (onByte lamps h)) q
+  tree : {x : List ℕ} → waitingBytes (h .waiting) ≡ x → keyCall lamps h ≡ takeByte x (onByte lamps h)
+  tree q = call-taken lamps h ∙ ap (λ (y : List ℕ). takeByte y (onByte lamps h)) q
 
-    abbrev LeftBy : List ℕ → List ℕ → Took → Type 0
-    LeftBy s l t = drop (play (handle lamps h) s l .used) s ≡ drop (usedBehind t l) (t .script)
+  abbrev LeftBy : List ℕ → List ℕ → Took → Type 0
+  LeftBy s l t = drop (play (keyCall lamps h) s l .used) s ≡ drop (usedBehind t l) (t .script)
 
-    by-waiting : (x s l : List ℕ) (t : Took) → waitingBytes (h .keyboard .waiting) ≡ x → takes x s ≡ some t → LeftBy s l t
-    unfolding play
-    by-waiting [] [] l t q g = let z : _≡_ {A = ℕ} 0 1 = cc in absurd (omega arith)
-    by-waiting [] (b ∷ s) l t q g = subst (LeftBy (b ∷ s) l) (same-took g) (rw (tree q))
-    by-waiting (b ∷ x) s l t q g = subst (LeftBy s l) (same-took g) (rw (tree q))
+  by-waiting : (x s l : List ℕ) (t : Took) → waitingBytes (h .waiting) ≡ x → takes x s ≡ some t → LeftBy s l t
+  unfolding play
+  by-waiting [] [] l t q g = let z : _≡_ {A = ℕ} 0 1 = cc in absurd (omega arith)
+  by-waiting [] (b ∷ s) l t q g = subst (LeftBy (b ∷ s) l) (same-took g) (rw (tree q))
+  by-waiting (b ∷ x) s l t q g = subst (LeftBy s l) (same-took g) (rw (tree q))
 
-    pub left-behind : (s l : List ℕ) (t : Took) → takes (waitingBytes (h .keyboard .waiting)) s ≡ some t → LeftBy s l t
-    left-behind s l t g = by-waiting (waitingBytes (h .keyboard .waiting)) s l t refl g
+  pub left-behind : (s l : List ℕ) (t : Took) → takes (waitingBytes (h .waiting)) s ≡ some t → LeftBy s l t
+  left-behind s l t g = by-waiting (waitingBytes (h .waiting)) s l t refl g
 
   -- ---- the bytes that its lamp exchange reads and throws away
 
   module _ (t : Took) (l : List ℕ) where
     abbrev flags : ℕ
-    flags = flagsThen (h .keyboard) (t .byte)
+    flags = flagsThen h (t .byte)
 
     abbrev lampsAlone : Exchange (Answer A)
     lampsAlone = lamps (lampsLit flags)
@@ -129,13 +127,13 @@ module _ {A : Type 0} (lamps : ℕ → Exchange (Answer A)) (h : HandlerState) w
           key-used lock-no-silent ∙ ap (λ (x : Exchange (Kept (List ℕ) (Answer Success))). play x (t .script) l .used) lock-bind
           ∙ used-done (λ x. kept (shown (x .value)) (x .bytes)) (keeping thrown [] lampsAlone) (t .script) l
 
-      lock-caught : length (caught lamps (flagsThen (h .keyboard)) t l) ≤ usedBehind t l
+      lock-caught : length (caught lamps (flagsThen h) t l) ≤ usedBehind t l
       unfolding caught
       lock-caught = rw (k, lock-used) (rw zero-add at (thrown-le lampsAlone [] (t .script) l))
 
-    none-caught : isLockPress (t .byte) ≡ false → length (caught lamps (flagsThen (h .keyboard)) t l) ≤ usedBehind t l
+    none-caught : isLockPress (t .byte) ≡ false → length (caught lamps (flagsThen h) t l) ≤ usedBehind t l
     unfolding caught
     none-caught k = rw k (omega arith)
 
-    pub caught-le : length (caught lamps (flagsThen (h .keyboard)) t l) ≤ usedBehind t l
+    pub caught-le : length (caught lamps (flagsThen h) t l) ≤ usedBehind t l
     caught-le = ⊎-elim lock-caught none-caught (which (isLockPress (t .byte)))

@@ -11,6 +11,7 @@ use Rattle.keycodes_ascii.specs.declared.KeyAction.{KeyAction}
 use Rattle.keycodes_ascii.specs.declared.KeyEvent.{KeyEvent}
 use Rattle.keycodes_ascii.specs.Keycode.{numberOf}
 use Rattle.keycodes_ascii.specs.Characters.{characterOf}
+use Rattle.keyboard_sides.specs.Named.{Sided}
 use Rattle.key_listing.specs.Text.{ascii, digits, decimal}
 
 -- "P or R".
@@ -29,9 +30,9 @@ eventLine e =
     digits 16 2 (numberOf (e .keycode)) ++ ascii " " ++ actionText (e .action) ++ ascii " " ++ digits 16 3 (e .modifiers .bits) ++ ascii " "
     ++ characterText (characterOf (e .keycode) (e .modifiers)) ++ ascii "\n"
 
--- What a taking prints: the event taken, if there was one.
-abbrev pub takenLine : Answer (Option KeyEvent) → List ℕ
-takenLine (gives (some e)) = eventLine e
+-- What a taking prints: the event taken, if there was one. Its side is not printed: there is one keyboard.
+abbrev pub takenLine : Answer (Option (Sided KeyEvent)) → List ℕ
+takenLine (gives (some e)) = eventLine (e .one)
 takenLine (gives none) = []
 takenLine (refuses n) = []
 

@@ -9,6 +9,7 @@ use lib.ListN.{length, drop}
 use Rattle.keyboard_scancodes.specs.Events.{eventOf, givesEvent}
 use Rattle.keyboard_scancodes.specs.FlagTable.{isLockPress}
 use Rattle.keyboard_scancodes.specs.Strokes.{isSilent}
+use Rattle.keyboard_sides.specs.declared.Side.{Side}
 use Rattle.keyboard.specs.KeyboardLamps.{keyboardLamps}
 use Rattle.keyboard.specs.Scancode.{Took, takes}
 use Rattle.keyboard_history.specs.Past.{Past, _▸_}
@@ -19,7 +20,7 @@ use Rattle.key_listing.specs.Listing.{freeLog}
 
 -- The bytes that wait after a call with this script, by the rule.
 abbrev pub waitsThen : Past ℕ → List ℕ → List ℕ → List ℕ
-waitsThen bytes waiting script = waitingAfter keyboardLamps bytes waiting script freeLog
+waitsThen bytes waiting script = waitingAfter (keyboardLamps Side.First) bytes waiting script freeLog
 
 -- What is left of a script behind a byte that was taken: all of it, but for the bytes that the lamp exchange of a lock read, of whose number nothing is said here. Those that wait behind the byte are no more than waited before and were read.
 pub record After (t : Took) (waits left : List ℕ) : Type 0 where

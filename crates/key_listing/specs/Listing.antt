@@ -6,7 +6,9 @@ use Prim.Native.Nat.{ℕ, zero, suc, _+_}
 use lib.Dec.{eqb}
 use lib.ListN.{length, take, drop, replicate}
 use Rattle.exchange.specs.Answer.{numberEnded}
+use Rattle.keyboard_sides.specs.declared.Side.{Side}
 use Rattle.keyboard_record.specs.declared.KeyboardHandler.{KeyboardHandler}
+use Rattle.keyboard_record.specs.declared.Keyboards.{Keyboards}
 use Rattle.keyboard.specs.Answers.{ends2-3-21}
 use Rattle.keyboard.specs.Handler.{Called, handled}
 use Rattle.keyboard.specs.KeyboardLamps.{keyboardLamps}
@@ -18,12 +20,16 @@ use Rattle.key_listing.specs.Lines.{takenLine, refusalLine}
 abbrev pub scriptLimit : ℕ
 scriptLimit = 65536
 
+-- "A fresh record": the program has one keyboard, the first side's.
+abbrev pub atFirst : KeyboardHandler
+atFirst = fresh Keyboards.One
+
 -- A handler call "with a 16-byte log each time".
 abbrev pub freeLog : List ℕ
 freeLog = replicate 16 0
 
 abbrev pub callOn : KeyboardHandler → List ℕ → Called
-callOn h script = handled keyboardLamps h script freeLog
+callOn h script = handled keyboardLamps Side.First h script freeLog
 
 -- What one call prints: its refusal, if it is refused, and the event that is taken "at once".
 unfoldable pub callText : KeyboardHandler → List ℕ → List ℕ
@@ -35,7 +41,7 @@ recordAfter h script = taken (callOn h script .handler) .now
 
 -- How many bytes are left for calls to take: of the script, and waiting.
 abbrev pub bytesLeft : KeyboardHandler → List ℕ → ℕ
-bytesLeft h script = length script + h .state .keyboard .waiting .count
+bytesLeft h script = length script + h .state .first .waiting .count
 
 -- What at most n calls print, each made on the record and on the script that the last one left, "until the script is used"; the program "goes on until none waits". After 2, 3 or 21, where a call leaves its record as it was, no call follows.
 unfoldable pub callsText : ℕ → KeyboardHandler → List ℕ → List ℕ
@@ -51,4 +57,4 @@ listingFrom h script = callsText (bytesLeft h script) h script
 
 -- What is printed "from a fresh record on".
 unfoldable pub listing : List ℕ → List ℕ
-listing script = listingFrom fresh (take scriptLimit script)
+listing script = listingFrom atFirst (take scriptLimit script)

@@ -1,23 +1,24 @@
-// The listing of key events that the program tablekeys prints: the handler is called on a script until it is used and no byte waits, and each event is taken at once.
+// The listing of key events that the program tablekeys prints: the handler of the one keyboard is called on a script until it is used and no byte waits, and each event is taken at once.
 ghost use mathlib.Core.Path.{_≡_};
 ghost use mathlib.Core.List.{[], _∷_};
 ghost use Prim.Native.Nat.{_<_};
 ghost use lib.ListN.{drop};
 ghost use Rattle.exchange.specs.Answer.{numberEnded};
 ghost use Rattle.keyboard.specs.Answers.{saidCall, ends2-3-21};
-ghost use Rattle.keyboard_record.specs.Record.{fresh};
 ghost use Rattle.keyboard_record.specs.Taking.{saidTaken};
 ghost use Rattle.key_listing.specs.Text.{digit as Text·digit, digits, decimal};
 ghost use Rattle.key_listing.specs.Lines.{actionText, characterText, eventLine, takenLine, refusalLine};
-ghost use Rattle.key_listing.specs.Listing.{callOn, callText, recordAfter, bytesLeft, listingFrom, listing};
+ghost use Rattle.key_listing.specs.Listing.{atFirst, callOn, callText, recordAfter, bytesLeft, listingFrom, listing};
 ghost use Rattle.buffer.specs.Buffer.{Holds, place, put};
 use buffer::put_byte;
 use buffer::put_text;
 use keyboard::HandlerAnswer;
 use keyboard::handle;
 use keyboard_record::KeyboardHandler;
+use keyboard_record::Keyboards;
 use keyboard_record::TakenEvent;
 use keyboard_record::take_event;
+use keyboard_sides::Side;
 use keycodes_ascii::Character;
 use keycodes_ascii::KeyAction;
 use keycodes_ascii::KeyEvent;
@@ -46,9 +47,9 @@ pub fn list_keys(script: &[u8], out: &mut [u8]) -> usize
 
 // The same of a script that is used to its end. The bytes that are left are those of the script and those that wait.
 fn list_calls(script: &[u8], out: &mut [u8]) -> usize
-    ensures { λ r. ⌜ place r (now (out .exit)) ≡ put (listingFrom fresh (now (script .entry))) (place 0 (now (out .entry))) ⌝ }
+    ensures { λ r. ⌜ place r (now (out .exit)) ≡ put (listingFrom atFirst (now (script .entry))) (place 0 (now (out .entry))) ⌝ }
 {
-    let mut handler = KeyboardHandler::fresh();
+    let mut handler = KeyboardHandler::fresh(Keyboards::One);
     let mut used: usize = 0;
     let mut left = script.len();
     let mut at: usize = 0;
@@ -71,14 +72,14 @@ fn call_once(handler: KeyboardHandler, script: &[u8], out: &mut [u8], at: usize)
     ensures { λ r. ⌜ (r .«is_last» ≡ ends2-3-21 (callOn handler (now (script .entry)) .end)) × (r .used ≡ callOn handler (now (script .entry)) .used) × (r .left ≡ bytesLeft (recordAfter handler (now (script .entry))) (drop (callOn handler (now (script .entry)) .used) (now (script .entry)))) × (r .handler ≡ recordAfter handler (now (script .entry))) × (place (r .at) (now (out .exit)) ≡ put (callText handler (now (script .entry))) (place at (now (out .entry)))) ⌝ }
 {
     let mut log = [0u8; 16];
-    let call = handle(handler, script, &mut log);
+    let call = handle(handler, Side::First, script, &mut log);
     let used = call.used;
     let answer = call.answer;
     let left = call.handler;
     let taken = take_event(left);
     let event = taken.event;
     let next = taken.handler;
-    let waiting = next.state.keyboard.waiting.count as usize;
+    let waiting = next.state.first.waiting.count as usize;
     let bytes_left = script.len() - used + waiting;
     let refused = put_refusal(out, at, answer);
     let listed = put_taken(out, refused, event);
@@ -102,6 +103,7 @@ fn is_last(answer: HandlerAnswer) -> bool
         HandlerAnswer::UnknownScancode => false,
         HandlerAnswer::QueueFull => false,
         HandlerAnswer::MalformedRecord => true,
+        HandlerAnswer::SideFull => false,
     }
 }
 
@@ -118,12 +120,15 @@ fn put_refusal(out: &mut [u8], at: usize, answer: HandlerAnswer) -> usize
     put_byte(out, digits, b'\n')
 }
 
-// Puts the line of an event that was taken; where none was, nothing.
+// Puts the line of an event that was taken, without its side; where none was, nothing.
 fn put_taken(out: &mut [u8], at: usize, event: TakenEvent) -> usize
     ensures { λ r. ⌜ place r (now (out .exit)) ≡ put (takenLine (saidTaken event)) (place at (now (out .entry))) ⌝ }
 {
     match event {
-        TakenEvent::Event(e) => put_event(out, at, e),
+        TakenEvent::Event(e) => {
+            let event = e.event;
+            put_event(out, at, event)
+        }
         TakenEvent::Nothing => at,
         TakenEvent::MalformedRecord => at,
     }

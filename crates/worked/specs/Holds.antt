@@ -16,7 +16,10 @@ use Rattle.ps2_bytes.specs.declared.response.MouseId.the-variants.{Zero}
 use Rattle.ps2_packet.specs.Packet.{common, xMovement, wheel}
 use Rattle.ps2_mouse.specs.Mouse.{mouseCommand}
 use Rattle.ps2_packet_reading.specs.Reading.{readMousePacket}
+use Rattle.keyboard_sides.specs.declared.Side.{Side}
+use Rattle.keyboard_sides.specs.Named.{Sided}
 use Rattle.keyboard_record.specs.declared.KeyboardHandler.{KeyboardHandler}
+use Rattle.keyboard_record.specs.declared.Keyboards.{Keyboards}
 use Rattle.keyboard.specs.Handler.{Called, handled, logLeft}
 use Rattle.keyboard.specs.KeyboardLamps.{keyboardLamps}
 use Rattle.keyboard_record.specs.Queue.{waiting}
@@ -37,13 +40,13 @@ written pairs left = take (2 * pairs) left
 
 -- ---- handler calls
 
--- A call, with the keyboard's own lamp exchange: what it gives back, and the log that it leaves.
+-- A call for the first side, with the keyboard's own lamp exchange: what it gives back, and the log that it leaves.
 pub record Call : Type 0 where
   pub gives-back : Called
   pub leaves : List ℕ
 
 abbrev pub callOn : KeyboardHandler → List ℕ → Call
-callOn h script = record { gives-back = handled keyboardLamps h script freeLog; leaves = logLeft keyboardLamps (h .state) script freeLog }
+callOn h script = record { gives-back = handled keyboardLamps Side.First h script freeLog; leaves = logLeft keyboardLamps Side.First (h .state) script freeLog }
 
 -- The last of some calls, each on the record that the one before it gave back.
 abbrev pub lastCall : KeyboardHandler → List ℕ → List (List ℕ) → Call
@@ -51,9 +54,9 @@ lastCall h script [] = callOn h script
 lastCall h script (next ∷ more) = lastCall (callOn h script .gives-back .handler) next more
 
 -- The last of some events.
-abbrev pub newest : List KeyEvent → Option KeyEvent
+abbrev pub newest : List (Sided KeyEvent) → Option KeyEvent
 newest [] = none
-newest (e ∷ []) = some e
+newest (e ∷ []) = some (e .one)
 newest (e ∷ f ∷ es) = newest (f ∷ es)
 
 abbrev pub newestAfter : Call → Option KeyEvent
@@ -67,7 +70,7 @@ abbrev pub Sees : Call → Seen → Type 0
 Sees c (event key action carried) = newestAfter c ≡ some (record { keycode = key; action = action; modifiers = record { bits = word carried } })
 Sees c (writes sign) = characterOfEvent (newestAfter c) ≡ some (Character.Ascii (code sign))
 Sees c noEvent = newestAfter c ≡ none
-Sees c (flags set) = c .gives-back .handler .state .keyboard .modifiers .bits ≡ word set
+Sees c (flags set) = c .gives-back .handler .state .first .modifiers .bits ≡ word set
 Sees c (refused number) = numberEnded (c .gives-back .end) ≡ number
 Sees c (used bytes) = c .gives-back .used ≡ bytes
 Sees c (log pairs) = written (c .gives-back .pairs) (c .leaves) ≡ pairs
@@ -88,7 +91,7 @@ ReadAs P (lacks x) = ⊥
 
 abbrev pub Holds : Position → Type 0
 Holds (scripts [] seen) = ⊥
-Holds (scripts (first ∷ more) seen) = All (Sees (lastCall fresh first more)) seen
+Holds (scripts (first ∷ more) seen) = All (Sees (lastCall (fresh Keyboards.One) first more)) seen
 Holds (xIs bytes x) = ReadAs (λ packet. xMovement (common packet) ≡ x) (play (readMousePacket Zero) bytes [] .end)
 Holds (wheelIs id byte4 turns) =
     (b1 b2 b3 : ℕ) → ReadAs (λ packet. wheel packet ≡ turns) (play (readMousePacket id) (b1 ∷ b2 ∷ b3 ∷ byte4 ∷ []) [] .end)

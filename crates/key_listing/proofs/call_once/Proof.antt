@@ -7,6 +7,7 @@ use lib.ListN.{length-drop}
 use Rattle.exchange.specs.Answer.{numberEnded}
 use Rattle.exchange.specs.Left.{Left}
 use Rattle.keycodes_ascii.specs.declared.KeyEvent.{KeyEvent}
+use Rattle.keyboard_sides.specs.Named.{Sided}
 use Rattle.keyboard_record.specs.declared.KeyboardHandler.{KeyboardHandler}
 use Rattle.keyboard.specs.Handler.{Called}
 use Rattle.keyboard.specs.Answers.{ends2-3-21}
@@ -32,9 +33,9 @@ returns c =
     let took = taking .take-event .ensures ∙ ap (λ (r : Called). taken (r .handler)) called in (
       c .is-last .ensures ∙ ap (λ (r : Called). ends2-3-21 (r .end)) called,
       ap (λ (r : Called). r .used) called,
-      rw (ap (λ (r : Called). r .used) called, length-drop, ap (λ (t : Left KeyboardHandler (Option KeyEvent)). t .now .state .keyboard .waiting .count) took),
-      ap (λ (t : Left KeyboardHandler (Option KeyEvent)). t .now) took,
-      rw (call-text _ _ (sym (ap (λ (r : Called). numberEnded (r .end)) called)) (sym (ap (λ (t : Left KeyboardHandler (Option KeyEvent)). t .answer) took)))
+      rw (ap (λ (r : Called). r .used) called, length-drop, ap (λ (t : Left KeyboardHandler (Option (Sided KeyEvent))). t .now .state .first .waiting .count) took),
+      ap (λ (t : Left KeyboardHandler (Option (Sided KeyEvent))). t .now) took,
+      rw (call-text _ _ (sym (ap (λ (r : Called). numberEnded (r .end)) called)) (sym (ap (λ (t : Left KeyboardHandler (Option (Sided KeyEvent))). t .answer) took)))
           (put-then _ _ _ (refused .put-refusal .ensures) (told .put-taken .ensures)),
     )
 

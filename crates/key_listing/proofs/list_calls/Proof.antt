@@ -5,9 +5,8 @@ use native.Mathlib.Omega.{arith}
 use mathlib.Core.Path.{_≡_, refl, sym, _∙_}
 use Prim.Native.Nat.{_<_, _≤_}
 use lib.ListN.{length, drop}
-use Rattle.keyboard_record.specs.Record.{fresh}
 use Rattle.buffer.specs.Buffer.{place, put}
-use Rattle.key_listing.specs.Listing.{bytesLeft, listingFrom}
+use Rattle.key_listing.specs.Listing.{atFirst, bytesLeft, listingFrom}
 use Rattle.buffer.proofs.Buffer.{put-none}
 use Rattle.key_listing.proofs.Calls.{calls-over, turn-used, turn-fewer, turn-left, turn-last, turn-more}
 use Rattle.key_listing.proofs.list_calls.Statement.{statement}
@@ -16,7 +15,7 @@ use Rattle.key_listing.proofs.list_calls.Tie as tie
 abbrev Inv-loop : tie.InvT-loop
 Inv-loop script out₀ handler₀ used₀ left₀ at₀ out handler used left at =
     (used ≤ length script) × (length out ≡ length out₀) × (left ≡ bytesLeft handler (drop used script))
-    × (put (listingFrom fresh script) (place 0 out₀) ≡ put (listingFrom handler (drop used script)) (place at out))
+    × (put (listingFrom atFirst script) (place 0 out₀) ≡ put (listingFrom handler (drop used script)) (place at out))
 
 abbrev μ-loop : tie.MeasureT-loop
 μ-loop script out₀ handler₀ used₀ left₀ at₀ out handler used left at = left

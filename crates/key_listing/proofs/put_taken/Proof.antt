@@ -7,7 +7,7 @@ use Rattle.key_listing.proofs.put_taken.Statement.{statement}
 use Rattle.key_listing.proofs.put_taken.Tie as tie
 
 returns : tie.Need-returns
-returns c = rw (c .before .before .before .before .before .event .given .1) (c .before .before .put-event .ensures)
+returns c = rw (c .before .before .before .before .before .before .event .given .1) (c .before .before .put-event .ensures)
 
 returns-2 : tie.Need-returns-2
 returns-2 c = rw (c .enum-told .given .1) (sym (put-none _))
