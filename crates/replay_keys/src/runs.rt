@@ -6,11 +6,15 @@ use keyboard_init::keyboard_init;
 use keyboard_modifiers::KeyboardModifiers;
 use keyboard_record::HandlerState;
 use keyboard_record::KeyboardHandler;
+use keyboard_record::Keyboards;
+use keyboard_record::SideEvent;
 use keyboard_record::Taken;
 use keyboard_record::TakenEvent;
 use keyboard_record::take_event;
 use keyboard_scancodes::KeyboardState;
 use keyboard_scancodes::WaitingBytes;
+use keyboard_sides::Side;
+use keyboard_sides::Sides;
 use keycodes_ascii::Character;
 use keycodes_ascii::FoundKeycode;
 use keycodes_ascii::KeyAction;
@@ -25,38 +29,140 @@ use packed_calls::SILENT;
 use packed_calls::bit;
 use packed_calls::ending;
 use packed_calls::plus;
+use packed_calls::within;
 use ps2_answers::Completion;
-ghost use Prim.Native.Nat.{_≤_};
 
-// The bytes used of a run that makes no further call.
+// The place in a script of a run that makes no further call.
 const ENDED: usize = usize::MAX;
 
-// What a turn of a run leaves: the record, the script's bytes used so far, whether the instruction's next turn is to be made, and what is answered.
+// The end of the first side's script where the second side has none of its own.
+const SHARED: usize = usize::MAX;
+
+// Where a run reads: the next byte of each side's script. The second side's begins where the first side's ends, at `split`; where the sides share one, that is the first side's.
+pub struct Reading {
+    first: usize,
+    second: usize,
+    split: usize,
+}
+
+// What a turn of a run leaves: the record, where the run reads, whether the instruction's next turn is to be made, and what is answered.
 pub struct Turn {
     pub handler: KeyboardHandler,
-    pub used: usize,
+    pub at: Reading,
     pub goes_on: bool,
     pub outcome: Outcome,
 }
 
+// A run that begins, where the second side's script begins at a place, or is the first side's.
+fn reading_from(split: usize) -> Reading {
+    Reading {
+        first: 0,
+        second: split,
+        split,
+    }
+}
+
+// A run that makes no further call.
+fn ended() -> Reading {
+    Reading {
+        first: ENDED,
+        second: ENDED,
+        split: SHARED,
+    }
+}
+
+// The script's next byte for a side's call.
+fn place_of(at: Reading, side: Side) -> usize {
+    if at.split == SHARED {
+        return at.first;
+    }
+    match side {
+        Side::First => at.first,
+        Side::Second => at.second,
+    }
+}
+
+// Where a side's script ends, if not at the end of all.
+fn end_of(at: Reading, side: Side) -> usize {
+    match side {
+        Side::First => at.split,
+        Side::Second => SHARED,
+    }
+}
+
+// Where a run reads when a side's call used so many bytes.
+fn moved(at: Reading, side: Side, used: usize) -> Reading {
+    let place = plus(place_of(at, side), used);
+    if at.split == SHARED {
+        return Reading {
+            first: place,
+            second: at.second,
+            split: SHARED,
+        };
+    }
+    match side {
+        Side::First => Reading {
+            first: place,
+            second: at.second,
+            split: at.split,
+        },
+        Side::Second => Reading {
+            first: at.first,
+            second: place,
+            split: at.split,
+        },
+    }
+}
+
 // A turn that is its instruction's last.
-fn last(handler: KeyboardHandler, used: usize, outcome: Outcome) -> Turn {
+fn last(handler: KeyboardHandler, at: Reading, outcome: Outcome) -> Turn {
     Turn {
         handler,
-        used,
+        at,
         goes_on: false,
         outcome,
     }
 }
 
 // A turn that answers nothing, and is its instruction's last.
-fn silent(handler: KeyboardHandler, used: usize) -> Turn {
-    last(handler, used, ending(SILENT, 0, 0, 0))
+fn silent(handler: KeyboardHandler, at: Reading) -> Turn {
+    last(handler, at, ending(SILENT, 0, 0, 0))
 }
 
 // The record before any run.
 pub fn at_first() -> Turn {
-    silent(KeyboardHandler::fresh(), 0)
+    silent(KeyboardHandler::fresh(Keyboards::One), reading_from(SHARED))
+}
+
+fn side_of(number: usize) -> Side {
+    if number == 0 {
+        Side::First
+    } else {
+        Side::Second
+    }
+}
+
+fn side_number(side: Side) -> u64 {
+    match side {
+        Side::First => 0,
+        Side::Second => 1,
+    }
+}
+
+// One keyboard, or two.
+fn keyboards_of(number: u8) -> Keyboards {
+    if number == 0 {
+        Keyboards::One
+    } else {
+        Keyboards::Two
+    }
+}
+
+fn keyboards_number(keyboards: Keyboards) -> u64 {
+    match keyboards {
+        Keyboards::One => 0,
+        Keyboards::Two => 1,
+    }
 }
 
 fn flags_of(state: usize) -> KeyboardModifiers {
@@ -65,43 +171,48 @@ fn flags_of(state: usize) -> KeyboardModifiers {
     }
 }
 
-// A record with a prefix, flags, no byte that waits and an empty queue.
-fn begun(i: Instruction) -> KeyboardHandler {
-    let fresh = KeyboardHandler::fresh();
-    let waiting = fresh.state.keyboard.waiting;
-    let places = fresh.places;
+// The record with another memory of a side's keyboard.
+fn with_keyboard(handler: KeyboardHandler, side: Side, keyboard: KeyboardState) -> KeyboardHandler {
+    let places = handler.places;
     KeyboardHandler {
-        state: HandlerState {
-            keyboard: KeyboardState {
-                prefix: i.argument == 1,
-                modifiers: flags_of(i.state),
-                waiting,
-            },
-            start: 0,
-            count: 0,
-        },
+        state: handler.state.with_keyboard(side, keyboard),
         places,
     }
 }
 
-// The record with these bytes waiting.
-fn with_waiting(handler: KeyboardHandler, waiting: WaitingBytes) -> KeyboardHandler {
-    let state = handler.state;
-    let keyboard = state.keyboard;
-    let modifiers = keyboard.modifiers;
-    let places = handler.places;
-    KeyboardHandler {
-        state: HandlerState {
-            keyboard: KeyboardState {
-                prefix: keyboard.prefix,
-                modifiers,
-                waiting,
-            },
-            start: state.start,
-            count: state.count,
-        },
-        places,
-    }
+// The record with a side's prefix and flags.
+fn with_flags(
+    handler: KeyboardHandler,
+    side: Side,
+    prefix: u8,
+    modifiers: KeyboardModifiers,
+) -> KeyboardHandler {
+    let before = handler.state.keyboard_at(side);
+    let waiting = before.waiting;
+    let keyboard = KeyboardState {
+        prefix: prefix == 1,
+        modifiers,
+        waiting,
+    };
+    with_keyboard(handler, side, keyboard)
+}
+
+// A record for one keyboard or two with the first side's prefix and flags, no byte that waits and an empty queue.
+fn begun(i: Instruction) -> KeyboardHandler {
+    let fresh = KeyboardHandler::fresh(keyboards_of(i.argument / 2));
+    with_flags(fresh, Side::First, i.argument % 2, flags_of(i.state))
+}
+
+// The record with these bytes of a side waiting.
+fn with_waiting(handler: KeyboardHandler, side: Side, waiting: WaitingBytes) -> KeyboardHandler {
+    let before = handler.state.keyboard_at(side);
+    let modifiers = before.modifiers;
+    let keyboard = KeyboardState {
+        prefix: before.prefix,
+        modifiers,
+        waiting,
+    };
+    with_keyboard(handler, side, keyboard)
 }
 
 // The bytes that wait with one behind them, where there is a place.
@@ -118,21 +229,34 @@ fn one_more(waiting: WaitingBytes, byte: u8) -> WaitingBytes {
     }
 }
 
-// A byte that waits: each turn adds it once.
-fn add_byte(byte: u8, handler: KeyboardHandler, used: usize) -> Turn {
-    let waiting = one_more(handler.state.keyboard.waiting, byte);
+// The bytes of a side that wait.
+fn waiting_at(handler: KeyboardHandler, side: Side) -> WaitingBytes {
+    let keyboard = handler.state.keyboard_at(side);
+    let waiting = keyboard.waiting;
+    waiting
+}
+
+// A turn that answers nothing, and is made again as often as its instruction says.
+fn again(handler: KeyboardHandler, at: Reading, number: u8) -> Turn {
     Turn {
-        handler: with_waiting(handler, waiting),
-        used,
+        handler,
+        at,
         goes_on: true,
-        outcome: ending(SILENT, 0, 0, 0),
+        outcome: ending(number, 0, 0, 0),
     }
 }
 
-// So many bytes wait, whatever the places hold.
-fn with_count(handler: KeyboardHandler, count: u8) -> KeyboardHandler {
-    let bytes = handler.state.keyboard.waiting.bytes;
-    with_waiting(handler, WaitingBytes { bytes, count })
+// A byte of a side that waits: each turn adds it once.
+fn add_byte(byte: u8, side: Side, handler: KeyboardHandler, at: Reading) -> Turn {
+    let waiting = one_more(waiting_at(handler, side), byte);
+    again(with_waiting(handler, side, waiting), at, SILENT)
+}
+
+// So many bytes of a side wait, whatever the places hold.
+fn with_count(handler: KeyboardHandler, side: Side, count: u8) -> KeyboardHandler {
+    let before = waiting_at(handler, side);
+    let bytes = before.bytes;
+    with_waiting(handler, side, WaitingBytes { bytes, count })
 }
 
 // A byte that waits, by its place; 0 where none waits there.
@@ -169,9 +293,9 @@ fn last_bytes(waiting: WaitingBytes) -> u64 {
         | waiting_byte(waiting, 15) << 56
 }
 
-// The bytes that wait: the first eight by the argument 0, the last eight by another.
+// The bytes that wait: the first eight by an even argument, the last eight by an odd one.
 fn waiting_bytes(waiting: WaitingBytes, argument: u8) -> u64 {
-    if argument == 0 {
+    if argument % 2 == 0 {
         first_bytes(waiting)
     } else {
         last_bytes(waiting)
@@ -186,22 +310,55 @@ fn action_of(number: usize) -> KeyAction {
     }
 }
 
-// The record with an event behind those that wait, where there is room.
-fn with_event(handler: KeyboardHandler, event: KeyEvent) -> KeyboardHandler {
-    let state = handler.state;
-    let count = state.count;
+// The state with another start, count and sides of its queue.
+fn with_queue(state: HandlerState, start: usize, count: usize, sides: Sides) -> HandlerState {
+    let first = state.first;
+    let second = state.second;
+    let keyboards = state.keyboards;
+    HandlerState {
+        first,
+        second,
+        keyboards,
+        start,
+        count,
+        sides,
+    }
+}
+
+// The record with an event of a side behind those that wait, where there is a place; the side's share is not asked.
+fn with_event(handler: KeyboardHandler, side: Side, event: KeyEvent) -> KeyboardHandler {
+    let start = handler.state.start;
+    let count = handler.state.count;
     if 128 <= count {
         return handler;
     }
+    let before = handler.state.sides;
+    let sides = before.with_side(side, count);
     let mut places = handler.places;
-    places[count] = event;
-    let keyboard = state.keyboard;
+    let place = (start % 128 + count) % 128;
+    places[place] = event;
     KeyboardHandler {
-        state: HandlerState {
-            keyboard,
-            start: 0,
-            count: count + 1,
-        },
+        state: with_queue(handler.state, start, count + 1, sides),
+        places,
+    }
+}
+
+// The record whose queue is said to start at a place, 0, or to have so many events, 1, whatever its places hold.
+fn with_said(handler: KeyboardHandler, what: u8, number: usize) -> KeyboardHandler {
+    let sides = handler.state.sides;
+    let start = if what == 0 {
+        number
+    } else {
+        handler.state.start
+    };
+    let count = if what == 0 {
+        handler.state.count
+    } else {
+        number
+    };
+    let places = handler.places;
+    KeyboardHandler {
+        state: with_queue(handler.state, start, count, sides),
         places,
     }
 }
@@ -226,68 +383,98 @@ fn keycode_end(byte: u8) -> u8 {
 fn event_of(i: Instruction) -> KeyEvent {
     KeyEvent {
         keycode: keycode_of(i.argument),
-        action: action_of(i.room),
+        action: action_of(i.room % 2),
         modifiers: flags_of(i.state),
     }
 }
 
-// An event that waits: each turn adds it once.
-fn add_event(i: Instruction, handler: KeyboardHandler, used: usize) -> Turn {
-    Turn {
-        handler: with_event(handler, event_of(i)),
-        used,
-        goes_on: true,
-        outcome: ending(keycode_end(i.argument), 0, 0, 0),
-    }
+// An event of a side that waits: each turn adds it once.
+fn add_event(i: Instruction, handler: KeyboardHandler, at: Reading) -> Turn {
+    let with = with_event(handler, side_of(i.room / 2), event_of(i));
+    again(with, at, keycode_end(i.argument))
 }
 
-fn action_number(action: KeyAction) -> u64
-    ensures { λ r. ⌜ r ≤ 1 ⌝ }
-{
+fn action_number(action: KeyAction) -> u64 {
     match action {
         KeyAction::Pressed => 0,
         KeyAction::Released => 1,
     }
 }
 
-// An event as a number: the keycode, whether the key is released, and the flags.
-fn event_number(event: KeyEvent) -> u64 {
+// An event as a number: the keycode, whether the key is released, the flags and the side.
+fn event_number(e: SideEvent) -> u64 {
+    let event = e.event;
+    let side = e.side;
     let keycode = event.keycode;
     let action = event.action;
-    keycode.to_byte() as u64 + 256 * action_number(action) + 512 * event.modifiers.bits as u64
+    keycode.to_byte() as u64
+        | action_number(action) << 8
+        | (event.modifiers.bits as u64) << 9
+        | side_number(side) << 25
 }
 
-// A record's prefix, flags and numbers of waiting events and of waiting bytes, as a number.
-fn record_number(handler: KeyboardHandler) -> u64 {
-    let state = handler.state;
-    let count = (state.count % 65536) as u64;
-    let waits = state.keyboard.waiting.count as u64;
-    bit(state.keyboard.prefix)
-        + 2 * state.keyboard.modifiers.bits as u64
-        + 131072 * count
-        + 8589934592 * waits
+// A keyboard's prefix, flags and number of waiting bytes, as a number.
+fn keyboard_number(keyboard: KeyboardState) -> u64 {
+    bit(keyboard.prefix)
+        | (keyboard.modifiers.bits as u64) << 1
+        | (keyboard.waiting.count as u64) << 33
 }
 
-// The bytes used after a handler call: a run ends at the first 2, 3 or 21.
-fn used_after(number: u8, before: usize, used: usize) -> usize {
+// The queue's start where it is no place, else 0.
+fn start_told(start: usize) -> u64 {
+    if start < 128 {
+        0
+    } else {
+        (start % 65536) as u64
+    }
+}
+
+// The first side's keyboard as a number, with the number of waiting events, whether there are two keyboards, and a start that is no place.
+fn record_number(state: HandlerState) -> u64 {
+    let keyboards = state.keyboards;
+    keyboard_number(state.first)
+        | ((state.count % 65536) as u64) << 17
+        | keyboards_number(keyboards) << 41
+        | start_told(state.start) << 42
+}
+
+// The record's number by the argument 0; by another the second side's keyboard.
+fn told_number(handler: KeyboardHandler, argument: u8) -> u64 {
+    if argument == 0 {
+        return record_number(handler.state);
+    }
+    let second = handler.state.second;
+    keyboard_number(second)
+}
+
+// Whether a run ends with a call's answer: at the first 2, 3 or 21.
+fn ends_run(number: u8) -> bool {
     match number {
-        2 => ENDED,
-        3 => ENDED,
-        21 => ENDED,
-        _ => plus(before, used),
+        2 => true,
+        3 => true,
+        21 => true,
+        _ => false,
+    }
+}
+
+// Where a run reads after a side's call.
+fn reading_after(number: u8, at: Reading, side: Side, used: usize) -> Reading {
+    if ends_run(number) {
+        ended()
+    } else {
+        moved(at, side, used)
     }
 }
 
 // What a handler call leaves; `left` is 1 where a lamp exchange failed, and the value tells how many bytes were dropped.
-fn handled(done: Handled, before: usize) -> Turn {
+fn handled(done: Handled, at: Reading, side: Side) -> Turn {
     let answer = done.answer;
     let number = answer.number();
     let handler = done.handler;
-    let used = used_after(number, before, done.used);
     Turn {
         handler,
-        used,
-        goes_on: used != ENDED,
+        at: reading_after(number, at, side, done.used),
+        goes_on: !ends_run(number),
         outcome: Outcome {
             number,
             left: bit(done.lamps_failed) as u8,
@@ -298,25 +485,47 @@ fn handled(done: Handled, before: usize) -> Turn {
     }
 }
 
-// A handler call, 33, on what is left of the script, with the whole log; 34 is made only where the script is not used up or a byte waits, and ends the run where neither is so.
-fn run_handle(
+// Whether there is nothing to handle: the script is used up, and no byte of the first side waits.
+fn nothing_left(handler: KeyboardHandler, place: usize, length: usize) -> bool {
+    if place != length {
+        return false;
+    }
+    let waiting = waiting_at(handler, Side::First);
+    waiting.count == 0
+}
+
+// A side's handler call, 33, on what is left of its script, with the whole log; 34 is made only where the script is not used up or a byte waits, and ends the run where neither is so.
+fn handle_from(
     op: u8,
+    side: Side,
     handler: KeyboardHandler,
-    used: usize,
+    at: Reading,
     script: &[u8],
     log: &mut [u8],
 ) -> Turn {
-    if script.len() < used {
-        return silent(handler, ENDED);
+    let place = place_of(at, side);
+    if script.len() < place {
+        return silent(handler, ended());
     }
     if op == 34 {
-        if script.len() == used {
-            if handler.state.keyboard.waiting.count == 0 {
-                return silent(handler, ENDED);
-            }
+        if nothing_left(handler, place, script.len()) {
+            return silent(handler, ended());
         }
     }
-    handled(handle(handler, &script[used..], log), used)
+    handled(handle(handler, side, &script[place..], log), at, side)
+}
+
+// The same on both sides' scripts.
+fn run_handle(
+    i: Instruction,
+    handler: KeyboardHandler,
+    at: Reading,
+    script: &[u8],
+    log: &mut [u8],
+) -> Turn {
+    let side = side_of(i.argument as usize);
+    let end = within(end_of(at, side), script);
+    handle_from(i.op, side, handler, at, &script[..end], log)
 }
 
 // What a taking gave: `left` is 3 where it is an event, which the value tells, and 2 where there is none.
@@ -341,40 +550,39 @@ fn takes_on(op: u8, left: u8) -> bool {
     if op == 36 { left == 3 } else { true }
 }
 
-fn taken(t: Taken, used: usize, op: u8) -> Turn {
+fn taken(t: Taken, at: Reading, op: u8) -> Turn {
     let event = t.event;
     let handler = t.handler;
     let outcome = taken_outcome(event);
     if outcome.number == 21 {
-        return last(handler, ENDED, outcome);
+        return last(handler, ended(), outcome);
     }
     Turn {
         handler,
-        used,
+        at,
         goes_on: takes_on(op, outcome.left),
         outcome,
     }
 }
 
 // A taking from the queue, 35, where the run goes on; 36 takes in any case, until none waits.
-fn run_take(op: u8, handler: KeyboardHandler, used: usize) -> Turn {
+fn run_take(op: u8, handler: KeyboardHandler, at: Reading) -> Turn {
     if op == 35 {
-        if used == ENDED {
-            return silent(handler, used);
+        if at.first == ENDED {
+            return silent(handler, at);
         }
     }
-    taken(take_event(handler), used, op)
+    taken(take_event(handler), at, op)
 }
 
-// How keyboard initialisation ended; the value is the record that it gives.
+// How keyboard initialisation ended; the value is the record that it gives, where it gives one.
 fn initialized(c: KeyboardInitialized) -> Outcome {
     let answer = c.answer;
-    ending(
-        completion_number(answer),
-        c.used,
-        c.pairs,
-        record_number(c.handler),
-    )
+    let number = completion_number(answer);
+    if number == 0 {
+        return ending(0, c.used, c.pairs, record_number(c.handler.state));
+    }
+    ending(number, c.used, c.pairs, 0)
 }
 
 fn completion_number(answer: Completion) -> u8 {
@@ -426,27 +634,53 @@ fn call_to_ascii(i: Instruction) -> Outcome {
     ending(0, 0, 0, character_number(character))
 }
 
-// A turn of an instruction on a record: 28 is keyboard initialisation, 29 asks for a character, 30 begins a run, 31 adds an event, 32 a byte that waits, 43 says how many wait, 33 and 34 are handler calls, 35 and 36 takings, 37 answers the record and 42 the bytes that wait. A part of a script and the end have no answer.
+// A turn of an instruction that has no ports: 29 asks for a character, 30 begins a run, 50 tells the second side's prefix and flags, 51 the queue's start or count, 52 where the second side's script begins, 31 adds an event, 32 a byte that waits, 43 says how many wait, 35 and 36 are takings, 37 answers the record and 42 the bytes that wait. A part of a script and the end have no answer.
+fn plain_turn(i: Instruction, handler: KeyboardHandler, at: Reading) -> Turn {
+    let op = i.op;
+    let argument = i.argument;
+    match op {
+        29 => last(handler, at, call_to_ascii(i)),
+        30 => silent(begun(i), reading_from(SHARED)),
+        31 => add_event(i, handler, at),
+        32 => add_byte(argument, side_of(i.state), handler, at),
+        35..=36 => run_take(op, handler, at),
+        37 => {
+            let told = told_number(handler, argument);
+            last(handler, at, ending(0, 0, 0, told))
+        }
+        43 => silent(with_count(handler, side_of(i.state), argument), at),
+        42 => {
+            let side = side_of((argument / 2) as usize);
+            let told = waiting_bytes(waiting_at(handler, side), argument);
+            last(handler, at, ending(0, 0, 0, told))
+        }
+        50 => {
+            let second = with_flags(handler, Side::Second, argument, flags_of(i.state));
+            silent(second, at)
+        }
+        51 => silent(with_said(handler, argument, i.state), at),
+        52 => silent(handler, reading_from(i.times)),
+        PART => silent(handler, at),
+        END => silent(handler, at),
+        _ => last(handler, at, ending(NO_CALL, 0, 0, 0)),
+    }
+}
+
+// A turn of an instruction on a record: 28 is keyboard initialisation, 33 and 34 are handler calls.
 pub fn run_turn(i: Instruction, before: Turn, script: &[u8], log: &mut [u8]) -> Turn {
     let op = i.op;
-    let used = before.used;
+    let at = before.at;
     let handler = before.handler;
     match op {
-        28 => last(handler, used, initialized(keyboard_init(script, log))),
-        29 => last(handler, used, call_to_ascii(i)),
-        30 => silent(begun(i), 0),
-        31 => add_event(i, handler, used),
-        32 => add_byte(i.argument, handler, used),
-        33..=34 => run_handle(op, handler, used, script, log),
-        35..=36 => run_take(op, handler, used),
-        37 => last(handler, used, ending(0, 0, 0, record_number(handler))),
-        43 => silent(with_count(handler, i.argument), used),
-        42 => {
-            let told = waiting_bytes(handler.state.keyboard.waiting, i.argument);
-            last(handler, used, ending(0, 0, 0, told))
+        28 => {
+            let keyboards = keyboards_of(i.argument);
+            last(
+                handler,
+                at,
+                initialized(keyboard_init(keyboards, script, log)),
+            )
         }
-        PART => silent(handler, used),
-        END => silent(handler, used),
-        _ => last(handler, used, ending(NO_CALL, 0, 0, 0)),
+        33..=34 => run_handle(i, handler, at, script, log),
+        _ => plain_turn(i, handler, at),
     }
 }

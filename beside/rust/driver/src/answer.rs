@@ -74,6 +74,7 @@ pub enum Record {
 #[derive(Clone, Debug, PartialEq)]
 pub enum Done {
     Handled {
+        side: Side,
         used: usize,
         log: Vec<u8>,
         end: u8,
@@ -87,8 +88,8 @@ pub enum Done {
 }
 
 impl Answer {
-    /// The answer as the Rust has it, without what requests added: ALT_RIGHT, the eleventh flag, the bytes that wait and the number of
-    /// those that were dropped are taken off here, and nowhere else.
+    /// The answer as the Rust has it, without what requests added: ALT_RIGHT, the eleventh flag, the second keyboard, the bytes that
+    /// wait and the number of those that were dropped are taken off here, and nowhere else.
     pub fn without_additions(self) -> Answer {
         let event = |event: KeyEvent| KeyEvent { flags: event.flags & ALL_FLAGS, ..event };
         match self {
@@ -97,8 +98,8 @@ impl Answer {
                     .into_iter()
                     .map(|one| match one {
                         Done::Taken(taken) => Done::Taken(taken.map(event)),
-                        Done::Handled { used, log, end, lamps_failed, .. } => {
-                            Done::Handled { used, log, end, lamps_failed, dropped: 0 }
+                        Done::Handled { side, used, log, end, lamps_failed, .. } => {
+                            Done::Handled { side, used, log, end, lamps_failed, dropped: 0 }
                         }
                         other => other,
                     })
@@ -161,8 +162,12 @@ impl fmt::Display for Record {
 impl fmt::Display for Done {
     fn fmt(&self, f: &mut fmt::Formatter) -> fmt::Result {
         match self {
-            Done::Handled { used, log, end, lamps_failed, dropped } => {
-                write!(f, "h:{used}:{}:{}:", log.len() / 2, Hex(log))?;
+            Done::Handled { side, used, log, end, lamps_failed, dropped } => {
+                let letter = match side {
+                    Side::First => 'h',
+                    Side::Second => 'g',
+                };
+                write!(f, "{letter}:{used}:{}:{}:", log.len() / 2, Hex(log))?;
                 match end {
                     0 => f.write_str("ok")?,
                     number => write!(f, "{number}")?,
@@ -308,8 +313,8 @@ fn parse_packet(text: &str) -> Result<Packet, String> {
 fn parse_record(op: &Op, text: &str) -> Result<Record, String> {
     match (op, text) {
         (_, "-") => Ok(Record::Nothing),
-        (Op::KeyboardInit, "none") => Ok(Record::NoHandler),
-        (Op::KeyboardInit, _) => parse_handler(Some(text)).map(Record::Handler),
+        (Op::KeyboardInit { .. }, "none") => Ok(Record::NoHandler),
+        (Op::KeyboardInit { .. }, _) => parse_handler(Some(text)).map(Record::Handler),
         (Op::Init(_), _) => parse_controller(Some(text)).map(Record::Controller),
         _ => parse_identity(Some(text))?.map(Record::Mouse).ok_or_else(|| "there is no identity".to_string()),
     }
@@ -321,10 +326,11 @@ fn parse_done(text: &str) -> Result<Done, String> {
         ["t", "none"] => Ok(Done::Taken(None)),
         ["t", "21"] => Ok(Done::NotTaken(21)),
         ["t", event] => Ok(Done::Taken(Some(parse_event(event)?))),
-        ["h", used, _, log, end] => {
+        [letter @ ("h" | "g"), used, _, log, end] => {
             let (end, dropped) = end.split_once('~').unwrap_or((end, "0"));
             let number = end.strip_suffix("+14").unwrap_or(end);
             Ok(Done::Handled {
+                side: if letter == "h" { Side::First } else { Side::Second },
                 used: decimal(used)? as usize,
                 log: parse_script(log)?,
                 end: if number == "ok" { 0 } else { decimal(number)? as u8 },

@@ -13,6 +13,8 @@ pub struct Call {
     pub op: Op,
     /// The script, or the input of an operation on lent bytes.
     pub script: Vec<u8>,
+    /// Side 2's script, where it has one of its own.
+    pub script2: Option<Vec<u8>>,
     /// Room of the log, in bytes; for a handler line the room of each call, for an operation on lent bytes the output's.
     pub room: usize,
     /// How often the call is made, each time from the same state.
@@ -32,7 +34,10 @@ pub enum Op {
     Keyboard(KeyboardOp),
     /// A mouse operation, with the mouse's identity where the line gives one.
     Mouse(MouseOp, Option<u8>),
-    KeyboardInit,
+    /// Keyboard initialisation; its record is for two keyboards, or for one.
+    KeyboardInit {
+        two: bool,
+    },
     Handle(Handler, Vec<Step>),
     ToAscii(u8, u16),
     ConvertSet2,
@@ -82,16 +87,37 @@ pub struct Controller {
     pub mouse: bool,
 }
 
-/// The handler's record, with the flags in document 01's numbering.
+/// A side of a table; where there is one keyboard, it is the first's.
+#[derive(Clone, Copy, Debug, Default, PartialEq)]
+pub enum Side {
+    #[default]
+    First,
+    Second,
+}
+
+/// What the handler remembers of a side's keyboard, with the flags in document 01's numbering.
 #[derive(Clone, Debug, Default, PartialEq)]
-pub struct Handler {
+pub struct Remembered {
     pub ext: bool,
     pub flags: u16,
-    pub queue: Vec<KeyEvent>,
     /// The bytes that wait, oldest first.
     pub kept: Vec<u8>,
     /// How many are said to wait, where that is more than there are places: such a record is malformed.
     pub waits: Option<u8>,
+}
+
+/// The handler's record.
+#[derive(Clone, Debug, Default, PartialEq)]
+pub struct Handler {
+    pub first: Remembered,
+    pub second: Remembered,
+    /// Whether there are two keyboards.
+    pub two: bool,
+    pub queue: Vec<KeyEvent>,
+    /// The place of the oldest event: of a record that is told, 0 or one that makes it malformed.
+    pub start: u16,
+    /// How many events are said to wait, where that is more than there are places: such a record is malformed.
+    pub count: Option<u16>,
 }
 
 #[derive(Clone, Copy, Debug, PartialEq)]
@@ -99,6 +125,7 @@ pub struct KeyEvent {
     pub keycode: u8,
     pub released: bool,
     pub flags: u16,
+    pub side: Side,
 }
 
 /// A part of a handler line's plan.
@@ -108,7 +135,7 @@ pub enum Step {
     Auto,
     /// A handler call and a taking in turn, until the script is used.
     Each,
-    Handle(u32),
+    Handle(Side, u32),
     Take(u32),
 }
 
@@ -126,6 +153,8 @@ pub const PORT_FLAGS: u16 = 0x7FF;
 pub const QUEUE_PLACES: usize = 128;
 /// The places for bytes that wait.
 pub const WAITING_PLACES: usize = 16;
+/// With two keyboards, the most events of one side that wait.
+pub const SHARE: usize = 96;
 
 /// A line that asks for no answer: empty, a comment, or an answer.
 pub fn is_skipped(line: &str) -> bool {
@@ -147,10 +176,13 @@ pub fn parse(line: &str) -> Result<Call, String> {
     }
     let (mut script, mut log, mut state, mut plan, mut repeat, mut show) = (None, None, None, None, None, None);
     let (mut input, mut output) = (None, None);
+    let (mut script2, mut table) = (None, None);
     for word in words {
         let (key, value) = word.split_once('=').ok_or_else(|| format!("'{word}' is not key=value"))?;
         let field = match key {
             "script" => &mut script,
+            "script2" => &mut script2,
+            "table" => &mut table,
             "log" => &mut log,
             "in" => &mut input,
             "room" => &mut output,
@@ -164,7 +196,7 @@ pub fn parse(line: &str) -> Result<Call, String> {
             return Err(format!("the field '{key}=' comes twice"));
         }
     }
-    let op = match (parse_op(name, &args, state, plan)?, show) {
+    let op = match (parse_op(name, &args, state, plan, table)?, show) {
         (op, None) => op,
         (op, Some("kept")) if kept::keeps(&op) => Op::Kept(Box::new(op)),
         (_, Some(value)) => return Err(format!("{name} has no '{value}' to show")),
@@ -183,15 +215,25 @@ pub fn parse(line: &str) -> Result<Call, String> {
             _ => {}
         }
     }
+    if script2.is_some() && !matches!(op, Op::Handle(..)) {
+        return Err(format!("{name} has no second side"));
+    }
     Ok(Call {
         op,
         script: script.or(input).map_or(Ok(Vec::new()), parse_script)?,
+        script2: script2.map(parse_script).transpose()?,
         room: log.or(output).map_or(Ok(0), decimal)? as usize,
         repeat: repeat.map_or(Ok(1), decimal)?,
     })
 }
 
-fn parse_op(name: &str, args: &[&str], state: Option<&str>, plan: Option<&str>) -> Result<Op, String> {
+fn parse_op(
+    name: &str,
+    args: &[&str],
+    state: Option<&str>,
+    plan: Option<&str>,
+    table: Option<&str>,
+) -> Result<Op, String> {
     let count = |n: usize| match args.len() == n {
         true => Ok(()),
         false => Err(format!("{name} takes {n} arguments, not {}", args.len())),
@@ -248,7 +290,7 @@ fn parse_op(name: &str, args: &[&str], state: Option<&str>, plan: Option<&str>) 
         "set_mouse_id" => count(0).and_then(|()| mouse(M::SetId)),
         "read_mouse_packet" => count(0).and_then(|()| mouse(M::ReadPacket)),
         "read_signed_packet" => count(0).and_then(|()| mouse(M::ReadSignedPacket)),
-        "keyboard_init" => none(Op::KeyboardInit),
+        "keyboard_init" => none(Op::KeyboardInit { two: table.map_or(Ok(false), are_two)? }),
         // The Rust has one handler; the port has also an entry that changes the record in place.
         "handle" => none(Op::Handle(parse_handler(state)?, parse_plan(plan.unwrap_or("auto"))?)),
         "to_ascii" => {
@@ -275,6 +317,9 @@ fn parse_op(name: &str, args: &[&str], state: Option<&str>, plan: Option<&str>) 
     }?;
     if plan.is_some() && !matches!(op, Op::Handle(..)) {
         return Err(format!("{name} takes no plan"));
+    }
+    if table.is_some() && !matches!(op, Op::KeyboardInit { .. }) {
+        return Err(format!("{name} takes no table"));
     }
     if state.is_some() && !matches!(op, Op::Handle(..) | Op::Mouse(..) | Op::Init(..)) {
         return Err(format!("{name} takes no state"));
@@ -359,12 +404,19 @@ fn parse_flags(text: &str) -> Result<u16, String> {
     hex(text, 3)
 }
 
+/// Whether a table has two keyboards.
+fn are_two(text: &str) -> Result<bool, String> {
+    match text {
+        "1" => Ok(false),
+        "2" => Ok(true),
+        _ => Err(format!("there is no table with '{text}' keyboards")),
+    }
+}
+
 pub fn parse_handler(state: Option<&str>) -> Result<Handler, String> {
     let mut handler = Handler::default();
     for pair in pairs(state) {
         match pair? {
-            ("ext", v) => handler.ext = bit(v)?,
-            ("flags", v) => handler.flags = parse_flags(v)?,
             ("queue", "-") => {}
             ("queue", v) => {
                 for part in v.split(';') {
@@ -376,40 +428,68 @@ pub fn parse_handler(state: Option<&str>) -> Result<Handler, String> {
                     handler.queue.extend(vec![event; times]);
                 }
             }
-            ("kept", v) => {
-                handler.kept = parse_script(v)?;
-                if handler.kept.len() > WAITING_PLACES {
-                    return Err(format!("no more than {WAITING_PLACES} bytes can be told to wait"));
-                }
-            }
-            ("waits", v) => match decimal(v)? {
-                n if n > WAITING_PLACES as u64 && handler.kept.len() == WAITING_PLACES => {
-                    handler.waits = Some(u8::try_from(n).map_err(|_| format!("'{v}' bytes can't be said to wait"))?)
-                }
-                n if n <= handler.kept.len() as u64 => handler.kept.truncate(n as usize),
-                _ => return Err(format!("'{v}' bytes can't be said to wait")),
+            ("table", v) => handler.two = are_two(v)?,
+            ("start", v) => handler.start = u16::try_from(decimal(v)?).map_err(|_| format!("'{v}' is no start"))?,
+            ("count", v) => handler.count = said("events", v, QUEUE_PLACES, &mut handler.queue)?,
+            // The fields of side 2 have a 2 behind their names.
+            (key, v) => match key.strip_suffix('2') {
+                Some(name) => parse_remembered(&mut handler.second, name, key, v)?,
+                None => parse_remembered(&mut handler.first, key, key, v)?,
             },
-            (key, _) => return Err(format!("a handler's state has no '{key}'")),
         }
     }
     Ok(handler)
 }
 
+fn parse_remembered(keyboard: &mut Remembered, name: &str, key: &str, v: &str) -> Result<(), String> {
+    match name {
+        "ext" => keyboard.ext = bit(v)?,
+        "flags" => keyboard.flags = parse_flags(v)?,
+        "kept" => {
+            keyboard.kept = parse_script(v)?;
+            if keyboard.kept.len() > WAITING_PLACES {
+                return Err(format!("no more than {WAITING_PLACES} bytes can be told to wait"));
+            }
+        }
+        "waits" => keyboard.waits = said("bytes", v, WAITING_PLACES, &mut keyboard.kept)?,
+        _ => return Err(format!("a handler's state has no '{key}'")),
+    }
+    Ok(())
+}
+
+/// How many things are said to wait: more than there are places, where every place is told, or the first of those that are told.
+fn said<N: TryFrom<u64>, T>(what: &str, text: &str, places: usize, told: &mut Vec<T>) -> Result<Option<N>, String> {
+    let bad = || format!("'{text}' {what} can't be said to wait");
+    let number = decimal(text)?;
+    if number <= told.len() as u64 {
+        told.truncate(number as usize);
+        return Ok(None);
+    }
+    match told.len() == places {
+        true => N::try_from(number).map(Some).map_err(|_| bad()),
+        false => Err(bad()),
+    }
+}
+
 pub fn parse_event(text: &str) -> Result<KeyEvent, String> {
     let bad = || format!("'{text}' is no event");
-    if text.len() != 6 || !text.is_ascii() {
+    let (event, side) = match text.strip_suffix("@2") {
+        Some(event) => (event, Side::Second),
+        None => (text, Side::First),
+    };
+    if event.len() != 6 || !event.is_ascii() {
         return Err(bad());
     }
-    let released = match &text[2..3] {
+    let released = match &event[2..3] {
         "P" => false,
         "R" => true,
         _ => return Err(bad()),
     };
-    let keycode = hex(&text[..2], 2)? as u8;
+    let keycode = hex(&event[..2], 2)? as u8;
     if keycode > LAST_KEYCODE {
         return Err(bad());
     }
-    Ok(KeyEvent { keycode, released, flags: parse_flags(&text[3..])? })
+    Ok(KeyEvent { keycode, released, flags: parse_flags(&event[3..])?, side })
 }
 
 fn parse_plan(text: &str) -> Result<Vec<Step>, String> {
@@ -417,7 +497,8 @@ fn parse_plan(text: &str) -> Result<Vec<Step>, String> {
         let (letter, times) = part.split_once('*').unwrap_or((part, "1"));
         let times = decimal(times)? as u32;
         match letter {
-            "h" => Ok(Step::Handle(times)),
+            "h" => Ok(Step::Handle(Side::First, times)),
+            "g" => Ok(Step::Handle(Side::Second, times)),
             "t" => Ok(Step::Take(times)),
             _ => Err(format!("'{part}' is no part of a plan")),
         }
@@ -488,7 +569,11 @@ pub fn push_script(out: &mut String, script: &[u8]) {
 
 impl fmt::Display for KeyEvent {
     fn fmt(&self, f: &mut fmt::Formatter) -> fmt::Result {
-        write!(f, "{:02X}{}{:03X}", self.keycode, if self.released { 'R' } else { 'P' }, self.flags)
+        write!(f, "{:02X}{}{:03X}", self.keycode, if self.released { 'R' } else { 'P' }, self.flags)?;
+        f.write_str(match self.side {
+            Side::First => "",
+            Side::Second => "@2",
+        })
     }
 }
 
@@ -500,31 +585,20 @@ impl fmt::Display for Controller {
 
 impl fmt::Display for Handler {
     fn fmt(&self, f: &mut fmt::Formatter) -> fmt::Result {
-        write!(f, "ext:{},flags:{:03X},queue:", self.ext as u8, self.flags)?;
+        write!(f, "ext:{},flags:{:03X},queue:", self.first.ext as u8, self.first.flags)?;
         for (i, event) in self.queue.iter().enumerate() {
             write!(f, "{}{event}", if i == 0 { "" } else { ";" })?;
         }
         if self.queue.is_empty() {
             f.write_str("-")?;
         }
-        self.fmt_waiting(f)
+        self.fmt_further(f)
     }
 }
 
-impl Handler {
-    /// The fields behind the queue: the bytes that wait, where some do.
-    fn fmt_waiting(&self, f: &mut impl Write) -> fmt::Result {
-        if !self.kept.is_empty() {
-            write!(f, ",kept:{}", Hex(&self.kept))?;
-        }
-        match self.waits {
-            Some(waits) => write!(f, ",waits:{waits}"),
-            None => Ok(()),
-        }
-    }
-
-    /// Whether a handler call or a taking is refused 21.
-    pub fn is_malformed(&self) -> bool {
+impl Remembered {
+    /// Whether such a keyboard makes its record malformed.
+    fn is_malformed(&self) -> bool {
         self.flags > PORT_FLAGS || self.waits.is_some()
     }
 
@@ -532,14 +606,84 @@ impl Handler {
     pub fn waiting(&self) -> u8 {
         self.waits.unwrap_or(self.kept.len() as u8)
     }
+}
 
-    /// The record as the Rust has it: on its ten flags, and without bytes that wait.
+impl Handler {
+    /// The fields behind the queue, each where it is not as in a fresh record for one keyboard.
+    fn fmt_further(&self, f: &mut impl Write) -> fmt::Result {
+        let (first, second) = (&self.first, &self.second);
+        if !first.kept.is_empty() {
+            write!(f, ",kept:{}", Hex(&first.kept))?;
+        }
+        if self.two {
+            write!(f, ",table:2")?;
+        }
+        if second.ext {
+            write!(f, ",ext2:1")?;
+        }
+        if second.flags != 0 {
+            write!(f, ",flags2:{:03X}", second.flags)?;
+        }
+        if !second.kept.is_empty() {
+            write!(f, ",kept2:{}", Hex(&second.kept))?;
+        }
+        if self.start != 0 {
+            write!(f, ",start:{}", self.start)?;
+        }
+        if let Some(count) = self.count {
+            write!(f, ",count:{count}")?;
+        }
+        if let Some(waits) = first.waits {
+            write!(f, ",waits:{waits}")?;
+        }
+        match second.waits {
+            Some(waits) => write!(f, ",waits2:{waits}"),
+            None => Ok(()),
+        }
+    }
+
+    /// Whether a handler call of side 1 or a taking is refused 21.
+    pub fn is_malformed(&self) -> bool {
+        let of = |side| self.queue.iter().filter(|event| event.side == side).count();
+        self.start_told() != 0
+            || self.count.is_some()
+            || self.first.is_malformed()
+            || self.two && (self.second.is_malformed() || of(Side::First) > SHARE || of(Side::Second) > SHARE)
+    }
+
+    /// How many events wait.
+    pub fn events(&self) -> u16 {
+        self.count.unwrap_or(self.queue.len() as u16)
+    }
+
+    /// The start where it is no place, else 0: the others are not told.
+    pub fn start_told(&self) -> u16 {
+        if self.start < QUEUE_PLACES as u16 {
+            0
+        } else {
+            self.start
+        }
+    }
+
+    /// Why the port alone can have such a record, but for its flags; nothing where the Rust can too.
+    fn beyond_rust(&self) -> Option<&'static str> {
+        let has_second = self.queue.iter().any(|event| event.side == Side::Second);
+        if self.two || has_second || self.second != Remembered::default() {
+            return Some("the Rust's record has one keyboard");
+        }
+        if self.start != 0 || self.count.is_some() {
+            return Some("the Rust's queue is not told its start or its count");
+        }
+        (self.first.waiting() > 0).then_some("no byte waits in the Rust's record")
+    }
+
+    /// The record as the Rust has it: of one keyboard, on its ten flags, and without bytes that wait.
     pub fn without_additions(mut self) -> Handler {
-        self.flags &= ALL_FLAGS;
+        self.first.flags &= ALL_FLAGS;
         for event in &mut self.queue {
             event.flags &= ALL_FLAGS;
         }
-        Handler { kept: Vec::new(), waits: None, ..self }
+        Handler { first: Remembered { kept: Vec::new(), waits: None, ..self.first }, two: false, ..self }
     }
 }
 
@@ -548,9 +692,13 @@ impl Op {
     pub fn beyond_rust(&self) -> Option<&'static str> {
         let has_other_flags = match self {
             Op::Mouse(MouseOp::ReadSignedPacket, _) => return Some("the Rust reads no packet with a signed wheel"),
-            Op::Handle(handler, _) if handler.waiting() > 0 => return Some("no byte waits in the Rust's record"),
+            Op::KeyboardInit { two: true } => return Some("the Rust's record has one keyboard"),
+            Op::Handle(_, plan) if plan.iter().any(|step| matches!(step, Step::Handle(Side::Second, _))) => {
+                return Some("the Rust has no handler of a second side")
+            }
+            Op::Handle(handler, _) if handler.beyond_rust().is_some() => return handler.beyond_rust(),
             Op::Handle(handler, _) => {
-                handler.flags > ALL_FLAGS || handler.queue.iter().any(|event| event.flags > ALL_FLAGS)
+                handler.first.flags > ALL_FLAGS || handler.queue.iter().any(|event| event.flags > ALL_FLAGS)
             }
             Op::ToAscii(_, flags) => *flags > ALL_FLAGS,
             Op::ConvertSet2 => return Some("the Rust converts no set 2"),
@@ -634,7 +782,7 @@ impl Op {
                 MouseOp::ReadPacket => "read_mouse_packet",
                 MouseOp::ReadSignedPacket => "read_signed_packet",
             },
-            Op::KeyboardInit => "keyboard_init",
+            Op::KeyboardInit { .. } => "keyboard_init",
             Op::Handle(..) => "handle",
             Op::ToAscii(..) => "to_ascii",
             Op::ConvertSet2 => "convert_set2",
@@ -667,6 +815,7 @@ impl Op {
                 write!(out, " {n}").unwrap()
             }
             Op::ToAscii(keycode, flags) => write!(out, " {keycode:02X} {flags:03X}").unwrap(),
+            Op::KeyboardInit { two: true } => *out += " table=2",
             _ => {}
         }
     }
@@ -696,6 +845,10 @@ impl Call {
             out += " script=";
             push_script(&mut out, &self.script);
         }
+        if let Some(script2) = &self.script2 {
+            out += " script2=";
+            push_script(&mut out, script2);
+        }
         if self.op.takes_log() {
             write!(out, " log={}", self.room).unwrap();
         }
@@ -721,7 +874,7 @@ impl Call {
 
 /// A handler's state, equal events that wait behind one another as one with `*N`.
 fn push_handler(out: &mut String, handler: &Handler) {
-    write!(out, " state=ext:{},flags:{:03X},queue:", handler.ext as u8, handler.flags).unwrap();
+    write!(out, " state=ext:{},flags:{:03X},queue:", handler.first.ext as u8, handler.first.flags).unwrap();
     for (i, run) in handler.queue.chunk_by(|a, b| a == b).enumerate() {
         write!(out, "{}{}", if i == 0 { "" } else { ";" }, run[0]).unwrap();
         if run.len() > 1 {
@@ -731,7 +884,7 @@ fn push_handler(out: &mut String, handler: &Handler) {
     if handler.queue.is_empty() {
         out.push('-');
     }
-    handler.fmt_waiting(out).unwrap();
+    handler.fmt_further(out).unwrap();
 }
 
 fn push_plan(out: &mut String, plan: &[Step]) {
@@ -746,7 +899,8 @@ fn push_plan(out: &mut String, plan: &[Step]) {
         let (letter, times) = match *step {
             Step::Auto => ("auto", 1),
             Step::Each => ("each", 1),
-            Step::Handle(times) => ("h", times),
+            Step::Handle(Side::First, times) => ("h", times),
+            Step::Handle(Side::Second, times) => ("g", times),
             Step::Take(times) => ("t", times),
         };
         *out += letter;

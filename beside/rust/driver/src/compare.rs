@@ -58,6 +58,13 @@ impl Sender {
             call = call::parse(&line).expect("a good line");
             answer = oracle.answer(&call);
         }
+        // The Rust has one keyboard, and side 1's calls of a few events are the same at a table with two: every other run is one there.
+        if self.calls % 2 == 1 && has_few_events(&call, &answer) {
+            if let Op::Handle(handler, _) = &mut call.op {
+                handler.two = true;
+            }
+            line = call.line();
+        }
         put_call(&call, &mut self.packed[Program::of(&call.op) as usize]).expect("a call within the program's space");
         self.calls += 1;
         self.sent.entry(call.op.name()).or_default()[from as usize] += 1;
@@ -76,6 +83,14 @@ impl Sender {
             to_port.send(std::mem::take(packed)).map_err(|_| Enough)?;
         }
         self.to_reader.send(std::mem::take(&mut self.batch)).map_err(|_| Enough)
+    }
+}
+
+/// Whether so few events wait in a run that none can meet side 1's share.
+fn has_few_events(call: &Call, answer: &Answer) -> bool {
+    match (&call.op, answer) {
+        (Op::Handle(handler, _), Answer::Run { done, .. }) => handler.queue.len() + done.len() <= call::SHARE,
+        _ => false,
     }
 }
 

@@ -60,7 +60,7 @@ pub fn operation(kind: usize, rng: &mut Rng) -> Op {
         24 => mouse(M::Id),
         25 => mouse(M::SetId),
         26 => mouse(M::ReadPacket),
-        27 => Op::KeyboardInit,
+        27 => Op::KeyboardInit { two: false },
         28 => Op::ToAscii(rng.below(LAST_KEYCODE as usize + 1) as u8, rng.below(ALL_FLAGS as usize + 1) as u16),
         // The handler twice: its states and plans are the most.
         _ => Op::Handle(handler(rng), plan(rng)),
@@ -77,6 +77,7 @@ fn event(rng: &mut Rng) -> KeyEvent {
         keycode: rng.below(LAST_KEYCODE as usize + 1) as u8,
         released: rng.once_in(2),
         flags: rng.below(ALL_FLAGS as usize + 1) as u16,
+        side: Side::First,
     }
 }
 
@@ -88,7 +89,8 @@ fn handler(rng: &mut Rng) -> Handler {
         3 => (0..rng.below(4)).map(|_| event(rng)).collect(),
         _ => Vec::new(),
     };
-    Handler { ext: rng.once_in(4), flags, queue, ..Handler::default() }
+    let first = Remembered { ext: rng.once_in(4), flags, ..Remembered::default() };
+    Handler { first, queue, ..Handler::default() }
 }
 
 /// A plan that lists its calls, so that its script can be recorded.
@@ -97,17 +99,19 @@ fn plan(rng: &mut Rng) -> Vec<Step> {
     let most = if rng.once_in(16) { 200 } else { 6 };
     let calls = 1 + rng.below(most) as u32;
     match rng.below(6) {
-        0 => (0..2 * calls).map(|i| if i % 2 == 0 { Step::Handle(1) } else { Step::Take(1) }).collect(),
-        1 => (0..=rng.below(4)).map(|_| if rng.once_in(2) { Step::Take(calls) } else { Step::Handle(calls) }).collect(),
-        _ => vec![Step::Handle(calls)],
+        0 => (0..2 * calls).map(|i| if i % 2 == 0 { Step::Handle(Side::First, 1) } else { Step::Take(1) }).collect(),
+        1 => (0..=rng.below(4))
+            .map(|_| if rng.once_in(2) { Step::Take(calls) } else { Step::Handle(Side::First, calls) })
+            .collect(),
+        _ => vec![Step::Handle(Side::First, calls)],
     }
 }
 
 /// The shorter way to write a recorded plan.
 fn shorter(plan: &[Step]) -> Vec<Step> {
-    let in_turn = plan.chunks(2).all(|two| two == [Step::Handle(1), Step::Take(1)]);
+    let in_turn = plan.chunks(2).all(|two| two == [Step::Handle(Side::First, 1), Step::Take(1)]);
     match plan {
-        [Step::Handle(_)] => vec![Step::Auto],
+        [Step::Handle(..)] => vec![Step::Auto],
         _ if in_turn => vec![Step::Each],
         _ => plan.to_vec(),
     }
@@ -122,7 +126,7 @@ fn recorded(oracle: &mut Oracle, op: &Op, seed: u64, noise: usize, twist: Twist)
         Op::Handle(handler, plan) if script.len() < 1000 => Op::Handle(handler.clone(), shorter(plan)),
         op => op.clone(),
     };
-    Call { op, script, room, repeat: 1 }
+    Call { op, script, script2: None, room, repeat: 1 }
 }
 
 /// What comes over and over in a stall about a limit.
@@ -244,7 +248,7 @@ pub fn sweep(oracle: &mut Oracle, emit: Emit) -> Result<(), Enough> {
 }
 
 fn plain(op: Op, script: &[u8], room: usize) -> Call {
-    Call { op, script: script.to_vec(), room, repeat: 1 }
+    Call { op, script: script.to_vec(), script2: None, room, repeat: 1 }
 }
 
 /// Every operation with every argument.
@@ -255,7 +259,9 @@ fn operations() -> Vec<Op> {
         for _ in 0..200 {
             let mut op = operation(kind, &mut rng);
             match &mut op {
-                Op::Handle(handler, plan) => (*handler, *plan) = (Handler::default(), vec![Step::Handle(1)]),
+                Op::Handle(handler, plan) => {
+                    (*handler, *plan) = (Handler::default(), vec![Step::Handle(Side::First, 1)])
+                }
                 Op::WriteConfig(byte) => *byte = 0x47,
                 Op::ToAscii(keycode, flags) => (*keycode, *flags) = (0, 0),
                 _ => {}
@@ -271,14 +277,15 @@ fn operations() -> Vec<Op> {
 /// Every scancode, with prefix and without, under no flag and under all, into an empty queue and about a full one.
 fn sweep_scancodes(oracle: &mut Oracle, emit: Emit) -> Result<(), Enough> {
     const LAMPS: [u8; 6] = [0, 1, 0xFA, 0, 1, 0xFA];
-    let waits = KeyEvent { keycode: 0x1E, released: false, flags: 0 };
+    let waits = KeyEvent { keycode: 0x1E, released: false, flags: 0, side: Side::First };
     for byte in 0..=255 {
         for ext in [false, true] {
             for flags in [0, ALL_FLAGS] {
                 for count in [0, 127, 128] {
-                    let handler = Handler { ext, flags, queue: vec![waits; count], ..Handler::default() };
+                    let first = Remembered { ext, flags, ..Remembered::default() };
+                    let handler = Handler { first, queue: vec![waits; count], ..Handler::default() };
                     let script: Vec<u8> = [byte].into_iter().chain(LAMPS).collect();
-                    for plan in [vec![Step::Handle(1), Step::Take(1)], vec![Step::Auto]] {
+                    for plan in [vec![Step::Handle(Side::First, 1), Step::Take(1)], vec![Step::Auto]] {
                         let op = Op::Handle(handler.clone(), plan);
                         emit(oracle, &op, &|_| plain(op.clone(), &script, 4))?;
                     }

@@ -87,6 +87,7 @@ impl KeyEvent {
             keycode: event.keycode as u8,
             released: event.action == KeyAction::Released,
             flags: from_flags(event.modifiers),
+            side: Side::First,
         }
     }
 }
@@ -192,7 +193,8 @@ impl Oracle {
             op if op.takes_bytes() => return plain::answer(call),
             _ => {}
         }
-        if call.op == Op::KeyboardInit {
+        let is_init = matches!(call.op, Op::KeyboardInit { .. });
+        if is_init {
             self.set(&Handler::default());
         }
         wire().script.clone_from(&call.script);
@@ -202,7 +204,7 @@ impl Oracle {
         }
         let (end, value, record) = done;
         let (used, log) = (wire().at, wire().log.clone());
-        let record = if call.op == Op::KeyboardInit && end == 0 { Record::Handler(self.left()) } else { record };
+        let record = if is_init && end == 0 { Record::Handler(self.left()) } else { record };
         Answer::Call { end, used, log, value, record }
     }
 
@@ -259,7 +261,7 @@ impl Oracle {
         const AMPLE: usize = 1000;
         match op {
             Op::Handle(handler, _) => self.set(handler),
-            Op::KeyboardInit => self.set(&Handler::default()),
+            Op::KeyboardInit { .. } => self.set(&Handler::default()),
             Op::ToAscii(..) => return (Vec::new(), 0),
             op if op.takes_bytes() => return (Vec::new(), 0),
             _ => {}
@@ -313,7 +315,7 @@ impl Oracle {
                 }
                 (end, value)
             }
-            Op::KeyboardInit => {
+            Op::KeyboardInit { .. } => {
                 keyboard::reach::forget();
                 let (end, _) = run(room, || keyboard::init(PS2Keyboard::new(c), self.queue.clone()));
                 self.registered = end == 0;
@@ -352,17 +354,17 @@ impl Oracle {
             _ => false,
         })?;
         let plan = done[..=caught].iter().map(|d| match d {
-            Done::Handled { .. } => Step::Handle(1),
+            Done::Handled { side, .. } => Step::Handle(*side, 1),
             _ => Step::Take(1),
         });
         let op = Op::Handle(handler.clone(), plan.collect());
-        Some(Call { op, script: call.script.clone(), ..*call })
+        Some(Call { op, ..call.clone() })
     }
 
     /// Whether a lamp exchange on this script throws bytes away: whichever lamps are set.
     fn throws_away(&mut self, script: &[u8], room: usize) -> bool {
         let op = Op::Keyboard(KeyboardOp::SetLed(0));
-        let call = Call { op: op.clone(), script: script.to_vec(), room, repeat: 1 };
+        let call = Call { op: op.clone(), script: script.to_vec(), script2: None, room, repeat: 1 };
         matches!(self.answer_kept(&op, &call), Answer::Kept(Kept { bytes, .. }) if !bytes.is_empty())
     }
 
@@ -391,7 +393,7 @@ impl Oracle {
             let (mut left, each) = match *step {
                 Step::Auto => (u32::MAX, false),
                 Step::Each => (u32::MAX, true),
-                Step::Handle(times) | Step::Take(times) => (times, false),
+                Step::Handle(_, times) | Step::Take(times) => (times, false),
             };
             while left > 0 {
                 if done.len() == limit || done.last().is_some_and(lacks) {
@@ -411,7 +413,8 @@ impl Oracle {
     /// A handler call on the script from a place on.
     pub fn handle(&mut self, at: usize, room: usize) -> Done {
         let (end, lamps_failed) = self.enter(at, room);
-        Done::Handled { used: wire().at - at, log: wire().log.clone(), end, lamps_failed, dropped: 0 }
+        let (side, used, log) = (Side::First, wire().at - at, wire().log.clone());
+        Done::Handled { side, used, log, end, lamps_failed, dropped: 0 }
     }
 
     /// Enters the handler: how the call ended, and whether a lamp exchange failed.
@@ -458,11 +461,11 @@ impl Oracle {
     pub fn set(&mut self, handler: &Handler) {
         if !self.registered {
             wire().script = GOOD_KEYBOARD.to_vec();
-            let (end, ..) = self.port_operation(&Op::KeyboardInit, 64);
+            let (end, ..) = self.port_operation(&Op::KeyboardInit { two: false }, 64);
             assert!(end == 0);
         }
-        self.feed(if handler.ext { 0xE0 } else { 0x00 });
-        *keyboard::reach::modifiers() = to_flags(handler.flags);
+        self.feed(if handler.first.ext { 0xE0 } else { 0x00 });
+        *keyboard::reach::modifiers() = to_flags(handler.first.flags);
         self.queue.clear();
         for event in &handler.queue {
             self.queue.push(event.to_rust()).unwrap();
@@ -478,7 +481,7 @@ impl Oracle {
         *keyboard::reach::modifiers() = Flags::new();
         self.feed(0x1D);
         let ext = keyboard::reach::modifiers().intersects(Flags::CONTROL_RIGHT);
-        Handler { ext, flags, queue, ..Handler::default() }
+        Handler { first: Remembered { ext, flags, ..Remembered::default() }, queue, ..Handler::default() }
     }
 
     /// A handler call on one byte.

@@ -26,7 +26,7 @@ impl Program {
     /// The program that makes an operation's calls.
     pub fn of(op: &Op) -> Program {
         match op {
-            Op::Handle(..) | Op::KeyboardInit | Op::ToAscii(..) => Program::Keys,
+            Op::Handle(..) | Op::KeyboardInit { .. } | Op::ToAscii(..) => Program::Keys,
             Op::Salvage(_) => Program::Bytes,
             op if op.takes_bytes() => Program::Bytes,
             Op::ApplyPreferences(_) => Program::Preferences,
@@ -54,6 +54,9 @@ const LEFT: u8 = 37;
 const BYTE: u8 = 32;
 const BYTES_LEFT: u8 = 42;
 const WAITS: u8 = 43;
+const SECOND: u8 = 50;
+const SAID: u8 = 51;
+const SCRIPT2: u8 = 52;
 const CONVERT_SET2: u8 = 40;
 const TYPE_TEXT: u8 = 41;
 
@@ -119,7 +122,7 @@ pub fn operation(op: &Op) -> (u8, u8, u16) {
         Op::Mouse(M::SetId, id) => (26, id.unwrap_or(0), 0),
         Op::Mouse(M::ReadPacket, id) => (27, id.unwrap_or(0), 0),
         Op::Mouse(M::ReadSignedPacket, id) => (38, id.unwrap_or(0), 0),
-        Op::KeyboardInit => (28, 0, 0),
+        Op::KeyboardInit { two } => (28, two as u8, 0),
         Op::ToAscii(keycode, flags) => (TO_ASCII, keycode, flags),
         Op::ConvertSet2 => (CONVERT_SET2, 0, 0),
         Op::TypeText => (TYPE_TEXT, 0, 0),
@@ -136,8 +139,10 @@ pub fn put_call(call: &Call, out: &mut Vec<u8>) -> Result<(), String> {
         true => ("input", MOST_BYTES, "output", MOST_BYTES),
         false => ("script", LONGEST_SCRIPT, "log", LARGEST_ROOM),
     };
-    if call.script.len() > longest {
-        return Err(format!("the port's program takes no {input} of {} bytes", call.script.len()));
+    // Side 2's script goes behind side 1's.
+    let script = [&call.script[..], call.script2.as_deref().unwrap_or_default()].concat();
+    if script.len() > longest {
+        return Err(format!("the port's program takes no {input} of {} bytes", script.len()));
     }
     if call.room > largest {
         return Err(format!("the port's program has no {output} of {} bytes", call.room));
@@ -150,10 +155,10 @@ pub fn put_call(call: &Call, out: &mut Vec<u8>) -> Result<(), String> {
     }
     match &call.op {
         Op::WritePreferences(preferences) => put_script(&preferences.field_bytes(), out),
-        op if op.takes_script() || op.takes_bytes() => put_script(&call.script, out),
+        op if op.takes_script() || op.takes_bytes() => put_script(&script, out),
         _ => {}
     }
-    if call.repeat > 1 && matches!(call.op, Op::Handle(..) | Op::KeyboardInit) {
+    if call.repeat > 1 && matches!(call.op, Op::Handle(..) | Op::KeyboardInit { .. }) {
         return Err(format!("the port's program repeats no {}", call.op.name()));
     }
     if let Op::Handle(handler, plan) = &call.op {
@@ -193,21 +198,35 @@ pub fn put_script(script: &[u8], out: &mut Vec<u8>) {
 }
 
 fn put_run(call: &Call, handler: &Handler, plan: &[Step], out: &mut Vec<u8>) {
-    let bytes = call.script.len();
+    let Handler { first, second, two, queue, start, count } = handler;
     let mut put = |op, argument, state, room, times| Instruction { op, argument, state, room, times }.put(out);
-    put(RECORD, handler.ext as u8, handler.flags, call.room, 1);
-    for alike in handler.queue.chunk_by(|a, b| a == b) {
-        let KeyEvent { keycode, released, flags } = alike[0];
-        put(EVENT, keycode, flags, released as usize, alike.len());
+    put(RECORD, first.ext as u8 | (*two as u8) << 1, first.flags, call.room, 1);
+    if second.ext || second.flags != 0 {
+        put(SECOND, second.ext as u8, second.flags, 0, 1);
     }
-    for alike in handler.kept.chunk_by(|a, b| a == b) {
-        put(BYTE, alike[0], 0, 0, alike.len());
+    if *start != 0 {
+        put(SAID, 0, *start, 0, 1);
     }
-    if let Some(waits) = handler.waits {
-        put(WAITS, waits, 0, 0, 1);
+    for alike in queue.chunk_by(|a, b| a == b) {
+        let KeyEvent { keycode, released, flags, side } = alike[0];
+        put(EVENT, keycode, flags, released as usize | (side as usize) << 1, alike.len());
+    }
+    if let Some(count) = *count {
+        put(SAID, 1, count, 0, 1);
+    }
+    for (side, keyboard) in [first, second].into_iter().enumerate() {
+        for alike in keyboard.kept.chunk_by(|a, b| a == b) {
+            put(BYTE, alike[0], side as u16, 0, alike.len());
+        }
+        if let Some(waits) = keyboard.waits {
+            put(WAITS, waits, side as u16, 0, 1);
+        }
+    }
+    if call.script2.is_some() {
+        put(SCRIPT2, 0, 0, 0, call.script.len());
     }
     // Each byte that waits at first, or that is of the script, is taken by one call at most.
-    let most = bytes + handler.kept.len();
+    let most = call.script.len() + first.kept.len();
     for step in plan {
         match *step {
             Step::Auto => put(UNTIL_USED, 0, 0, 0, most),
@@ -216,14 +235,13 @@ fn put_run(call: &Call, handler: &Handler, plan: &[Step], out: &mut Vec<u8>) {
                 put(TAKE, 0, 0, 0, 1);
             }),
             // An instruction is made at least once.
-            Step::Handle(0) | Step::Take(0) => {}
-            Step::Handle(times) => put(HANDLE, 0, 0, 0, times as usize),
+            Step::Handle(_, 0) | Step::Take(0) => {}
+            Step::Handle(side, times) => put(HANDLE, side as u8, 0, 0, times as usize),
             Step::Take(times) => put(TAKE, 0, 0, 0, times as usize),
         }
     }
-    put(LEFT, 0, 0, 0, 1);
-    put(BYTES_LEFT, 0, 0, 0, 1);
-    put(BYTES_LEFT, 1, 0, 0, 1);
+    (0..2).for_each(|side| put(LEFT, side, 0, 0, 1));
+    (0..4).for_each(|eight| put(BYTES_LEFT, eight, 0, 0, 1));
     // The last of these takings finds none, which ends the run.
     put(WAITING, 0, 0, 0, QUEUE_PLACES + 1);
 }
@@ -286,39 +304,59 @@ fn packet_number(packet: &Packet) -> u64 {
 }
 
 fn event_of(number: u64) -> KeyEvent {
-    KeyEvent { keycode: number as u8, released: number >> 8 & 1 == 1, flags: (number >> 9) as u16 }
+    let side = if number >> 25 & 1 == 0 { Side::First } else { Side::Second };
+    KeyEvent { keycode: number as u8, released: number >> 8 & 1 == 1, flags: (number >> 9) as u16, side }
 }
 
 fn event_number(event: &KeyEvent) -> u64 {
-    event.keycode as u64 | (event.released as u64) << 8 | (event.flags as u64) << 9
+    event.keycode as u64 | (event.released as u64) << 8 | (event.flags as u64) << 9 | (event.side as u64) << 25
 }
 
-/// A record's prefix, flags and numbers of waiting events and of waiting bytes.
-fn record_number(handler: &Handler) -> u64 {
-    let events = handler.queue.len() as u64;
-    handler.ext as u64 | (handler.flags as u64) << 1 | events << 17 | (handler.waiting() as u64) << 33
+/// A keyboard's prefix, flags and number of waiting bytes.
+fn keyboard_number(keyboard: &Remembered) -> u64 {
+    keyboard.ext as u64 | (keyboard.flags as u64) << 1 | (keyboard.waiting() as u64) << 33
 }
 
-/// The bytes that wait as two numbers, low byte first; 0 stands where none waits.
-fn byte_numbers(handler: &Handler) -> [u64; 2] {
-    let mut bytes = handler.kept.clone();
-    bytes.resize(WAITING_PLACES, 0);
-    [0, 8].map(|at| u64::from_le_bytes(bytes[at..at + 8].try_into().unwrap()))
+/// A record's numbers: that of side 1's keyboard, with the number of waiting events, whether there are two keyboards and a start that
+/// is no place; and that of side 2's.
+fn record_numbers(handler: &Handler) -> [u64; 2] {
+    let queue = (handler.events() as u64) << 17 | (handler.start_told() as u64) << 42;
+    [keyboard_number(&handler.first) | queue | (handler.two as u64) << 41, keyboard_number(&handler.second)]
 }
 
-/// A record by its number, its events and its bytes that wait.
-fn handler_of(number: u64, queue: Vec<KeyEvent>, bytes: [u64; 2]) -> Result<Handler, String> {
-    let (events, waits) = (number >> 17 & 0xFFFF, (number >> 33) as u8);
-    if events != queue.len() as u64 {
-        return Err(format!("{events} events wait, and {} were told", queue.len()));
-    }
+/// The bytes that wait as two numbers for each side, low byte first; 0 stands where none waits.
+fn byte_numbers(handler: &Handler) -> [u64; 4] {
+    let [first, second] = [&handler.first, &handler.second].map(|keyboard| {
+        let mut bytes = keyboard.kept.clone();
+        bytes.resize(WAITING_PLACES, 0);
+        [0, 8].map(|at| u64::from_le_bytes(bytes[at..at + 8].try_into().unwrap()))
+    });
+    [first[0], first[1], second[0], second[1]]
+}
+
+/// A keyboard by its number and its bytes that wait.
+fn remembered_of(number: u64, bytes: [u64; 2]) -> Remembered {
+    let waits = (number >> 33) as u8;
     let mut kept = bytes.map(u64::to_le_bytes).concat();
     kept.truncate(waits as usize);
     let waits = (waits as usize > WAITING_PLACES).then_some(waits);
-    let handler = Handler { ext: number & 1 == 1, flags: (number >> 1) as u16, queue, kept, waits };
-    match record_number(&handler) == number && byte_numbers(&handler) == bytes {
+    Remembered { ext: number & 1 == 1, flags: (number >> 1) as u16, kept, waits }
+}
+
+/// A record by its numbers, its events and its bytes that wait.
+fn handler_of(numbers: [u64; 2], queue: Vec<KeyEvent>, bytes: [u64; 4]) -> Result<Handler, String> {
+    let events = (numbers[0] >> 17) as u16;
+    let count = (events as usize > QUEUE_PLACES).then_some(events);
+    if count.is_none() && events as usize != queue.len() {
+        return Err(format!("{events} events wait, and {} were told", queue.len()));
+    }
+    let first = remembered_of(numbers[0], [bytes[0], bytes[1]]);
+    let second = remembered_of(numbers[1], [bytes[2], bytes[3]]);
+    let two = numbers[0] >> 41 & 1 == 1;
+    let handler = Handler { first, second, two, queue, start: (numbers[0] >> 42) as u16, count };
+    match record_numbers(&handler) == numbers && byte_numbers(&handler) == bytes {
         true => Ok(handler),
-        false => Err(format!("{number} is no record's number, or a byte was told that does not wait")),
+        false => Err(format!("{numbers:?} are no record's numbers, or a byte was told that does not wait")),
     }
 }
 
@@ -328,7 +366,7 @@ pub fn put_answer(op: &Op, answer: &Answer, out: &mut Vec<u8>) -> Result<(), Str
         Answer::Call { end, used, log, value, record } => {
             let left = left_of(op, record)?;
             let value = match (value, record) {
-                (Value::Nothing, Record::Handler(handler)) => record_number(handler),
+                (Value::Nothing, Record::Handler(handler)) => record_numbers(handler)[0],
                 (Value::Nothing, _) => 0,
                 (Value::Byte(byte), _) => *byte as u64,
                 (Value::Keyboard(keyboard), _) => *keyboard as u64,
@@ -342,7 +380,9 @@ pub fn put_answer(op: &Op, answer: &Answer, out: &mut Vec<u8>) -> Result<(), Str
             for d in done {
                 put_done(handle_of(plan), d, out);
             }
-            Packed { op: LEFT, value: record_number(left), ..Default::default() }.put(out);
+            for value in record_numbers(left) {
+                Packed { op: LEFT, value, ..Default::default() }.put(out);
+            }
             for value in byte_numbers(left) {
                 Packed { op: BYTES_LEFT, value, ..Default::default() }.put(out);
             }
@@ -386,7 +426,7 @@ fn handle_of(plan: &[Step]) -> u8 {
 
 fn put_done(handle: u8, done: &Done, out: &mut Vec<u8>) {
     let packed = match done {
-        Done::Handled { used, log, end, lamps_failed, dropped } => {
+        Done::Handled { used, log, end, lamps_failed, dropped, .. } => {
             let (left, value) = (*lamps_failed as u8, *dropped as u64);
             Packed { op: handle, number: *end, left, used: *used, value, log: log.clone() }
         }
@@ -469,8 +509,8 @@ pub fn answer_of(op: &Op, packed: Packed) -> Result<Answer, String> {
         Op::Init(_) => {
             record = Record::Controller(Controller { init: left & 1 != 0, kbd: left & 2 != 0, mouse: left & 4 != 0 })
         }
-        Op::KeyboardInit if end == 0 => record = Record::Handler(handler_of(value, Vec::new(), [0, 0])?),
-        Op::KeyboardInit => record = Record::NoHandler,
+        Op::KeyboardInit { .. } if end == 0 => record = Record::Handler(handler_of([value, 0], Vec::new(), [0; 4])?),
+        Op::KeyboardInit { .. } => record = Record::NoHandler,
         Op::Mouse(MouseOp::SetId, _) => record = Record::Mouse(left),
         // The others can't change the mouse's record: they are not given it, or don't give it back.
         Op::Mouse(MouseOp::ReadPacket | MouseOp::ReadSignedPacket, id) => record = Record::Mouse(id.unwrap_or(0)),
@@ -490,7 +530,12 @@ pub fn answer_of(op: &Op, packed: Packed) -> Result<Answer, String> {
 
 fn read_run(passed: &Handler, plan: &[Step], from: &mut impl Read) -> io::Result<Result<Answer, String>> {
     let handle = handle_of(plan);
-    let (mut done, mut queue, mut record, mut bytes) = (Vec::new(), Vec::new(), None, Vec::new());
+    let (mut done, mut queue, mut numbers, mut bytes) = (Vec::new(), Vec::new(), Vec::new(), Vec::new());
+    // The sides of the plan's calls; where it does not tell them, all are of side 1.
+    let mut sides = plan.iter().flat_map(|step| match *step {
+        Step::Handle(side, times) => vec![side; times as usize],
+        _ => Vec::new(),
+    });
     loop {
         let packed = Packed::read(from)?;
         let empty = packed.used == 0 && packed.log.is_empty();
@@ -498,6 +543,7 @@ fn read_run(passed: &Handler, plan: &[Step], from: &mut impl Read) -> io::Result
         let malformed = packed.number == MALFORMED && empty;
         match (packed.op, packed.left, packed.value) {
             (op, 0 | 1, dropped) if op == handle && packed.number != NO_CALL => done.push(Done::Handled {
+                side: sides.next().unwrap_or_default(),
                 used: packed.used,
                 log: packed.log,
                 end: packed.number,
@@ -507,7 +553,7 @@ fn read_run(passed: &Handler, plan: &[Step], from: &mut impl Read) -> io::Result
             (TAKE, NONE_TAKEN, 0) if plain => done.push(Done::Taken(None)),
             (TAKE, NONE_TAKEN, 0) if malformed => done.push(Done::NotTaken(MALFORMED)),
             (TAKE, TAKEN, event) if plain => done.push(Done::Taken(Some(event_of(event)))),
-            (LEFT, 0, left) if plain => record = Some(left),
+            (LEFT, 0, left) if plain => numbers.push(left),
             (BYTES_LEFT, 0, eight) if plain => bytes.push(eight),
             (WAITING, TAKEN, event) if plain => queue.push(event_of(event)),
             (WAITING, NONE_TAKEN, 0) if plain => break,
@@ -519,6 +565,7 @@ fn read_run(passed: &Handler, plan: &[Step], from: &mut impl Read) -> io::Result
             _ => return Ok(Err(format!("no answer to a call of a run: {packed:?}"))),
         }
     }
-    let record = record.zip(bytes.try_into().ok()).ok_or_else(|| "the run tells no record".to_string());
-    Ok(record.and_then(|(number, bytes)| handler_of(number, queue, bytes)).map(|left| Answer::Run { done, left }))
+    let record =
+        numbers.try_into().ok().zip(bytes.try_into().ok()).ok_or_else(|| "the run tells no record".to_string());
+    Ok(record.and_then(|(numbers, bytes)| handler_of(numbers, queue, bytes)).map(|left| Answer::Run { done, left }))
 }

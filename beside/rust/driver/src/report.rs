@@ -135,6 +135,7 @@ pub fn parse<'a>(name: &str, words: impl Iterator<Item = &'a str>) -> Option<Res
     Some(read.map(|from| Call {
         op: Op::Season(Season { width, widens, from, sessions }),
         script: Vec::new(),
+        script2: None,
         room: 0,
         repeat: 1,
     }))

@@ -52,6 +52,7 @@ pub fn parse<'a>(mut words: impl Iterator<Item = &'a str>) -> Result<Call, Strin
     Ok(Call {
         op: Op::Salvage(Salvage { id, places: decimal(places?)? as usize }),
         script: parse_script(script?)?,
+        script2: None,
         room: decimal(room?)? as usize,
         repeat: 1,
     })
