@@ -111,12 +111,8 @@ impl MousePacketGeneric {
 fn moved(byte1: u8, overflow: u8, bit9: u8, bit1to8: u8) -> i16
     ensures { λ r. ⌜ r ≡ movement (bit overflow byte1) (bit bit9 byte1) bit1to8 ⌝ }
 {
-    let sign = has(byte1, bit9);
-    if has(byte1, overflow) {
-        to_2s_complement(255, sign)
-    } else {
-        to_2s_complement(bit1to8, sign)
-    }
+    let low = if has(byte1, overflow) { 255 } else { bit1to8 };
+    to_2s_complement(low, has(byte1, bit9))
 }
 
 // The number of nine bits whose ninth, the sign, stands by itself.

@@ -19,14 +19,10 @@ fn presses(events: &[u8]) -> [u64; 94] {
     presses
 }
 
-/// A byte, or 255 on overflow, less 256 where the sign bit is set.
+/// A byte, or 255 on overflow, less 256 where the sign bit is set; without a branch, which bytes by chance would mislead half the time.
 fn movement(first: u8, overflow: u32, sign: u32, byte: u8) -> i64 {
-    let value = if first >> overflow & 1 == 1 { 255 } else { byte as i64 };
-    if first >> sign & 1 == 1 {
-        value - 256
-    } else {
-        value
-    }
+    let value = byte | (first >> overflow & 1).wrapping_neg();
+    i64::from(value) - (i64::from(first >> sign & 1) << 8)
 }
 
 fn sums<const LENGTH: usize>(mouse: &[u8]) -> (usize, i64, i64) {
