@@ -9,7 +9,7 @@ use lib.ListN.{length}
 use borrow.Author.Tests.{lt-leb, ltb-false}
 use Rattle.report_totals.specs.declared.Totals.{Totals}
 use Rattle.report_totals.specs.declared.Tallied.{Tallied}
-use Rattle.report_totals.specs.Packets.{packetsOf}
+use Rattle.ps2_packet.specs.Packets.{packetsOf}
 use Rattle.report_totals.specs.Totals.{Session, totalsOf, noTotals, tallied, tallyBytes}
 use Rattle.report_totals.proofs.Packets.{too-long-many}
 use Rattle.report.specs.declared.Limits.{Limits}

@@ -8,7 +8,8 @@ use Rattle.ps2_bytes.specs.declared.response.MouseId.the-variants as Identity
 use Rattle.report_totals.specs.declared.Totals.{Totals}
 use Rattle.report_totals.specs.Keys.{valuesFrom, forEachKey}
 use Rattle.report_totals.specs.Events.{presses}
-use Rattle.report_totals.specs.Packets.{byThrees, byFours, bytesOf, sumOf}
+use Rattle.ps2_packet.specs.Packets.{byThrees, byFours, bytesOf}
+use Rattle.report_totals.specs.Packets.{sumOf}
 use Rattle.report_totals.specs.Totals.{Session}
 use Rattle.report.specs.declared.Mean.the-variants.{Of, Absent}
 use Rattle.report.specs.declared.ReportAnswer.the-variants.{Done, OutOfRange}

@@ -3,7 +3,7 @@
 use mathlib.Core.Path.{_≡_}
 use mathlib.Core.List.{List, [], _∷_, _++_}
 use Rattle.report_totals.specs.declared.Totals.{Totals}
-use Rattle.report_totals.specs.Packets.{packetsOf, bytesOf}
+use Rattle.ps2_packet.specs.Packets.{packetsOf, bytesOf}
 use Rattle.report_totals.specs.Totals.{Session}
 use Rattle.report.specs.declared.Limits.{Limits}
 use Rattle.report.specs.declared.ReportAnswer.the-variants.{Done}

@@ -13,7 +13,8 @@ use Rattle.ps2_packet.specs.declared.MousePacketGeneric.{MousePacketGeneric}
 use Rattle.ps2_packet.specs.declared.MousePacket.{MousePacket}
 use Rattle.ps2_packet.specs.Packet.{common, xMovement, yMovement}
 use Rattle.report_totals.specs.Events.{presses}
-use Rattle.report_totals.specs.Packets.{packetsOf, bytesOf, sumOf}
+use Rattle.ps2_packet.specs.Packets.{packetsOf, bytesOf}
+use Rattle.report_totals.specs.Packets.{sumOf}
 use Rattle.report_totals.proofs.Whole.{packets-joined}
 
 pub joined-presses : (key : ℕ) (a b : List ℕ) → presses key (a ++ b) ≡ presses key a + presses key b

@@ -12,7 +12,7 @@ use Rattle.ps2_bytes.specs.declared.response.MouseId.the-variants as Identity
 use Rattle.ps2_packet.specs.declared.MousePacket.{MousePacket}
 use Rattle.ps2_packet.specs.declared.MousePacket.the-variants.{Zero, Three, Four}
 use Rattle.ps2_packet.specs.Packet.{generic, packet3, packet4, common, packetLength}
-use Rattle.report_totals.specs.Packets.{byThrees, byFours, packetsOf}
+use Rattle.ps2_packet.specs.Packets.{byThrees, byFours, packetsOf}
 use Rattle.report_totals.specs.Totals.{tallyBytes}
 
 -- a packet has 3 or 4 bytes

@@ -18,7 +18,8 @@ use Rattle.ps2_packet.specs.declared.MousePacketGeneric.{MousePacketGeneric}
 use Rattle.ps2_packet.specs.Signed.{Between}
 use Rattle.ps2_packet.specs.Packet.{generic, common, movement, xMovement, yMovement, xOverflow, xSign, yOverflow, ySign, packetLength}
 use Rattle.ps2_packet.proofs.Movement.{movement-range}
-use Rattle.report_totals.specs.Packets.{packetsOf, sumOf, Movements}
+use Rattle.ps2_packet.specs.Packets.{packetsOf}
+use Rattle.report_totals.specs.Packets.{sumOf, Movements}
 use Rattle.report_totals.specs.Totals.{tallyBytes}
 use Rattle.report_totals.proofs.Sums.{mag-add}
 use Rattle.report_totals.proofs.Packets.{Next, next-packet, no-packet-at, length-low}

@@ -10,7 +10,7 @@ use Rattle.ps2_bytes.specs.declared.response.MouseId.the-variants as Identity
 use Rattle.ps2_packet.specs.declared.MousePacket.{MousePacket}
 use Rattle.ps2_packet.specs.declared.MousePacket.the-variants.{Zero, Three, Four}
 use Rattle.ps2_packet.specs.Packet.{generic, packet3, packet4, packetId, packetBytes, packetLength}
-use Rattle.report_totals.specs.Packets.{byThrees, byFours, packetsOf, bytesOf}
+use Rattle.ps2_packet.specs.Packets.{byThrees, byFours, packetsOf, bytesOf}
 use Rattle.report_totals.specs.Whole.{Of, none, and, Whole}
 
 module _ {id : MouseId} {bytes : List ℕ} {packets : List MousePacket} where

@@ -12,7 +12,8 @@ use Rattle.report_totals.specs.declared.Totals.{Totals}
 use Rattle.report_totals.specs.declared.Tallied.{Tallied}
 use Rattle.report_totals.specs.Keys.{forEachKey}
 use Rattle.report_totals.specs.Events.{presses}
-use Rattle.report_totals.specs.Packets.{packetsOf, sumOf}
+use Rattle.ps2_packet.specs.Packets.{packetsOf}
+use Rattle.report_totals.specs.Packets.{sumOf}
 
 -- "A session is its events and its mouse bytes in packets of one identity."
 pub record Session : Type 0 where

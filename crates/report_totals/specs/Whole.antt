@@ -7,7 +7,7 @@ use lib.ListN.{length}
 use Rattle.ps2_bytes.specs.declared.response.MouseId.{MouseId}
 use Rattle.ps2_packet.specs.declared.MousePacket.{MousePacket}
 use Rattle.ps2_packet.specs.Packet.{packetId, packetLength}
-use Rattle.report_totals.specs.Packets.{bytesOf}
+use Rattle.ps2_packet.specs.Packets.{bytesOf}
 
 -- Packets of one identity.
 pub data Of (id : MouseId) : List MousePacket → Type 0 where
