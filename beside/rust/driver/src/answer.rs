@@ -2,6 +2,7 @@
 //! and read from one.
 
 use crate::call::*;
+use crate::dispatch::Dispatched;
 use crate::kept::Kept;
 use crate::prefs_code::FieldsRead;
 use crate::report::Reported;
@@ -24,6 +25,7 @@ pub enum Answer {
         left: Handler,
     },
     Salvaged(Salvaged),
+    Dispatched(Dispatched),
     Fields(FieldsRead),
     Reported(Reported),
     /// Of an operation on lent bytes: the input's bytes used, where it counts them, and those written to the output.
@@ -216,6 +218,7 @@ impl fmt::Display for Answer {
                 write!(f, "{} rec={left}", if done.is_empty() { "-" } else { "" })
             }
             Answer::Salvaged(salvaged) => write!(f, "{salvaged}"),
+            Answer::Dispatched(dispatched) => write!(f, "{dispatched}"),
             Answer::Fields(read) => write!(f, "{read}"),
             Answer::Reported(reported) => write!(f, "{reported}"),
             Answer::Kept(kept) => write!(f, "{kept}"),

@@ -300,6 +300,7 @@ pub fn bench(port: Paths, tablekeys: &str, rounds: usize) -> io::Result<ExitCode
     let mut measures = linked_measures(&Path::new(own).with_file_name("calls"), 100 * rounds)?;
     measures.extend(linked_measures(&Path::new(own).with_file_name("recording"), 10 * rounds)?);
     measures.extend(linked_measures(&Path::new(own).with_file_name("session"), 10 * rounds)?);
+    measures.extend(linked_measures(&Path::new(own).with_file_name("steps"), 100 * rounds)?);
     let measured = |name: &str| measures.get(name).copied().ok_or_else(|| io::Error::other(format!("no {name}")));
     let handler_calls =
         [("key", "plain key", ""), ("lock", "lock", ", each with its lamp exchange of 6 reads and 2 writes")];
@@ -315,6 +316,16 @@ pub fn bench(port: Paths, tablekeys: &str, rounds: usize) -> io::Result<ExitCode
         table.row(&format!("handler call, {call}, by value"), Ok((rust, port("value")?)), &contents);
         table.row(&format!("handler call, {call}, in place"), Ok((rust, port("place")?)), "the same calls");
     }
+    // The Rust has no dispatcher: a step stands beside the port's own handler call, which it makes.
+    let ready = measured("step-ready")?;
+    let call = measured("key-value")?.without(1.0, measured("key-value-ready")?);
+    let step = measured("step-key")?.without(1.0, ready);
+    let (packet, idle) = (measured("step-packet")?.without(1.0, ready), measured("step-idle")?.without(1.0, ready));
+    let contents = format!(
+        "100 steps in a row from a fresh state on, both sides in turn, nothing taken; in the Rust's place the port's own handler \
+         call, plain key, by value. A step that reads a packet took {packet}, an idle one {idle}"
+    );
+    table.row("dispatcher's step, plain key", Ok((call, step)), &contents);
 
     let one = |line: &str| vec![line.to_string()];
     let rows = [

@@ -1,5 +1,6 @@
 //! A call line of the trace format (tests/traces/README.md), read and written.
 
+use crate::dispatch::{self, Dispatch};
 use crate::kept;
 use crate::prefs_apply::{self, Preferences};
 use crate::prefs_code;
@@ -43,6 +44,7 @@ pub enum Op {
     ConvertSet2,
     TypeText,
     Salvage(Salvage),
+    Dispatch(Box<Dispatch>),
     ApplyPreferences(Preferences),
     WritePreferences(Preferences),
     /// By the reader of a version.
@@ -169,6 +171,9 @@ pub fn parse(line: &str) -> Result<Call, String> {
     }
     if let Some(call) = report::parse(name, words.clone()) {
         return call;
+    }
+    if name == dispatch::NAME {
+        return dispatch::parse(words);
     }
     let mut args = Vec::new();
     while let Some(word) = words.next_if(|word| !word.contains('=')) {
@@ -704,6 +709,7 @@ impl Op {
             Op::ConvertSet2 => return Some("the Rust converts no set 2"),
             Op::TypeText => return Some("the Rust types no text"),
             Op::Salvage(_) => return Some("the Rust salvages no recording"),
+            Op::Dispatch(_) => return Some("the Rust has no dispatcher"),
             Op::ApplyPreferences(_) => return Some("the Rust applies no preferences"),
             Op::WritePreferences(_) | Op::ReadPreferences(_) => return Some("the Rust codes no preferences"),
             Op::Season(_) => return Some("the Rust makes no report"),
@@ -788,6 +794,7 @@ impl Op {
             Op::ConvertSet2 => "convert_set2",
             Op::TypeText => "type_text",
             Op::Salvage(_) => salvage::NAME,
+            Op::Dispatch(_) => dispatch::NAME,
             Op::ApplyPreferences(_) => prefs_apply::NAME,
             Op::WritePreferences(_) => prefs_code::WRITE,
             Op::ReadPreferences(1) => prefs_code::READ_1,
@@ -834,11 +841,15 @@ impl Call {
             season.push_fields(&mut out);
             return out;
         }
+        if let Op::Dispatch(dispatch) = &self.op {
+            dispatch.push_fields(self, &mut out);
+            return out;
+        }
         self.op.push_args(&mut out);
         match self.op.without_show() {
             Op::Init(controller) if *controller != Controller::default() => write!(out, " state={controller}").unwrap(),
             Op::Mouse(_, Some(id)) => write!(out, " state=id:{id}").unwrap(),
-            Op::Handle(handler, _) if *handler != Handler::default() => push_handler(&mut out, handler),
+            Op::Handle(handler, _) if *handler != Handler::default() => push_handler_state(&mut out, handler),
             _ => {}
         }
         if self.op.takes_script() {
@@ -873,7 +884,7 @@ impl Call {
 }
 
 /// A handler's state, equal events that wait behind one another as one with `*N`.
-fn push_handler(out: &mut String, handler: &Handler) {
+pub fn push_handler_state(out: &mut String, handler: &Handler) {
     write!(out, " state=ext:{},flags:{:03X},queue:", handler.first.ext as u8, handler.first.flags).unwrap();
     for (i, run) in handler.queue.chunk_by(|a, b| a == b).enumerate() {
         write!(out, "{}{}", if i == 0 { "" } else { ";" }, run[0]).unwrap();

@@ -5,6 +5,7 @@ mod bench;
 mod call;
 mod compare;
 mod device;
+mod dispatch;
 mod generate;
 mod kept;
 mod listing;
@@ -55,9 +56,11 @@ fn number(args: &[String], name: &str) -> Option<u64> {
 fn main() -> io::Result<ExitCode> {
     let args: Vec<String> = std::env::args().skip(1).collect();
     let (calls, seed) = (number(&args, "--calls"), number(&args, "--seed"));
-    let programs = ["--port", "--keys", "--bytes", "--preferences", "--reports"].map(|name| option(&args, name));
+    let programs = ["--port", "--keys", "--bytes", "--preferences", "--reports", "--dispatcher"].map(|name| option(&args, name));
     let port = match programs {
-        [Some(ports), Some(keys), Some(bytes), Some(preferences), Some(reports)] => Some([ports, keys, bytes, preferences, reports]),
+        [Some(ports), Some(keys), Some(bytes), Some(preferences), Some(reports), Some(dispatcher)] => {
+            Some([ports, keys, bytes, preferences, reports, dispatcher])
+        },
         _ => None,
     };
     let but = option(&args, "--but").map_or(Ok(Default::default()), port::calls_of);
@@ -86,7 +89,7 @@ fn main() -> io::Result<ExitCode> {
             eprintln!("       beside pack [--keys] [--answers] [--but TRACE]");
             eprintln!("       beside compare --calls N --seed S PORT [--damage CALL]");
             eprintln!("       beside bench [--rounds N] PORT --tablekeys PROGRAM");
-            eprintln!("where PORT is --port PROGRAM --keys PROGRAM --bytes PROGRAM --preferences PROGRAM --reports PROGRAM");
+            eprintln!("where PORT is --port PROGRAM --keys PROGRAM --bytes PROGRAM --preferences PROGRAM --reports PROGRAM --dispatcher PROGRAM");
             Ok(ExitCode::from(2))
         }
     }

@@ -328,6 +328,7 @@ impl Oracle {
             | Op::TypeText
             | Op::Salvage(_)
             | Op::Season(_)
+            | Op::Dispatch(_)
             | Op::ApplyPreferences(_)
             | Op::WritePreferences(_)
             | Op::ReadPreferences(_)

@@ -9,7 +9,8 @@ use crate::prefs_code::{self, FieldsRead};
 use std::io::{self, Read};
 
 /// The port's programs: crates/replay makes the calls on the ports, crates/replay_keys those on keys, crates/replay_bytes those on
-/// lent bytes, crates/replay_preferences applies preferences, crates/replay_report makes the calls on reports.
+/// lent bytes, crates/replay_preferences applies preferences, crates/replay_report makes the calls on reports, crates/replay_dispatch
+/// a dispatcher's steps.
 #[derive(Clone, Copy)]
 pub enum Program {
     Ports,
@@ -17,10 +18,11 @@ pub enum Program {
     Bytes,
     Preferences,
     Reports,
+    Dispatcher,
 }
 
 /// How many programs the port has.
-pub const PROGRAMS: usize = 5;
+pub const PROGRAMS: usize = 6;
 
 impl Program {
     /// The program that makes an operation's calls.
@@ -31,6 +33,7 @@ impl Program {
             op if op.takes_bytes() => Program::Bytes,
             Op::ApplyPreferences(_) => Program::Preferences,
             Op::Season(_) => Program::Reports,
+            Op::Dispatch(_) => Program::Dispatcher,
             _ => Program::Ports,
         }
     }
@@ -49,7 +52,7 @@ const EVENT: u8 = 31;
 const HANDLE: u8 = 33;
 const UNTIL_USED: u8 = 34;
 const TAKE: u8 = 35;
-const WAITING: u8 = 36;
+pub const WAITING: u8 = 36;
 const LEFT: u8 = 37;
 const BYTE: u8 = 32;
 const BYTES_LEFT: u8 = 42;
@@ -129,7 +132,7 @@ pub fn operation(op: &Op) -> (u8, u8, u16) {
         Op::ApplyPreferences(_) => (prefs_apply::APPLYING, 0, 0),
         Op::WritePreferences(ref preferences) => (prefs_code::WRITING, preferences.version, 0),
         Op::ReadPreferences(reader) => (prefs_code::READING, reader, 0),
-        Op::Handle(..) | Op::Salvage(_) | Op::Season(_) | Op::Kept(_) => unreachable!("it is packed by itself"),
+        Op::Handle(..) | Op::Salvage(_) | Op::Season(_) | Op::Dispatch(_) | Op::Kept(_) => unreachable!("it is packed by itself"),
     }
 }
 
@@ -139,8 +142,9 @@ pub fn put_call(call: &Call, out: &mut Vec<u8>) -> Result<(), String> {
         true => ("input", MOST_BYTES, "output", MOST_BYTES),
         false => ("script", LONGEST_SCRIPT, "log", LARGEST_ROOM),
     };
-    // Side 2's script goes behind side 1's.
-    let script = [&call.script[..], call.script2.as_deref().unwrap_or_default()].concat();
+    // Side 2's script goes behind side 1's, and a mouse's behind both.
+    let script3 = if let Op::Dispatch(dispatch) = &call.op { &dispatch.script3[..] } else { &[] };
+    let script = [&call.script[..], call.script2.as_deref().unwrap_or_default(), script3].concat();
     if script.len() > longest {
         return Err(format!("the port's program takes no {input} of {} bytes", script.len()));
     }
@@ -163,6 +167,8 @@ pub fn put_call(call: &Call, out: &mut Vec<u8>) -> Result<(), String> {
     }
     if let Op::Handle(handler, plan) = &call.op {
         put_run(call, handler, plan, out);
+    } else if let Op::Dispatch(dispatch) = &call.op {
+        dispatch.put_call(call, out);
     } else if let Op::Salvage(salvage) = &call.op {
         return salvage.put_call(call, out);
     } else if let Op::Season(season) = &call.op {
@@ -197,10 +203,11 @@ pub fn put_script(script: &[u8], out: &mut Vec<u8>) {
     }
 }
 
-fn put_run(call: &Call, handler: &Handler, plan: &[Step], out: &mut Vec<u8>) {
+/// Puts the instructions that make a record, with the log's room.
+pub fn put_record(handler: &Handler, room: usize, out: &mut Vec<u8>) {
     let Handler { first, second, two, queue, start, count } = handler;
     let mut put = |op, argument, state, room, times| Instruction { op, argument, state, room, times }.put(out);
-    put(RECORD, first.ext as u8 | (*two as u8) << 1, first.flags, call.room, 1);
+    put(RECORD, first.ext as u8 | (*two as u8) << 1, first.flags, room, 1);
     if second.ext || second.flags != 0 {
         put(SECOND, second.ext as u8, second.flags, 0, 1);
     }
@@ -222,11 +229,24 @@ fn put_run(call: &Call, handler: &Handler, plan: &[Step], out: &mut Vec<u8>) {
             put(WAITS, waits, side as u16, 0, 1);
         }
     }
+}
+
+/// Puts the instructions that answer what is left of a record; the last takings end the run, as they find none.
+pub fn put_left(out: &mut Vec<u8>) {
+    let mut put = |op, argument, times| Instruction { op, argument, state: 0, room: 0, times }.put(out);
+    (0..2).for_each(|side| put(LEFT, side, 1));
+    (0..4).for_each(|eight| put(BYTES_LEFT, eight, 1));
+    put(WAITING, 0, QUEUE_PLACES + 1);
+}
+
+fn put_run(call: &Call, handler: &Handler, plan: &[Step], out: &mut Vec<u8>) {
+    put_record(handler, call.room, out);
+    let mut put = |op, argument, state, room, times| Instruction { op, argument, state, room, times }.put(out);
     if call.script2.is_some() {
         put(SCRIPT2, 0, 0, 0, call.script.len());
     }
     // Each byte that waits at first, or that is of the script, is taken by one call at most.
-    let most = call.script.len() + first.kept.len();
+    let most = call.script.len() + handler.first.kept.len();
     for step in plan {
         match *step {
             Step::Auto => put(UNTIL_USED, 0, 0, 0, most),
@@ -240,10 +260,7 @@ fn put_run(call: &Call, handler: &Handler, plan: &[Step], out: &mut Vec<u8>) {
             Step::Take(times) => put(TAKE, 0, 0, 0, times as usize),
         }
     }
-    (0..2).for_each(|side| put(LEFT, side, 0, 0, 1));
-    (0..4).for_each(|eight| put(BYTES_LEFT, eight, 0, 0, 1));
-    // The last of these takings finds none, which ends the run.
-    put(WAITING, 0, 0, 0, QUEUE_PLACES + 1);
+    put_left(out);
 }
 
 /// An answer: four numbers of 8 bytes, and what was logged.
@@ -283,7 +300,7 @@ impl Packed {
 /// The bits of a movement in a packet's number.
 const MOVEMENT_BITS: u32 = 17;
 
-fn packet_of(number: u64) -> Packet {
+pub fn packet_of(number: u64) -> Packet {
     let movement = |i: u32| {
         let code = number >> (6 + i * MOVEMENT_BITS) & ((1 << MOVEMENT_BITS) - 1);
         let magnitude = (code >> 1) as i32;
@@ -397,7 +414,12 @@ pub fn put_answer(op: &Op, answer: &Answer, out: &mut Vec<u8>) -> Result<(), Str
             taken(WAITING, None).put(out);
         }
         // The port alone answers these, so no answer to one is recorded.
-        Answer::Bytes { .. } | Answer::Salvaged(_) | Answer::Fields(_) | Answer::Reported(_) | Answer::Kept(_) => {
+        Answer::Bytes { .. }
+        | Answer::Salvaged(_)
+        | Answer::Dispatched(_)
+        | Answer::Fields(_)
+        | Answer::Reported(_)
+        | Answer::Kept(_) => {
             return Err(format!("an answer to {} is not packed", op.name()))
         }
     }
@@ -451,6 +473,7 @@ pub fn read_answer(op: &Op, from: &mut impl Read) -> io::Result<Result<Answer, S
         Op::Handle(passed, plan) => read_run(passed, plan, from),
         Op::Salvage(salvage) => salvage.read_answer(from),
         Op::Season(season) => season.read_answer(from),
+        Op::Dispatch(dispatch) => dispatch.read_answer(from),
         Op::Kept(op) => kept::read_answer(op, from),
         op if op.takes_bytes() => read_bytes(op, from),
         _ => Ok(answer_of(op, Packed::read(from)?)),
@@ -526,6 +549,50 @@ pub fn answer_of(op: &Op, packed: Packed) -> Result<Answer, String> {
         true => Ok(answer),
         false => bad(packed),
     }
+}
+
+/// What a taking answered.
+pub fn taken_of(packed: Packed) -> Result<Done, String> {
+    let empty = packed.used == 0 && packed.log.is_empty();
+    match (packed.number, packed.left, packed.value) {
+        (0, NONE_TAKEN, 0) if empty => Ok(Done::Taken(None)),
+        (MALFORMED, NONE_TAKEN, 0) if empty => Ok(Done::NotTaken(MALFORMED)),
+        (0, TAKEN, event) if empty => Ok(Done::Taken(Some(event_of(event)))),
+        _ => Err(format!("no answer to a taking: {packed:?}")),
+    }
+}
+
+/// Reads what is left of a record. Nothing can be taken from a malformed one: of its events only the number is told, and they are shown
+/// as passed in.
+pub fn read_record(passed: &Handler, from: &mut impl Read) -> io::Result<Result<Handler, String>> {
+    let mut told = |op| -> io::Result<Result<u64, String>> {
+        let packed = Packed::read(from)?;
+        Ok(match packed == (Packed { op, value: packed.value, ..Default::default() }) {
+            true => Ok(packed.value),
+            false => Err(format!("no number of a record: {packed:?}")),
+        })
+    };
+    let numbers = [told(LEFT)?, told(LEFT)?];
+    let bytes = [told(BYTES_LEFT)?, told(BYTES_LEFT)?, told(BYTES_LEFT)?, told(BYTES_LEFT)?];
+    let mut queue = Vec::new();
+    loop {
+        let packed = Packed::read(from)?;
+        if packed.op != WAITING {
+            return Ok(Err(format!("no event of a record: {packed:?}")));
+        }
+        match taken_of(packed) {
+            Ok(Done::Taken(Some(event))) => queue.push(event),
+            Ok(Done::Taken(None)) => break,
+            Ok(_) => {
+                queue.clone_from(&passed.queue);
+                break;
+            }
+            Err(why) => return Ok(Err(why)),
+        }
+    }
+    let all = |numbers: Vec<Result<u64, String>>| numbers.into_iter().collect::<Result<Vec<_>, _>>();
+    let read = all(numbers.into()).and_then(|numbers| Ok((numbers, all(bytes.into())?)));
+    Ok(read.and_then(|(n, b)| handler_of([n[0], n[1]], queue, [b[0], b[1], b[2], b[3]])))
 }
 
 fn read_run(passed: &Handler, plan: &[Step], from: &mut impl Read) -> io::Result<Result<Answer, String>> {

@@ -37,8 +37,8 @@ impl Running {
 
 /// Starts the port's programs.
 pub fn start(paths: Paths) -> io::Result<[Running; PROGRAMS]> {
-    let [ports, keys, bytes, preferences, reports] = paths.map(Running::start);
-    Ok([ports?, keys?, bytes?, preferences?, reports?])
+    let [ports, keys, bytes, preferences, reports, dispatcher] = paths.map(Running::start);
+    Ok([ports?, keys?, bytes?, preferences?, reports?, dispatcher?])
 }
 
 /// Answers each call line of standard input. A bad line gets an error with its number, and the exit status 1.
