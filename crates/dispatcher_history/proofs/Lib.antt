@@ -1,0 +1,2 @@
+-- The history rule through the dispatcher, proved.
+pub mod Through

@@ -1,0 +1,3 @@
+-- The history rule through the dispatcher.
+pub mod Told
+pub mod Through

@@ -1,0 +1,1 @@
+// The history rule through the dispatcher: definitions in specs/, laws in proofs/; no code.
