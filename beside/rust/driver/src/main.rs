@@ -56,11 +56,12 @@ fn number(args: &[String], name: &str) -> Option<u64> {
 fn main() -> io::Result<ExitCode> {
     let args: Vec<String> = std::env::args().skip(1).collect();
     let (calls, seed) = (number(&args, "--calls"), number(&args, "--seed"));
-    let programs = ["--port", "--keys", "--bytes", "--preferences", "--reports", "--dispatcher"].map(|name| option(&args, name));
+    let names = ["--port", "--keys", "--bytes", "--preferences", "--reports", "--dispatcher"];
+    let programs = names.map(|name| option(&args, name));
     let port = match programs {
         [Some(ports), Some(keys), Some(bytes), Some(preferences), Some(reports), Some(dispatcher)] => {
             Some([ports, keys, bytes, preferences, reports, dispatcher])
-        },
+        }
         _ => None,
     };
     let but = option(&args, "--but").map_or(Ok(Default::default()), port::calls_of);

@@ -132,7 +132,9 @@ pub fn operation(op: &Op) -> (u8, u8, u16) {
         Op::ApplyPreferences(_) => (prefs_apply::APPLYING, 0, 0),
         Op::WritePreferences(ref preferences) => (prefs_code::WRITING, preferences.version, 0),
         Op::ReadPreferences(reader) => (prefs_code::READING, reader, 0),
-        Op::Handle(..) | Op::Salvage(_) | Op::Season(_) | Op::Dispatch(_) | Op::Kept(_) => unreachable!("it is packed by itself"),
+        Op::Handle(..) | Op::Salvage(_) | Op::Season(_) | Op::Dispatch(_) | Op::Kept(_) => {
+            unreachable!("it is packed by itself")
+        }
     }
 }
 
@@ -419,9 +421,7 @@ pub fn put_answer(op: &Op, answer: &Answer, out: &mut Vec<u8>) -> Result<(), Str
         | Answer::Dispatched(_)
         | Answer::Fields(_)
         | Answer::Reported(_)
-        | Answer::Kept(_) => {
-            return Err(format!("an answer to {} is not packed", op.name()))
-        }
+        | Answer::Kept(_) => return Err(format!("an answer to {} is not packed", op.name())),
     }
     Ok(())
 }
