@@ -81,7 +81,7 @@ module _ {A : Type 0} (lamps : Side → ℕ → Exchange (Answer A)) where
   steps (stepping s log ∷ moves) = suc (steps moves)
   steps (taking ∷ moves) = steps moves
 
-  -- A source waits before each step; every source does.
+  -- A source waits before a move that is a step; it goes on waiting where it does so before each of a list.
   abbrev pub WaitsBefore : Source → Dispatcher → Move → Type 0
   WaitsBefore source d (stepping s log) = waitsNow d s source ≡ true
   WaitsBefore source d taking = Unit
