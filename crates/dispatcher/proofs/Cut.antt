@@ -15,6 +15,7 @@ use Rattle.ps2_bytes.specs.declared.response.MouseId.{MouseId}
 use Rattle.ps2_bytes.specs.declared.response.MouseId.the-variants as Identity
 use Rattle.ps2_packet.specs.declared.SignedPacket.{SignedPacket}
 use Rattle.ps2_packet.specs.Packet.{packetLength}
+use Rattle.ps2_packet.specs.Packets.{byThrees, byFours}
 use Rattle.ps2_packet_reading.specs.Reading.{readMousePacket, readSignedPacket}
 use Rattle.ps2_mouse.specs.declared.PS2Mouse.{PS2Mouse}
 use Rattle.keyboard_sides.specs.declared.Side.{Side}
@@ -23,8 +24,8 @@ use Rattle.dispatcher.specs.declared.Source.{Source}
 use Rattle.dispatcher.specs.Turns.{served}
 use Rattle.dispatcher.specs.Sources.{Scripts, unused, bytesOf, waitsNow}
 use Rattle.dispatcher.specs.Step.{packetRead, packetAnswered, packet, Service, serveMouse, serveKeyboard, serve, Stepped, stepOf}
-use Rattle.dispatcher.specs.Runs.{Move, stepping, taking, packetsOf, moved, movedBy, packetsRead, OneMouseScript, no-steps, next-lent}
-use Rattle.dispatcher.specs.Packets.{inThrees, inFours, cut}
+use Rattle.dispatcher.specs.Runs.{Move, stepping, taking, packetsIn, moved, movedBy, packetsRead, OneMouseScript, no-steps, next-lent}
+use Rattle.dispatcher.specs.Packets.{cut}
 use Rattle.dispatcher.proofs.Turns.{served-waits}
 use Rattle.dispatcher.proofs.Frames.{step-mouse}
 
@@ -37,7 +38,7 @@ pub record First (id : MouseId) (bytes : List ℕ) : Type 0 where
   pub cuts : cut id bytes ≡ one ∷ cut id (drop (packetLength id) bytes)
 
 pub first-packet : (id : MouseId) (bytes : List ℕ) → packetLength id ≤ length bytes → First id bytes
-unfolding play bind andThen readMousePacket readSignedPacket inThrees inFours
+unfolding play bind andThen readMousePacket readSignedPacket byThrees byFours
 first-packet Identity.Zero (b1 ∷ b2 ∷ b3 ∷ rest) h = record { one = _; reads = refl; cuts = refl }
 first-packet Identity.Zero (b1 ∷ b2 ∷ []) h = absurd (omega arith)
 first-packet Identity.Zero (b1 ∷ []) h = absurd (omega arith)
@@ -74,7 +75,7 @@ module _ {A : Type 0} (lamps : Side → ℕ → Exchange (Answer A)) where
 
     -- the packets that a step reads, then the cut of what is unread after it, are the cut of what was unread
     abbrev Cuts : Stepped → Type 0
-    Cuts x = packetsOf (x .answer) ++ cut (d .mouse .id) (unused (x .state .places .mouse) (s .mouse)) ≡ cut (d .mouse .id) (bytesOf d s Source.Mouse)
+    Cuts x = packetsIn (x .answer) ++ cut (d .mouse .id) (unused (x .state .places .mouse) (s .mouse)) ≡ cut (d .mouse .id) (bytesOf d s Source.Mouse)
 
     mouse-cuts : First (d .mouse .id) (bytesOf d s Source.Mouse) → Cuts (serve lamps d s log (some Source.Mouse))
     unfolding serveMouse
@@ -104,7 +105,7 @@ module _ {A : Type 0} (lamps : Side → ℕ → Exchange (Answer A)) where
   packets-cut script d (stepping s log ∷ moves) (next-lent l r) =
       let x = stepOf lamps d s log in
       let id = ap (λ (m : PS2Mouse). m .id) (step-mouse lamps d s log) in
-      append-assoc (packetsOf (x .answer)) (packetsRead lamps (x .state) moves) _
-      ∙ ap (λ (l : List SignedPacket). packetsOf (x .answer) ++ l) (rw id at (packets-cut script (x .state) moves r))
-      ∙ subst (λ (m : List ℕ). packetsOf (x .answer) ++ cut (d .mouse .id) (unused (x .state .places .mouse) m) ≡ cut (d .mouse .id) (unused (d .places .mouse) m)) l
+      append-assoc (packetsIn (x .answer)) (packetsRead lamps (x .state) moves) _
+      ∙ ap (λ (l : List SignedPacket). packetsIn (x .answer) ++ l) (rw id at (packets-cut script (x .state) moves r))
+      ∙ subst (λ (m : List ℕ). packetsIn (x .answer) ++ cut (d .mouse .id) (unused (x .state .places .mouse) m) ≡ cut (d .mouse .id) (unused (d .places .mouse) m)) l
       (step-cuts d s log)

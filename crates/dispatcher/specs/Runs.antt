@@ -33,10 +33,10 @@ givenPacket (yields (gives p)) = p ∷ []
 givenPacket (yields (refuses n)) = []
 givenPacket (lacks x) = []
 
-abbrev pub packetsOf : Service → List SignedPacket
-packetsOf (keyed side a) = []
-packetsOf (packet a) = givenPacket (a .end)
-packetsOf idle = []
+abbrev pub packetsIn : Service → List SignedPacket
+packetsIn (keyed side a) = []
+packetsIn (packet a) = givenPacket (a .end)
+packetsIn idle = []
 
 -- How many bytes of a source's script the answer counts.
 abbrev pub usedFor : Source → Service → ℕ
@@ -72,7 +72,7 @@ module _ {A : Type 0} (lamps : Side → ℕ → Exchange (Answer A)) where
 
   unfoldable pub packetsRead : Dispatcher → List Move → List SignedPacket
   packetsRead d [] = []
-  packetsRead d (stepping s log ∷ moves) = packetsOf (stepOf lamps d s log .answer) ++ packetsRead (moved d (stepping s log)) moves
+  packetsRead d (stepping s log ∷ moves) = packetsIn (stepOf lamps d s log .answer) ++ packetsRead (moved d (stepping s log)) moves
   packetsRead d (taking ∷ moves) = packetsRead (moved d taking) moves
 
   -- How many steps there are.
