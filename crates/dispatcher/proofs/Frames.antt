@@ -98,7 +98,7 @@ module _ {A : Type 0} (lamps : Side → ℕ → Exchange (Answer A)) (d : Dispat
   other-serve Side.Second (some (Source.Keyboard Side.First)) n = other-side lamps Side.First (d .handler .state) Side.Second refl (bytesOf d s (Source.Keyboard Side.First)) log
   other-serve Side.Second (some (Source.Keyboard Side.Second)) n = absurd (n refl)
 
-  absent-serve : d .handler .state .keyboards ≡ Keyboards.One → (o : Option Source) → usedFor (Source.Keyboard Side.Second) (serve lamps d s log o .answer) ≡ 0
+  absent-serve : d .handler .state .table .keyboards ≡ Keyboards.One → (o : Option Source) → usedFor (Source.Keyboard Side.Second) (serve lamps d s log o .answer) ≡ 0
   unfolding serveKeyboard serveMouse callFormed
   absent-serve one none = refl
   absent-serve one (some (Source.Keyboard Side.First)) = refl
@@ -148,7 +148,7 @@ module _ {A : Type 0} (lamps : Side → ℕ → Exchange (Answer A)) (d : Dispat
   place-stays source n = omega (arith, step-place source, other-used source (out .answer) (λ e. n (sym step-service ∙ e)))
 
   -- at a table with one keyboard a call of side 2 uses no byte, so those bytes wait on
-  pub absent-used : d .handler .state .keyboards ≡ Keyboards.One → usedFor (Source.Keyboard Side.Second) (out .answer) ≡ 0
+  pub absent-used : d .handler .state .table .keyboards ≡ Keyboards.One → usedFor (Source.Keyboard Side.Second) (out .answer) ≡ 0
   unfolding stepOf
   absent-used one = absent-serve one whom
 

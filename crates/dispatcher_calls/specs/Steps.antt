@@ -6,11 +6,13 @@ use Rattle.keyboard.specs.KeyboardLamps.{keyboardLamps}
 use Rattle.dispatcher.specs.declared.Dispatcher.{Dispatcher}
 use Rattle.dispatcher.specs.Sources.{Scripts}
 use Rattle.dispatcher.specs.Step.{Stepped, stepOf}
+use Rattle.keyboard_scancodes.specs.declared.Profile.{Profile}
 use Rattle.keyboard_record.specs.declared.Keyboards.{Keyboards}
+use Rattle.keyboard_record.specs.declared.Table.{Table}
 
--- A table with two keyboards.
-abbrev pub twoKeyboards : Keyboards
-twoKeyboards = Keyboards.Two
+-- A table with two keyboards, without a profile.
+abbrev pub twoKeyboards : Table
+twoKeyboards = record { keyboards = Keyboards.Two; profile = Profile.Any }
 
 -- What a step leaves: the state and the log.
 pub record Left : Type 0 where

@@ -8,6 +8,8 @@ ghost use Rattle.dispatcher_calls.specs.Steps.{left, oneMore, made, twoK
 use dispatcher::Dispatcher;
 use keyboard_record::KeyboardHandler;
 use keyboard_record::Keyboards;
+use keyboard_record::Table;
+use keyboard_scancodes::Profile;
 use ps2_mouse::PS2Mouse;
 
 // A step, whatever it answers.
@@ -36,7 +38,13 @@ pub extern "C" fn dispatcher_steps(
 ) -> usize
     ensures { λ r. ⌜ (r ≡ made times (scripts (now (first .entry)) (now (second .entry)) (now (third .entry))) (left (newDispatcher (fresh twoKeyboards) freshMouse) (now (log .entry))) .state .handler .state .count) × (now (log .exit) ≡ made times (scripts (now (first .entry)) (now (second .entry)) (now (third .entry))) (left (newDispatcher (fresh twoKeyboards) freshMouse) (now (log .entry))) .log) ⌝ }
 {
-    let mut state = Dispatcher::new(KeyboardHandler::fresh(Keyboards::Two), PS2Mouse::new());
+    let mut state = Dispatcher::new(
+        KeyboardHandler::fresh(Table {
+            keyboards: Keyboards::Two,
+            profile: Profile::Any,
+        }),
+        PS2Mouse::new(),
+    );
     let mut i: usize = 0;
     while i < times {
         let next = one_step(state, first, second, third, log);

@@ -10,7 +10,7 @@ use Rattle.ps2_mouse.specs.declared.PS2Mouse.{PS2Mouse}
 use Rattle.keycodes_ascii.specs.declared.KeyEvent.{KeyEvent}
 use Rattle.keyboard_sides.specs.declared.Side.{Side}
 use Rattle.keyboard_sides.specs.Named.{Sided}
-use Rattle.keyboard_record.specs.declared.Keyboards.{Keyboards}
+use Rattle.keyboard_record.specs.declared.Table.{Table}
 use Rattle.keyboard_record.specs.Record.{fresh}
 use Rattle.keyboard_record.specs.Taking.{taken}
 use Rattle.keyboard_history.specs.Past.{Past, nothing, _▸_}
@@ -28,10 +28,10 @@ callEnd past (keyed side a) = past ▸ a .end
 callEnd past (packet a) = past
 callEnd past idle = past
 
-module _ {A : Type 0} (keyboards : Keyboards) (lamps : Side → ℕ → Exchange (Answer A)) (mouse : PS2Mouse) where
+module _ {A : Type 0} (table : Table) (lamps : Side → ℕ → Exchange (Answer A)) (mouse : PS2Mouse) where
   -- The dispatcher after a list of steps and takings, from a fresh state on.
   unfoldable pub dispatched : Past Move → Dispatcher
-  dispatched nothing = newDispatcher (fresh keyboards) mouse
+  dispatched nothing = newDispatcher (fresh table) mouse
   dispatched (past ▸ m) = moved lamps (dispatched past) m
 
   -- What the handler calls of its steps answered, in order, and what the takings did.
@@ -47,17 +47,17 @@ module _ {A : Type 0} (keyboards : Keyboards) (lamps : Side → ℕ → Exchange
 
   -- The handler calls and takings that a list of steps and takings says by itself.
   abbrev pub callsOf : Past Move → Past Call
-  callsOf moves = told keyboards lamps (mouse .id) moves .calls
+  callsOf moves = told table lamps (mouse .id) moves .calls
 
   pub record HistoryThrough (moves : Past Move) : Type 0 where
     -- The handler record is the one that these calls leave, each with the side and the bytes that the list says,
-    pub handler : dispatched moves .handler ≡ after keyboards lamps (callsOf moves)
+    pub handler : dispatched moves .handler ≡ after table lamps (callsOf moves)
     -- and their answers, and those of the takings, are those given.
-    pub answered : callAnswers moves ≡ answers keyboards lamps (callsOf moves)
-    pub takings-answered : takingAnswers moves ≡ takings keyboards lamps (callsOf moves)
+    pub answered : callAnswers moves ≡ answers table lamps (callsOf moves)
+    pub takings-answered : takingAnswers moves ≡ takings table lamps (callsOf moves)
     -- Of these calls, and so of the dispatcher's record, the history rule holds.
-    pub rule : History keyboards lamps (callsOf moves)
+    pub rule : History table lamps (callsOf moves)
     -- Who was served last and the places are as the list says, and the mouse's record is as it was.
-    pub last : dispatched moves .last ≡ told keyboards lamps (mouse .id) moves .last
-    pub places : dispatched moves .places ≡ told keyboards lamps (mouse .id) moves .places
+    pub last : dispatched moves .last ≡ told table lamps (mouse .id) moves .last
+    pub places : dispatched moves .places ≡ told table lamps (mouse .id) moves .places
     pub mouse-stays : dispatched moves .mouse ≡ mouse

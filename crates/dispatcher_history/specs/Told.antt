@@ -10,7 +10,7 @@ use Rattle.exchange.specs.Answer.{Answer}
 use Rattle.ps2_packet.specs.Packet.{packetLength}
 use Rattle.ps2_bytes.specs.declared.response.MouseId.{MouseId}
 use Rattle.keyboard_sides.specs.declared.Side.{Side}
-use Rattle.keyboard_record.specs.declared.Keyboards.{Keyboards}
+use Rattle.keyboard_record.specs.declared.Table.{Table}
 use Rattle.keyboard.specs.Handler.{handled}
 use Rattle.keyboard_history.specs.Past.{Past, nothing, _▸_}
 use Rattle.keyboard_history.specs.Counted.{Call, handling, taking, waitsOf}
@@ -41,15 +41,15 @@ bytesTold t s source = unused (placeOf source (t .places)) (scriptOf source s)
 abbrev pub servedTold : Source → ℕ → Told → Past Call → Told
 servedTold source used t calls = record { last = LastServed.One source; places = withPlace source (placeOf source (t .places) + used) (t .places); calls = calls }
 
-module _ {A : Type 0} (keyboards : Keyboards) (lamps : Side → ℕ → Exchange (Answer A)) (id : MouseId) where
+module _ {A : Type 0} (table : Table) (lamps : Side → ℕ → Exchange (Answer A)) (id : MouseId) where
   -- Who waits: of a keyboard's waiting bytes the history rule says how many there are after these calls.
   unfoldable pub waitsTold : Told → Scripts → Source → Bool
-  waitsTold t s (Source.Keyboard side) = keyboardWaits (bytesTold t s (Source.Keyboard side)) (length (waitsOf keyboards lamps side (t .calls)))
+  waitsTold t s (Source.Keyboard side) = keyboardWaits (bytesTold t s (Source.Keyboard side)) (length (waitsOf table lamps side (t .calls)))
   waitsTold t s Source.Mouse = mouseWaits (bytesTold t s Source.Mouse) id
 
   -- The bytes that a call's answer counts, after these calls.
   abbrev pub usedAfter : Past Call → Side → List ℕ → List ℕ → ℕ
-  usedAfter calls side script log = handled lamps side (after keyboards lamps calls) script log .used
+  usedAfter calls side script log = handled lamps side (after table lamps calls) script log .used
 
   -- A step that serves a source makes a handler call on that side's unused bytes, or reads one packet.
   abbrev pub toldServing : Told → Scripts → List ℕ → Option Source → Told

@@ -32,6 +32,7 @@ use Rattle.keyboard_record.specs.Taking.{taken}
 use Rattle.keyboard_record.proofs.Taking.{keyboard-at-taken}
 use Rattle.keyboard_record.proofs.WellFormed.{call-is}
 use Rattle.keyboard.specs.Answers.{ends2-3-21}
+use Rattle.keyboard.specs.Rules.{Rules, rulesAt}
 use Rattle.keyboard.specs.Scancode.{Took, takes, caught}
 use Rattle.keyboard.specs.Byte.{keyEffects}
 use Rattle.keyboard.specs.Handler.{Outcome, handle, effects, handled, endOutcome}
@@ -67,12 +68,12 @@ took-length (b ∷ ws) s {t} q =
     rw (x, y) (omega arith)
 
 module _ (h : KeyboardHandler) (s : List ℕ) where
-  -- the keyboard that is called, its lamps, and its bytes that wait
+  -- the keyboard that is called, its rules, and its bytes that wait
   abbrev keyboard : KeyboardState
   keyboard = h .state .first
 
-  abbrev lamps : ℕ → Exchange (Answer Success)
-  lamps = keyboardLamps Side.First
+  abbrev rules : Rules Success
+  rules = rulesAt (h .state .table) keyboardLamps Side.First
 
   abbrev ws : List ℕ
   ws = waitingBytes (keyboard .waiting)
@@ -82,14 +83,14 @@ module _ (h : KeyboardHandler) (s : List ℕ) where
 
   -- a call that another follows takes a byte, which is counted
   took-by : CallCourse keyboardLamps Side.First (h .state) s log → ends2-3-21 (answerEnd (callEnd keyboardLamps Side.First (h .state) s log)) ≡ false
-      → (t : Took) × (takes ws s ≡ some t) × (scanned lamps keyboard s log ≡ some (t .byte))
+      → (t : Took) × (takes ws s ≡ some t) × (scanned rules keyboard s log ≡ some (t .byte))
   took-by (malformed w e n) f = absurd (true≢false (rw e at f))
   took-by (formed w e n (lacking x q m)) f = absurd (true≢false (sym (lack-ends x) ∙ (rw (e, q) at f)))
   took-by (formed w e n (at-silent t q g u m)) f = (t, g, m)
   took-by (formed w e n (at-key t lit q g u m)) f = (t, g, m)
 
   module _ (f : ends2-3-21 (callOn h s .end) ≡ false) where
-    call-took : (t : Took) × (takes ws s ≡ some t) × (scanned lamps keyboard s log ≡ some (t .byte))
+    call-took : (t : Took) × (takes ws s ≡ some t) × (scanned rules keyboard s log ≡ some (t .byte))
     unfolding handled effects
     call-took = took-by (call-course keyboardLamps Side.First (h .state) s log) f
 
@@ -98,43 +99,43 @@ module _ (h : KeyboardHandler) (s : List ℕ) where
         ⊎-elim (λ w. w) (λ w. absurd (true≢false (rw (malformed-handled keyboardLamps Side.First h s log w) at f))) (which (callFormed Side.First (h .state)))
 
     -- the keyboard after the call is as its part of it leaves it
-    keyboard-after : callOn h s .handler .state .first ≡ keyEffects lamps keyboard s log .keyboard
+    keyboard-after : callOn h s .handler .state .first ≡ keyEffects rules keyboard s log .keyboard
     unfolding handled effects keyEffects
     keyboard-after =
         ap (λ (o : Played Outcome). endOutcome (h .state) (o .end) .state .first) (formed-play keyboardLamps Side.First (h .state) s log call-formed)
-        ∙ left-at Side.First (h .state) (endOf lamps keyboard s log)
+        ∙ left-at Side.First (h .state) (endOf rules keyboard s log)
 
     -- what is left behind the byte t
     module _ (t : Took) (g : takes ws s ≡ some t) where
       abbrev used : ℕ
-      used = usedBehind lamps keyboard t log
+      used = usedBehind rules keyboard t log
 
       pub script-behind : drop (callOn h s .used) s ≡ drop used (t .script)
       unfolding handled effects
       script-behind =
           ap (λ (o : Played Outcome). drop (o .used) s) (formed-play keyboardLamps Side.First (h .state) s log call-formed)
-          ∙ left-behind lamps keyboard s log t g
+          ∙ left-behind rules keyboard s log t g
 
-      counted-byte : scanned lamps keyboard s log ≡ some (t .byte)
+      counted-byte : scanned rules keyboard s log ≡ some (t .byte)
       counted-byte =
           let c = call-took in
-          subst (λ (u : Took). scanned lamps keyboard s log ≡ some (u .byte)) (same-took (sym (c .1) ∙ g)) (c .2)
+          subst (λ (u : Took). scanned rules keyboard s log ≡ some (u .byte)) (same-took (sym (c .1) ∙ g)) (c .2)
 
       pub count-behind : recordAfter h s .state .first .waiting .count ≤ length (t .waiting) + used
       unfolding recordAfter
       count-behind =
-          let after = keyEffects lamps keyboard s log .keyboard .waiting in
-          let all = waitsAfter lamps keyboard t log in
+          let after = keyEffects rules keyboard s log .keyboard .waiting in
+          let all = waitsAfter rules keyboard t log in
           let c = call-is Side.First (h .state) call-formed in
-          let x = waits-left lamps keyboard (c .1 .at Side.First (c .0) .waiting-in) s log t g counted-byte in
+          let x = waits-left rules keyboard (c .1 .at Side.First (c .0) .waiting-in) s log t g counted-byte in
           omega (
             arith,
             ap (λ (k : KeyboardState). k .waiting .count) (keyboard-at-taken Side.First (callOn h s .handler) ∙ keyboard-after),
             length-bytes (after .bytes) 0 (after .count),
             ap length (x .0),
             length-take 16 all,
-            length-append (t .waiting) (caught lamps (flagsThen keyboard) t log),
-            caught-le lamps keyboard t log,
+            length-append (t .waiting) (caught rules (flagsThen (h .state .table .profile) keyboard) t log),
+            caught-le rules keyboard t log,
           )
 
       bytes-behind : bytesLeft (recordAfter h s) (drop (callOn h s .used) s) < bytesLeft h s
@@ -144,7 +145,7 @@ module _ (h : KeyboardHandler) (s : List ℕ) where
             count-behind,
             ap length script-behind,
             length-drop used (t .script),
-            behind-le lamps keyboard t log,
+            behind-le rules keyboard t log,
             took-length ws s g,
             length-bytes (keyboard .waiting .bytes) 0 (keyboard .waiting .count),
           )

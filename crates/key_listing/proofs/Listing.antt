@@ -1,4 +1,4 @@
--- A listing is what the history rule's words say byte by byte; 3, 20 and 21 never occur. So it has a line at most for each script byte, since a byte that waited was one, and 13 bytes for each hold it.
+-- A listing is what the history rule's words say byte by byte; 3, 20, 21, 31 and 33 never occur. So it has a line at most for each script byte, since a byte that waited was one, and 13 bytes for each hold it.
 -- Assumes nothing.
 use mathlib.Core.Path.{_≡_, refl, ap, _∙_}
 use mathlib.Core.Bool.{Bool, true, false, cond}
@@ -20,8 +20,10 @@ use Rattle.keyboard_record.specs.declared.KeyboardHandler.{KeyboardHandler}
 use Rattle.keyboard.specs.Answers.{ends2-3-21}
 use Rattle.keyboard_sides.specs.declared.Side.{Side}
 use Rattle.keyboard_sides.specs.Named.{Sided}
+use Rattle.keyboard.specs.Rules.{rulesAt}
 use Rattle.keyboard.specs.KeyboardLamps.{keyboardLamps}
 use Rattle.keyboard.specs.Scancode.{Took, took, takes}
+use Rattle.keyboard_scancodes.specs.declared.Profile.{Profile}
 use Rattle.keyboard_scancodes.specs.Events.{eventOf}
 use Rattle.keyboard_scancodes.specs.Waiting.{waitingBytes}
 use Rattle.keyboard_history.specs.Past.{Past, nothing, _▸_}
@@ -62,9 +64,9 @@ module _ (n : ℕ) {h : KeyboardHandler} {bytes : Past ℕ} {ws : List ℕ} (a :
   after-byte : ends2-3-21 (callOn h s .end) ≡ false → AsOne (recordAfter h s) (bytes ▸ t .byte) (waitsThen bytes ws s) [] → After t (waitsThen bytes ws s) left
   after-byte e r =
       record {
-        read = usedBehind (keyboardLamps Side.First) (h .state .first) t freeLog;
-        locks-only = plain-used (keyboardLamps Side.First) (h .state .first) t freeLog;
-        in-script = behind-le (keyboardLamps Side.First) (h .state .first) t freeLog;
+        read = usedBehind (rulesAt (h .state .table) keyboardLamps Side.First) (h .state .first) t freeLog;
+        locks-only = λ k. plain-used (rulesAt (h .state .table) keyboardLamps Side.First) (h .state .first) t freeLog (rw (a .laid) k);
+        in-script = behind-le (rulesAt (h .state .table) keyboardLamps Side.First) (h .state .first) t freeLog;
         is-left = script-behind h s e t took-so;
         few-new = omega (arith, as-bytes (r .at Side.First), count-behind h s e t took-so);
       }
@@ -83,7 +85,7 @@ module _ (n : ℕ) {h : KeyboardHandler} {bytes : Past ℕ} {ws : List ℕ} (a :
       rw (calls-last n h s some-left (ap ends2-3-21 x), call-text h s (ap numberEnded x) y, append-nil (refusalLine 2)) (a-2 g k)
   by-step ih (step-19 q v x y r) = goes-on x y r refl (append-nil (refusalLine 19)) (λ f. a-19 g q v f (ih r f))
   by-step ih (step-silent q x y r) = goes-on x y r refl silent-line (λ f. no-event g q f (ih r f))
-  by-step ih (step-event v x y r) = goes-on x y r refl (event-line (eventOf (t .byte) (flagsSaid (bytes ▸ t .byte)))) (λ f. an-event g v f (ih r f))
+  by-step ih (step-event v x y r) = goes-on x y r refl (event-line (eventOf (t .byte) (flagsSaid Profile.Any (bytes ▸ t .byte)))) (λ f. an-event g v f (ih r f))
 
 -- for each byte that is taken one fewer is left
 left-le : (ws s : List ℕ) {waits left : List ℕ} {t : Took} → takes ws s ≡ some t → After t waits left → length waits + length left < length ws + length s
@@ -144,7 +146,7 @@ refusal-length n = by-number n (eqb n 0)
 listed-length : {bytes : Past ℕ} {ws s text : List ℕ} → Listed bytes ws s text → length text ≤ 13 * (length ws + length s)
 listed-length used-up = omega arith
 listed-length (an-event {bytes = bytes} {waiting = ws} {script = s} {text = text} {t = t} g v f l) =
-    let e = eventOf (t .byte) (flagsSaid (bytes ▸ t .byte)) in
+    let e = eventOf (t .byte) (flagsSaid Profile.Any (bytes ▸ t .byte)) in
     omega (arith, length-append (eventLine e) text, event-length e, left-le ws s g f, listed-length l)
 listed-length (no-event {waiting = ws} {script = s} g q f l) = omega (arith, left-le ws s g f, listed-length l)
 listed-length (a-19 {waiting = ws} {script = s} {text = text} g q v f l) =

@@ -19,13 +19,14 @@ use Rattle.exchange.proofs.Sequence.{play-bind}
 use Rattle.ps2_answers.specs.Refusals.{Success}
 use Rattle.ps2_kept.specs.Thrown.{unlisted, thrown}
 use Rattle.keyboard_scancodes.specs.Strokes.{isSilent}
-use Rattle.keyboard_scancodes.specs.FlagTable.{isLockPress}
+use Rattle.keyboard_scancodes.specs.Profile.{pressesFollowed}
 use Rattle.keyboard_scancodes.specs.FlagsAfter.{flagsThen}
 use Rattle.keyboard_scancodes.specs.Lamps.{lampsLit}
 use Rattle.keyboard_scancodes.specs.Waiting.{waitingBytes}
 use Rattle.keyboard_scancodes.proofs.Silent.{silent-lock}
 use Rattle.keyboard_scancodes.proofs.Tests.{which}
 use Rattle.keyboard_scancodes.specs.declared.KeyboardState.{KeyboardState}
+use Rattle.keyboard.specs.Rules.{Rules}
 use Rattle.keyboard.specs.Scancode.{Took, takes, thrownAt, caught}
 use Rattle.keyboard.specs.Byte.{shown, takeByte, lampExchange, onByte, keyCall}
 use Rattle.keyboard.proofs.Courses.{call-taken}
@@ -60,21 +61,21 @@ used-done {B} {C} f t s l =
 pub same-took : {t u : Took} → _≡_ {A = Option Took} (some t) (some u) → t ≡ u
 same-took q = cc
 
-module _ {A : Type 0} (lamps : ℕ → Exchange (Answer A)) (h : KeyboardState) where
+module _ {A : Type 0} (rules : Rules A) (h : KeyboardState) where
   -- the script bytes that a call uses behind its byte
   abbrev pub usedBehind : Took → List ℕ → ℕ
-  usedBehind t l = play (onByte lamps h (t .waiting) (t .byte)) (t .script) l .used
+  usedBehind t l = play (onByte rules h (t .waiting) (t .byte)) (t .script) l .used
 
   pub behind-le : (t : Took) (l : List ℕ) → usedBehind t l ≤ length (t .script)
-  behind-le t l = used-le (onByte lamps h (t .waiting) (t .byte)) (t .script) l
+  behind-le t l = used-le (onByte rules h (t .waiting) (t .byte)) (t .script) l
 
   -- ---- what is left of the script
 
-  tree : {x : List ℕ} → waitingBytes (h .waiting) ≡ x → keyCall lamps h ≡ takeByte x (onByte lamps h)
-  tree q = call-taken lamps h ∙ ap (λ (y : List ℕ). takeByte y (onByte lamps h)) q
+  tree : {x : List ℕ} → waitingBytes (h .waiting) ≡ x → keyCall rules h ≡ takeByte x (onByte rules h)
+  tree q = call-taken rules h ∙ ap (λ (y : List ℕ). takeByte y (onByte rules h)) q
 
   abbrev LeftBy : List ℕ → List ℕ → Took → Type 0
-  LeftBy s l t = drop (play (keyCall lamps h) s l .used) s ≡ drop (usedBehind t l) (t .script)
+  LeftBy s l t = drop (play (keyCall rules h) s l .used) s ≡ drop (usedBehind t l) (t .script)
 
   by-waiting : (x s l : List ℕ) (t : Took) → waitingBytes (h .waiting) ≡ x → takes x s ≡ some t → LeftBy s l t
   unfolding play
@@ -89,36 +90,36 @@ module _ {A : Type 0} (lamps : ℕ → Exchange (Answer A)) (h : KeyboardState) 
 
   module _ (t : Took) (l : List ℕ) where
     abbrev flags : ℕ
-    flags = flagsThen h (t .byte)
+    flags = flagsThen (rules .profile) h (t .byte)
 
     abbrev lampsAlone : Exchange (Answer A)
-    lampsAlone = lamps (lampsLit flags)
+    lampsAlone = rules .lamps (lampsLit flags)
 
     silent-used : isSilent (t .byte) ≡ true → usedBehind t l ≡ 0
     unfolding onByte play
     silent-used q = rw (usedBehind, onByte, q)
 
-    key-used : isSilent (t .byte) ≡ false → usedBehind t l ≡ play (keeping thrown [] (lampExchange lamps (t .byte) flags)) (t .script) l .used
+    key-used : isSilent (t .byte) ≡ false → usedBehind t l ≡ play (keeping thrown [] (lampExchange rules (t .byte) flags)) (t .script) l .used
     unfolding onByte
-    key-used q = rw (usedBehind, onByte, q) (used-done _ (keeping thrown [] (lampExchange lamps (t .byte) flags)) (t .script) l)
+    key-used q = rw (usedBehind, onByte, q) (used-done _ (keeping thrown [] (lampExchange rules (t .byte) flags)) (t .script) l)
 
-    other-used : isLockPress (t .byte) ≡ false → play (keeping thrown [] (lampExchange lamps (t .byte) flags)) (t .script) l .used ≡ 0
+    other-used : pressesFollowed (rules .profile) (t .byte) ≡ false → play (keeping thrown [] (lampExchange rules (t .byte) flags)) (t .script) l .used ≡ 0
     unfolding lampExchange keeping play
     other-used k = rw (k, lampExchange)
 
     -- a byte that has no lamp exchange is the only one that is used
-    pub plain-used : isLockPress (t .byte) ≡ false → usedBehind t l ≡ 0
+    pub plain-used : pressesFollowed (rules .profile) (t .byte) ≡ false → usedBehind t l ≡ 0
     plain-used k = ⊎-elim silent-used (λ q. key-used q ∙ other-used k) (which (isSilent (t .byte)))
 
-    module _ (k : isLockPress (t .byte) ≡ true) where
+    module _ (k : pressesFollowed (rules .profile) (t .byte) ≡ true) where
       lock-no-silent : isSilent (t .byte) ≡ false
-      lock-no-silent = ⊎-elim (λ q. absurd (true≢false (sym k ∙ silent-lock (t .byte) q))) (λ q. q) (which (isSilent (t .byte)))
+      lock-no-silent = ⊎-elim (λ q. absurd (true≢false (sym k ∙ silent-lock (t .byte) q (rules .profile)))) (λ q. q) (which (isSilent (t .byte)))
 
-      lock-tree : lampExchange lamps (t .byte) flags ≡ bind lampsAlone (λ a. done (shown a))
+      lock-tree : lampExchange rules (t .byte) flags ≡ bind lampsAlone (λ a. done (shown a))
       unfolding lampExchange
       lock-tree = rw k
 
-      lock-bind : keeping thrown [] (lampExchange lamps (t .byte) flags) ≡ bind (keeping thrown [] lampsAlone) (λ x. done (kept (shown (x .value)) (x .bytes)))
+      lock-bind : keeping thrown [] (lampExchange rules (t .byte) flags) ≡ bind (keeping thrown [] lampsAlone) (λ x. done (kept (shown (x .value)) (x .bytes)))
       unfolding keeping
       lock-bind = rw lock-tree (keeping-bind thrown (λ a. done (shown a)) [] lampsAlone)
 
@@ -127,13 +128,13 @@ module _ {A : Type 0} (lamps : ℕ → Exchange (Answer A)) (h : KeyboardState) 
           key-used lock-no-silent ∙ ap (λ (x : Exchange (Kept (List ℕ) (Answer Success))). play x (t .script) l .used) lock-bind
           ∙ used-done (λ x. kept (shown (x .value)) (x .bytes)) (keeping thrown [] lampsAlone) (t .script) l
 
-      lock-caught : length (caught lamps (flagsThen h) t l) ≤ usedBehind t l
+      lock-caught : length (caught rules (flagsThen (rules .profile) h) t l) ≤ usedBehind t l
       unfolding caught
       lock-caught = rw (k, lock-used) (rw zero-add at (thrown-le lampsAlone [] (t .script) l))
 
-    none-caught : isLockPress (t .byte) ≡ false → length (caught lamps (flagsThen h) t l) ≤ usedBehind t l
+    none-caught : pressesFollowed (rules .profile) (t .byte) ≡ false → length (caught rules (flagsThen (rules .profile) h) t l) ≤ usedBehind t l
     unfolding caught
     none-caught k = rw k (omega arith)
 
-    pub caught-le : length (caught lamps (flagsThen h) t l) ≤ usedBehind t l
-    caught-le = ⊎-elim lock-caught none-caught (which (isLockPress (t .byte)))
+    pub caught-le : length (caught rules (flagsThen (rules .profile) h) t l) ≤ usedBehind t l
+    caught-le = ⊎-elim lock-caught none-caught (which (pressesFollowed (rules .profile) (t .byte)))

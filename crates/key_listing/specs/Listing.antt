@@ -6,9 +6,11 @@ use Prim.Native.Nat.{ℕ, zero, suc, _+_}
 use lib.Dec.{eqb}
 use lib.ListN.{length, take, drop, replicate}
 use Rattle.exchange.specs.Answer.{numberEnded}
+use Rattle.keyboard_scancodes.specs.declared.Profile.{Profile}
 use Rattle.keyboard_sides.specs.declared.Side.{Side}
 use Rattle.keyboard_record.specs.declared.KeyboardHandler.{KeyboardHandler}
 use Rattle.keyboard_record.specs.declared.Keyboards.{Keyboards}
+use Rattle.keyboard_record.specs.declared.Table.{Table}
 use Rattle.keyboard.specs.Answers.{ends2-3-21}
 use Rattle.keyboard.specs.Handler.{Called, handled}
 use Rattle.keyboard.specs.KeyboardLamps.{keyboardLamps}
@@ -20,9 +22,12 @@ use Rattle.key_listing.specs.Lines.{takenLine, refusalLine}
 abbrev pub scriptLimit : ℕ
 scriptLimit = 65536
 
--- "A fresh record": the program has one keyboard, the first side's.
+-- "A fresh record": the program has one keyboard, the first side's, and no profile.
+abbrev pub table : Table
+table = record { keyboards = Keyboards.One; profile = Profile.Any }
+
 abbrev pub atFirst : KeyboardHandler
-atFirst = fresh Keyboards.One
+atFirst = fresh table
 
 -- A handler call "with a 16-byte log each time".
 abbrev pub freeLog : List ℕ

@@ -16,8 +16,10 @@ use keyboard::HandlerAnswer;
 use keyboard::handle;
 use keyboard_record::KeyboardHandler;
 use keyboard_record::Keyboards;
+use keyboard_record::Table;
 use keyboard_record::TakenEvent;
 use keyboard_record::take_event;
+use keyboard_scancodes::Profile;
 use keyboard_sides::Side;
 use keycodes_ascii::Character;
 use keycodes_ascii::KeyAction;
@@ -49,7 +51,11 @@ pub fn list_keys(script: &[u8], out: &mut [u8]) -> usize
 fn list_calls(script: &[u8], out: &mut [u8]) -> usize
     ensures { λ r. ⌜ place r (now (out .exit)) ≡ put (listingFrom atFirst (now (script .entry))) (place 0 (now (out .entry))) ⌝ }
 {
-    let mut handler = KeyboardHandler::fresh(Keyboards::One);
+    let table = Table {
+        keyboards: Keyboards::One,
+        profile: Profile::Any,
+    };
+    let mut handler = KeyboardHandler::fresh(table);
     let mut used: usize = 0;
     let mut left = script.len();
     let mut at: usize = 0;
@@ -104,6 +110,7 @@ fn is_last(answer: HandlerAnswer) -> bool
         HandlerAnswer::QueueFull => false,
         HandlerAnswer::MalformedRecord => true,
         HandlerAnswer::SideFull => false,
+        HandlerAnswer::OutsideProfile => false,
     }
 }
 

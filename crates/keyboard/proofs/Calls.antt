@@ -18,6 +18,7 @@ use Rattle.keyboard_scancodes.proofs.Tests.{which}
 use Rattle.keyboard_sides.specs.declared.Side.{Side}
 use Rattle.keyboard_record.specs.declared.HandlerState.{HandlerState}
 use Rattle.keyboard_record.specs.Record.{keyboardAt, callFormed}
+use Rattle.keyboard.specs.Rules.{rulesAt}
 use Rattle.keyboard.specs.Scancode.{Took, takes, countedOf, scancode}
 use Rattle.keyboard.specs.Byte.{Keyed, keyCall}
 use Rattle.keyboard.specs.Handler.{Outcome, outcome, afterByte, handle}
@@ -34,13 +35,13 @@ module _ {A : Type 0} (lamps : Side → ℕ → Exchange (Answer A)) (side : Sid
   callEnd script log = play (handle lamps side s) script log .end
 
   abbrev pub callScanned : List ℕ → List ℕ → Option ℕ
-  callScanned script log = scancode (lamps side) (callFormed side s) (flagsThen (keyboardAt side s)) (waitingBytes (keyboardAt side s .waiting)) script log
+  callScanned script log = scancode (rulesAt (s .table) lamps side) (callFormed side s) (flagsThen (s .table .profile) (keyboardAt side s)) (waitingBytes (keyboardAt side s .waiting)) script log
 
   pub handle-malformed : callFormed side s ≡ false → handle lamps side s ≡ done (malformedOutcome s)
   unfolding handle
   handle-malformed w = rw w
 
-  pub handle-formed : callFormed side s ≡ true → handle lamps side s ≡ bind (keyCall (lamps side) (keyboardAt side s)) (λ o. done (afterByte side s o))
+  pub handle-formed : callFormed side s ≡ true → handle lamps side s ≡ bind (keyCall (rulesAt (s .table) lamps side) (keyboardAt side s)) (λ o. done (afterByte side s o))
   unfolding handle
   handle-formed w = rw w
 
@@ -50,31 +51,31 @@ module _ {A : Type 0} (lamps : Side → ℕ → Exchange (Answer A)) (side : Sid
 
     -- the keyboard's part of the call
     abbrev pub keyPlay : Played Keyed
-    keyPlay = play (keyCall (lamps side) (keyboardAt side s)) script log
+    keyPlay = play (keyCall (rulesAt (s .table) lamps side) (keyboardAt side s)) script log
 
     pub formed-play : callFormed side s ≡ true
         → play (handle lamps side s) script log ≡ played (toldEnd (afterByte side s) (keyPlay .end)) (keyPlay .used) (keyPlay .pairs) (keyPlay .log)
     formed-play w =
         ap (λ (t : Exchange Outcome). play t script log) (handle-formed w)
-        ∙ sym (bind-told (keyCall (lamps side) (keyboardAt side s)) (afterByte side s) script log refl refl)
+        ∙ sym (bind-told (keyCall (rulesAt (s .table) lamps side) (keyboardAt side s)) (afterByte side s) script log refl refl)
 
     malformed-none : callFormed side s ≡ false → callScanned script log ≡ none
     unfolding scancode
     malformed-none w = on (takes (waitingBytes (keyboardAt side s .waiting)) script)
       where
-        on : (o : Option Took) → countedOf (lamps side) (callFormed side s) (flagsThen (keyboardAt side s)) o log ≡ none
+        on : (o : Option Took) → countedOf (rulesAt (s .table) lamps side) (callFormed side s) (flagsThen (s .table .profile) (keyboardAt side s)) o log ≡ none
         on none = refl
         on (some t) = rw w
 
     -- the two courses of a call
     pub data CallCourse : Type 0 where
       malformed : callFormed side s ≡ false → callEnd script log ≡ yields (malformedOutcome s) → callScanned script log ≡ none → CallCourse
-      formed : callFormed side s ≡ true → callEnd script log ≡ toldEnd (afterByte side s) (endOf (lamps side) (keyboardAt side s) script log)
-          → callScanned script log ≡ scanned (lamps side) (keyboardAt side s) script log → Course (lamps side) (keyboardAt side s) script log → CallCourse
+      formed : callFormed side s ≡ true → callEnd script log ≡ toldEnd (afterByte side s) (endOf (rulesAt (s .table) lamps side) (keyboardAt side s) script log)
+          → callScanned script log ≡ scanned (rulesAt (s .table) lamps side) (keyboardAt side s) script log → Course (rulesAt (s .table) lamps side) (keyboardAt side s) script log → CallCourse
 
     pub call-course : CallCourse
     call-course =
         ⊎-elim
-        (λ w. formed w (ap (λ (o : Played Outcome). o .end) (formed-play w)) (rw w) (course (lamps side) (keyboardAt side s) script log))
+        (λ w. formed w (ap (λ (o : Played Outcome). o .end) (formed-play w)) (rw w) (course (rulesAt (s .table) lamps side) (keyboardAt side s) script log))
         (λ w. malformed w (ap (λ (o : Played Outcome). o .end) (malformed-play w)) (malformed-none w))
         (which (callFormed side s))

@@ -16,7 +16,7 @@ use Rattle.keyboard.specs.Answers.{ends2-3-21}
 use Rattle.keyboard.specs.Scancode.{isSome}
 use Rattle.keyboard.specs.Byte.{keyEvent}
 use Rattle.keyboard.specs.Handler.{Outcome, queued, effects}
-use Rattle.keyboard.proofs.Queued.{KeyNumber, done-0, unknown-19, full-20, side-31, queuedNumber, queued-number}
+use Rattle.keyboard.proofs.Queued.{KeyNumber, done-0, unknown-19, full-20, side-31, outside-33, queuedNumber, queued-number}
 use Rattle.keyboard.proofs.Ways.{Course, lacking, at-silent, at-key}
 use Rattle.keyboard.proofs.Calls.{callEnd, callScanned, CallCourse, malformed, formed, call-course}
 
@@ -35,6 +35,7 @@ number-ends done-0 = refl
 number-ends unknown-19 = refl
 number-ends full-20 = refl
 number-ends side-31 = refl
+number-ends outside-33 = refl
 
 pub queued-ends : (side : Side) (s : HandlerState) (b w : ℕ) (lit : Answer Success) (d : ℕ) → ends2-3-21 (yields (queued side s (keyEvent b w) lit d .answer)) ≡ false
 queued-ends side s b w lit d = number-ends (queued-number side s b w lit d)
@@ -44,7 +45,7 @@ module _ {A : Type 0} (lamps : Side → ℕ → Exchange (Answer A)) (side : Sid
   by-course (malformed w e n) = rw (e, n)
   by-course (formed w e n (lacking x q m)) = rw (e, n, q, m) (lack-ends x)
   by-course (formed w e n (at-silent t q g u m)) = rw (e, n, u, m)
-  by-course (formed w e n (at-key t lit q g u m)) = rw (e, n, u, m) (queued-ends side (withKeyboard side _ h) (t .byte) (flagsThen (keyboardAt side h) (t .byte)) lit _)
+  by-course (formed w e n (at-key t lit q g u m)) = rw (e, n, u, m) (queued-ends side (withKeyboard side _ h) (t .byte) (flagsThen (h .table .profile) (keyboardAt side h) (t .byte)) lit _)
 
   pub counted-exactly : (script log : List ℕ) → ends2-3-21 (effects lamps side h script log .end) ≡ not (isSome (callScanned lamps side h script log))
   unfolding effects

@@ -12,19 +12,20 @@ use Rattle.exchange.specs.Answer.{Answer, gives, refuses}
 use Rattle.ps2_answers.specs.Refusals.{Success, success}
 use Rattle.ps2_ports.specs.declared.DevicePort.{DevicePort}
 use Rattle.keyboard_scancodes.specs.declared.KeyboardState.{KeyboardState}
+use Rattle.keyboard_scancodes.specs.declared.Profile.{Profile}
 use Rattle.keycodes_ascii.specs.declared.KeyEvent.{KeyEvent}
 use Rattle.keyboard_scancodes.proofs.Tests.{which}
 use Rattle.keyboard_record.specs.declared.HandlerState.{HandlerState}
 use Rattle.keyboard_record.specs.declared.KeyboardHandler.{KeyboardHandler}
 use Rattle.keyboard_record.specs.Record.{keyboardAt, withKeyboard, callFormed}
-use Rattle.keyboard_record.specs.Queue.{room, ifGiven, joined}
+use Rattle.keyboard_record.specs.Queue.{place, ifGiven, joined}
 use Rattle.keyboard_record.proofs.AtSides.{with-keyboard-same}
 use Rattle.keyboard_sides.specs.declared.Side.{Side}
 use Rattle.keyboard_record.proofs.WellFormed.{WellFormed, call-is}
 use Rattle.keyboard.specs.declared.Effect.{Effect}
 use Rattle.keyboard.specs.declared.NewEvent.{NewEvent}
 use Rattle.keyboard.specs.Answers.{saidCall, saidLamps}
-use Rattle.keyboard.specs.KeyboardLamps.{portOf, portLamps, keyboardLamps}
+use Rattle.keyboard.specs.KeyboardLamps.{portOf, portRules, keyboardLamps}
 use Rattle.keyboard.specs.Byte.{Keyed, KeyEffects, keyEffectsBy, keyCall, keyEffects}
 use Rattle.keyboard.specs.Handler.{Outcome, queued, afterByte, Effects, effectsBy, Called, calledWith, effects, logLeft, handled}
 use Rattle.keyboard.specs.Outcomes.{saidEvent, saidEffect}
@@ -46,7 +47,7 @@ module _ (side : Side) (s : HandlerState) where
   recordEffects x = byEnd x (x .end)
 
   module _ (x : KeyEffects) {left : HandlerState} (is : left ≡ withKeyboard side (x .keyboard) s) where
-    pub event-effects : {e : KeyEvent} → x .end ≡ yields (gives (some e)) → {a : Answer Success} {joint : HandlerState} → (a ≡ room side left) × (joint ≡ joined side left)
+    pub event-effects : {e : KeyEvent} → x .end ≡ yields (gives (some e)) → {a : Answer Success} {joint : HandlerState} → (a ≡ place side (e .keycode) left) × (joint ≡ joined side (e .keycode) left)
         → record { end = yields a; lamps = x .lamps; used = x .used; pairs = x .pairs; state = joint; event = ifGiven a (some e) none; dropped = x .dropped } ≡ recordEffects x
     event-effects q j = rw (q, j .1, j .0, is)
 
@@ -69,15 +70,15 @@ module _ (side : Side) (s : HandlerState) where
   ended o (yields k) q = rw q
   ended o (lacks l) q = rw (q, with-keyboard-same side s)
 
-module _ (side : Side) (s : HandlerState) (script log : List ℕ) (w : callFormed side s ≡ true) {port : DevicePort} (p : port ≡ portOf side) {k : KeyboardState} (r : k ≡ keyboardAt side s) where
-  pub formed-call : {x : KeyEffects} {m : List ℕ} → (x ≡ keyEffects (portLamps port) k script log) × (m ≡ play (keyCall (portLamps port) k) script log .log)
+module _ (side : Side) (s : HandlerState) (script log : List ℕ) (w : callFormed side s ≡ true) {profile : Profile} (f : profile ≡ s .table .profile) {port : DevicePort} (p : port ≡ portOf side) {k : KeyboardState} (r : k ≡ keyboardAt side s) where
+  pub formed-call : {x : KeyEffects} {m : List ℕ} → (x ≡ keyEffects (portRules profile port) k script log) × (m ≡ play (keyCall (portRules profile port) k) script log .log)
       → {y : Effects} → y ≡ recordEffects side s x → (y ≡ effects keyboardLamps side s script log) × (m ≡ logLeft keyboardLamps side s script log)
   unfolding effects keyEffects logLeft
   formed-call q z =
       let o = keyPlay keyboardLamps side s script log in
-      let f = formed-play keyboardLamps side s script log w in (
-        z ∙ ap (recordEffects side s) (rw (p, r) at (q .0)) ∙ ended side s o (o .end) refl ∙ ap (effectsBy s) (sym f),
-        (rw (p, r) at (q .1)) ∙ ap (λ (u : Played Outcome). u .log) (sym f),
+      let g = formed-play keyboardLamps side s script log w in (
+        z ∙ ap (recordEffects side s) (rw (f, p, r) at (q .0)) ∙ ended side s o (o .end) refl ∙ ap (effectsBy s) (sym g),
+        (rw (f, p, r) at (q .1)) ∙ ap (λ (u : Played Outcome). u .log) (sym g),
       )
 
 -- ---- the places

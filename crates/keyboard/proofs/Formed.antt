@@ -19,9 +19,10 @@ use Rattle.keyboard_sides.specs.declared.Side.{Side}
 use Rattle.keyboard_sides.specs.Sides.{sameSide}
 use Rattle.keyboard_record.specs.declared.HandlerState.{HandlerState}
 use Rattle.keyboard_record.specs.Record.{keyboardAt, withKeyboard}
-use Rattle.keyboard_record.proofs.AtSides.{keyboard-at-with, keyboard-at-other, keyboards-with}
-use Rattle.keyboard_record.proofs.Meeting.{keyboard-at-joined, keyboards-joined}
+use Rattle.keyboard_record.proofs.AtSides.{keyboard-at-with, keyboard-at-other, table-with}
+use Rattle.keyboard_record.proofs.Meeting.{keyboard-at-joined, table-joined}
 use Rattle.keyboard_record.proofs.WellFormed.{Formed, WellFormed, call-is, well-keyboard, well-joined}
+use Rattle.keyboard.specs.Rules.{Rules, rulesAt}
 use Rattle.keyboard.specs.Byte.{Keyed, endKeyed}
 use Rattle.keyboard.specs.Handler.{queued, afterByte, effects, endOutcome}
 use Rattle.keyboard.proofs.Ways.{endOf, waitsAfter, Course, lacking, at-silent, at-key}
@@ -29,28 +30,28 @@ use Rattle.keyboard.proofs.Calls.{callEnd, CallCourse, malformed, forme
 
 -- ---- for one keyboard
 
-module _ {A : Type 0} (lamps : ℕ → Exchange (Answer A)) {k : KeyboardState} (f : Formed k) where
-  then-in : (b : ℕ) → flagsThen k b < flagLimit
+module _ {A : Type 0} (rules : Rules A) {k : KeyboardState} (f : Formed k) where
+  then-in : (b : ℕ) → flagsThen (rules .profile) k b < flagLimit
   unfolding flagsThen
-  then-in b = flags-stay (stroke b (k .prefix)) (k .modifiers .bits) (f .flags-in)
+  then-in b = flags-stay (rules .profile) (stroke b (k .prefix)) (k .modifiers .bits) (f .flags-in)
 
-  pub formed-left : {s l : List ℕ} → Course lamps k s l → Formed (endKeyed k (endOf lamps k s l) .keyboard)
+  pub formed-left : {s l : List ℕ} → Course rules k s l → Formed (endKeyed k (endOf rules k s l) .keyboard)
   formed-left (lacking x e n) = rw e f
   formed-left (at-silent t q g e n) = rw e (record { flags-in = f .flags-in; waiting-in = waiting-count (t .waiting) })
-  formed-left {s} {l} (at-key t lit q g e n) = rw e (record { flags-in = then-in (t .byte); waiting-in = waiting-count (waitsAfter lamps k t l) })
+  formed-left {s} {l} (at-key t lit q g e n) = rw e (record { flags-in = then-in (t .byte); waiting-in = waiting-count (waitsAfter rules k t l) })
 
 -- ---- for a record
 
 -- what is made of the event leaves both keyboards, and a well-formed state well formed
 queued-at : (side t : Side) (s : HandlerState) (g : Answer (Option KeyEvent)) (lit : Answer Success) (d : ℕ) → keyboardAt t (queued side s g lit d .state) ≡ keyboardAt t s
 queued-at side t s (gives none) lit d = refl
-queued-at side t s (gives (some e)) lit d = keyboard-at-joined side t s
+queued-at side t s (gives (some e)) lit d = keyboard-at-joined side t (e .keycode) s
 queued-at side t s (refuses n) lit d = refl
 
-queued-keyboards : (side : Side) (s : HandlerState) (g : Answer (Option KeyEvent)) (lit : Answer Success) (d : ℕ) → queued side s g lit d .state .keyboards ≡ s .keyboards
-queued-keyboards side s (gives none) lit d = refl
-queued-keyboards side s (gives (some e)) lit d = keyboards-joined side s
-queued-keyboards side s (refuses n) lit d = refl
+queued-table : (side : Side) (s : HandlerState) (g : Answer (Option KeyEvent)) (lit : Answer Success) (d : ℕ) → queued side s g lit d .state .table ≡ s .table
+queued-table side s (gives none) lit d = refl
+queued-table side s (gives (some e)) lit d = table-joined side (e .keycode) s
+queued-table side s (refuses n) lit d = refl
 
 queued-dropped : (side : Side) (s : HandlerState) (g : Answer (Option KeyEvent)) (lit : Answer Success) (d : ℕ) → queued side s g lit d .dropped ≡ d
 queued-dropped side s (gives none) lit d = refl
@@ -59,7 +60,7 @@ queued-dropped side s (refuses n) lit d = refl
 
 queued-well : (side : Side) {s : HandlerState} → WellFormed s → (g : Answer (Option KeyEvent)) (lit : Answer Success) (d : ℕ) → WellFormed (queued side s g lit d .state)
 queued-well side w (gives none) lit d = w
-queued-well side w (gives (some e)) lit d = well-joined w side
+queued-well side w (gives (some e)) lit d = well-joined w side (e .keycode)
 queued-well side w (refuses n) lit d = w
 
 module _ (side : Side) (h : HandlerState) where
@@ -77,10 +78,10 @@ module _ (side : Side) (h : HandlerState) where
       queued-at side other (withKeyboard side (o .keyboard) h) (o .given) (o .lamps) (o .dropped) ∙ keyboard-at-other side other (o .keyboard) h n
   left-other other n (lacks x) = refl
 
-  pub left-keyboards : (e : End Keyed) → left e .keyboards ≡ h .keyboards
-  left-keyboards (yields o) =
-      queued-keyboards side (withKeyboard side (o .keyboard) h) (o .given) (o .lamps) (o .dropped) ∙ keyboards-with side (o .keyboard) h
-  left-keyboards (lacks x) = refl
+  pub left-table : (e : End Keyed) → left e .table ≡ h .table
+  left-table (yields o) =
+      queued-table side (withKeyboard side (o .keyboard) h) (o .given) (o .lamps) (o .dropped) ∙ table-with side (o .keyboard) h
+  left-table (lacks x) = refl
 
   pub left-dropped : (e : End Keyed) → endOutcome h (toldEnd (afterByte side h) e) .dropped ≡ endKeyed (keyboardAt side h) e .dropped
   left-dropped (yields o) = queued-dropped side (withKeyboard side (o .keyboard) h) (o .given) (o .lamps) (o .dropped)
@@ -94,7 +95,7 @@ module _ {A : Type 0} (lamps : Side → ℕ → Exchange (Answer A)) (side : Sid
   by-course : WellFormed h → {s l : List ℕ} → CallCourse lamps side h s l → WellFormed (endOutcome h (callEnd lamps side h s l) .state)
   by-course w (malformed m e n) = rw e w
   by-course w {s} {l} (formed c e n k) =
-      rw e (well-end side h w (endOf (lamps side) (keyboardAt side h) s l) (formed-left (lamps side) (w .at side (call-is side h c .0)) k))
+      rw e (well-end side h w (endOf (rulesAt (h .table) lamps side) (keyboardAt side h) s l) (formed-left (rulesAt (h .table) lamps side) (w .at side (call-is side h c .0)) k))
 
   pub well-handled : WellFormed h → (script log : List ℕ) → WellFormed (effects lamps side h script log .state)
   unfolding effects
@@ -105,17 +106,17 @@ module _ {A : Type 0} (lamps : Side → ℕ → Exchange (Answer A)) (side : Sid
   other-course : (other : Side) → sameSide side other ≡ false → {s l : List ℕ} → CallCourse lamps side h s l
       → keyboardAt other (endOutcome h (callEnd lamps side h s l) .state) ≡ keyboardAt other h
   other-course other d (malformed m e n) = rw e
-  other-course other d {s} {l} (formed c e n k) = rw e (left-other side h other d (endOf (lamps side) (keyboardAt side h) s l))
+  other-course other d {s} {l} (formed c e n k) = rw e (left-other side h other d (endOf (rulesAt (h .table) lamps side) (keyboardAt side h) s l))
 
   pub other-side : (other : Side) → sameSide side other ≡ false → (script log : List ℕ) → keyboardAt other (effects lamps side h script log .state) ≡ keyboardAt other h
   unfolding effects
   other-side other d script log = other-course other d (call-course lamps side h script log)
 
-  keyboards-course : {s l : List ℕ} → CallCourse lamps side h s l → endOutcome h (callEnd lamps side h s l) .state .keyboards ≡ h .keyboards
-  keyboards-course (malformed m e n) = rw e
-  keyboards-course {s} {l} (formed c e n k) = rw e (left-keyboards side h (endOf (lamps side) (keyboardAt side h) s l))
+  table-course : {s l : List ℕ} → CallCourse lamps side h s l → endOutcome h (callEnd lamps side h s l) .state .table ≡ h .table
+  table-course (malformed m e n) = rw e
+  table-course {s} {l} (formed c e n k) = rw e (left-table side h (endOf (rulesAt (h .table) lamps side) (keyboardAt side h) s l))
 
-  -- no call changes how many keyboards there are
-  pub same-keyboards : (script log : List ℕ) → effects lamps side h script log .state .keyboards ≡ h .keyboards
+  -- no call changes what the table is laid with: neither how many keyboards there are, nor the profile
+  pub same-table : (script log : List ℕ) → effects lamps side h script log .state .table ≡ h .table
   unfolding effects
-  same-keyboards script log = keyboards-course (call-course lamps side h script log)
+  same-table script log = table-course (call-course lamps side h script log)

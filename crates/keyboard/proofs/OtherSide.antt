@@ -27,20 +27,24 @@ use Rattle.ps2_command.specs.Command.{command, commandBy}
 use Rattle.ps2_command.proofs.Once.{sends-command, port2-first}
 use Rattle.ps2_keyboard.specs.Keyboard.{setLedBy, setPortLed}
 use Rattle.keycodes_ascii.specs.declared.KeyEvent.{KeyEvent}
+use Rattle.keycodes_ascii.specs.declared.Keycode.{Keycode}
 use Rattle.keyboard_scancodes.specs.declared.KeyboardState.{KeyboardState}
 use Rattle.keyboard_scancodes.specs.Strokes.{isSilent}
-use Rattle.keyboard_scancodes.specs.FlagTable.{isLockPress}
+use Rattle.keyboard_scancodes.specs.declared.Profile.{Profile}
+use Rattle.keyboard_scancodes.specs.Profile.{pressesFollowed}
 use Rattle.keyboard_scancodes.specs.FlagsAfter.{flagsThen}
 use Rattle.keyboard_scancodes.specs.Lamps.{lampsLit}
 use Rattle.keyboard_scancodes.specs.Waiting.{waitingBytes}
 use Rattle.keyboard_sides.specs.declared.Side.{Side}
 use Rattle.keyboard_sides.specs.Sides.{sameSide, countOf}
 use Rattle.keyboard_record.specs.declared.HandlerState.{HandlerState}
+use Rattle.keyboard_record.specs.declared.Table.{Table}
 use Rattle.keyboard_record.specs.Limits.{share}
-use Rattle.keyboard_record.specs.Queue.{waitingSides, meets, room, oneMore, ifGiven, joined}
+use Rattle.keyboard_record.specs.Queue.{waitingSides, meets, admits, place, oneMore, ifGiven, joined}
 use Rattle.keyboard_record.specs.Record.{keyboardAt, withKeyboard, keyboardFormed, queueFormed, fair, wellFormed, callFormed}
-use Rattle.keyboard_record.proofs.Meeting.{room-says}
+use Rattle.keyboard_record.proofs.Meeting.{place-says}
 use Rattle.keyboard_record.proofs.Waiting.{sides-more}
+use Rattle.keyboard.specs.Rules.{Rules, rulesOf}
 use Rattle.keyboard.specs.Byte.{afterLamps, shown, takeByte, lampExchange, onByte, keyCall}
 use Rattle.keyboard.specs.Handler.{Outcome, queued, effectsBy, handle, effects}
 use Rattle.keyboard.specs.KeyboardLamps.{keyboardLamps}
@@ -144,25 +148,37 @@ lamps-apart lit =
 
 -- ---- the call for a keyboard, over two lamp exchanges that are D4 apart
 
-module _ {lamps lamps′ : ℕ → Exchange (Answer Success)} (apart : (lit : ℕ) → D4Apart _≡_ (lamps′ lit) (lamps lit)) (k : KeyboardState) where
-  lamp-exchange-apart : (b flags : ℕ) → D4Apart _≡_ (lampExchange lamps′ b flags) (lampExchange lamps b flags)
-  unfolding lampExchange
-  lamp-exchange-apart b flags = apart-cond (isLockPress b) (apart-bind (apart (lampsLit flags)) (λ x y e. apart-done (ap shown e))) (apart-done refl)
+module _ (profile : Profile) {lamps lamps′ : ℕ → Exchange (Answer Success)} (apart : (lit : ℕ) → D4Apart _≡_ (lamps′ lit) (lamps lit)) (k : KeyboardState) where
+  -- how the bytes are followed, by the one exchange and by the other
+  abbrev rules : Rules Success
+  rules = rulesOf profile lamps
 
-  on-byte-apart : (waiting : List ℕ) (b : ℕ) → D4Apart _≡_ (onByte lamps′ k waiting b) (onByte lamps k waiting b)
+  abbrev rules′ : Rules Success
+  rules′ = rulesOf profile lamps′
+
+  lamp-exchange-apart : (b flags : ℕ) → D4Apart _≡_ (lampExchange rules′ b flags) (lampExchange rules b flags)
+  unfolding lampExchange
+  lamp-exchange-apart b flags = apart-cond (pressesFollowed profile b) (apart-bind (apart (lampsLit flags)) (λ x y e. apart-done (ap shown e))) (apart-done refl)
+
+  on-byte-apart : (waiting : List ℕ) (b : ℕ) → D4Apart _≡_ (onByte rules′ k waiting b) (onByte rules k waiting b)
   unfolding onByte
   on-byte-apart waiting b =
       apart-cond (isSilent b) (apart-done refl)
-      (apart-bind (apart-keeping thrown [] (lamp-exchange-apart b (flagsThen k b)))
-      (λ x y e. apart-done (λ i. afterLamps b (flagsThen k b) (keptOf (waiting ++ e .1 i)) (e .0 i))))
+      (apart-bind (apart-keeping thrown [] (lamp-exchange-apart b (flagsThen profile k b)))
+      (λ x y e. apart-done (λ i. afterLamps b (flagsThen profile k b) (keptOf (waiting ++ e .1 i)) (e .0 i))))
 
-  take-apart : (waiting : List ℕ) → D4Apart _≡_ (takeByte waiting (onByte lamps′ k)) (takeByte waiting (onByte lamps k))
+  take-apart : (waiting : List ℕ) → D4Apart _≡_ (takeByte waiting (onByte rules′ k)) (takeByte waiting (onByte rules k))
   take-apart [] = apart-read (on-byte-apart [])
   take-apart (b ∷ waiting) = on-byte-apart waiting b
 
-  key-call-apart : D4Apart _≡_ (keyCall lamps′ k) (keyCall lamps k)
+  key-call-apart : D4Apart _≡_ (keyCall rules′ k) (keyCall rules k)
   unfolding keyCall
   key-call-apart = take-apart (waitingBytes (k .waiting))
+
+-- and under one profile, by whichever record it is named
+profiles-apart : {profile profile′ : Profile} → profile′ ≡ profile → {lamps lamps′ : ℕ → Exchange (Answer Success)}
+    → ((lit : ℕ) → D4Apart _≡_ (lamps′ lit) (lamps lit)) → (k : KeyboardState) → D4Apart _≡_ (keyCall (rulesOf profile′ lamps′) k) (keyCall (rulesOf profile lamps) k)
+profiles-apart {profile = profile} q apart k = rw q (key-call-apart profile apart k)
 
 -- ---- the record with its sides exchanged
 
@@ -203,23 +219,19 @@ module _ {s s′ : HandlerState} (x : Exchanged s s′) where
   unfolding callFormed wellFormed fair
   exchanged-formed side =
       let l = waitingSides s in
-      rw (x .two, x .two′, x .sides, x .start, x .count, x .keyboards Side.Second, x .keyboards Side.First, count-other Side.Second l, count-other Side.First l)
+      rw (x .table, x .two, x .sides, x .start, x .count, x .keyboards Side.Second, x .keyboards Side.First, count-other Side.Second l, count-other Side.First l)
       (ap (λ (c : Bool). queueFormed s && c)
       (swapped (keyboardFormed (s .first)) (keyboardFormed (s .second)) (leb (countOf Side.First l) share) (leb (countOf Side.Second l) share)))
 
-  exchanged-room : (side : Side) → room (otherSide side) s′ ≡ room side s
-  unfolding meets
-  exchanged-room side = rw (x .two, x .two′, x .sides, count-other side (waitingSides s), length-other (waitingSides s))
-
   exchanged-with : (side : Side) (k : KeyboardState) → Exchanged (withKeyboard side k s) (withKeyboard (otherSide side) k s′)
   exchanged-with Side.First k =
-      record { two = x .two; two′ = x .two′; keyboards = at; start = x .start; count = x .count; sides = x .sides }
+      record { two = x .two; table = x .table; keyboards = at; start = x .start; count = x .count; sides = x .sides }
     where
       at : (t : Side) → keyboardAt (otherSide t) (withKeyboard Side.Second k s′) ≡ keyboardAt t (withKeyboard Side.First k s)
       at Side.First = refl
       at Side.Second = x .keyboards Side.Second
   exchanged-with Side.Second k =
-      record { two = x .two; two′ = x .two′; keyboards = at; start = x .start; count = x .count; sides = x .sides }
+      record { two = x .two; table = x .table; keyboards = at; start = x .start; count = x .count; sides = x .sides }
     where
       at : (t : Side) → keyboardAt (otherSide t) (withKeyboard Side.First k s′) ≡ keyboardAt t (withKeyboard Side.Second k s)
       at Side.First = x .keyboards Side.First
@@ -229,7 +241,7 @@ module _ {s s′ : HandlerState} (x : Exchanged s s′) where
   exchanged-more side below =
       record {
         two = x .two;
-        two′ = x .two′;
+        table = x .table;
         keyboards = at;
         start = x .start;
         count = ap (λ (n : ℕ). n + 1) (x .count);
@@ -244,11 +256,15 @@ module _ {s s′ : HandlerState} (x : Exchanged s s′) where
       at Side.First = x .keyboards Side.First
       at Side.Second = x .keyboards Side.Second
 
-  exchanged-joined : (side : Side) → Exchanged (joined side s) (joined (otherSide side) s′)
-  exchanged-joined side = rw (exchanged-room side) (by (room side s) refl)
+  exchanged-place : (side : Side) (key : Keycode) → place (otherSide side) key s′ ≡ place side key s
+  unfolding admits meets
+  exchanged-place side key = rw (x .table, x .two, x .sides, count-other side (waitingSides s), length-other (waitingSides s))
+
+  exchanged-joined : (side : Side) (key : Keycode) → Exchanged (joined side key s) (joined (otherSide side) key s′)
+  exchanged-joined side key = rw (exchanged-place side key) (by (place side key s) refl)
     where
-      by : (a : Answer Success) → room side s ≡ a → Exchanged (ifGiven a (oneMore side s) s) (ifGiven a (oneMore (otherSide side) s′) s′)
-      by (gives success) q = exchanged-more side (room-says side s q .count-in)
+      by : (a : Answer Success) → place side key s ≡ a → Exchanged (ifGiven a (oneMore side s) s) (ifGiven a (oneMore (otherSide side) s′) s′)
+      by (gives success) q = exchanged-more side (place-says side key s q .1 .count-in)
       by (refuses n) q = x
 
   exchanged-queued : (side : Side) (g : Answer (Option KeyEvent)) (lit : Answer Success) (dropped : ℕ)
@@ -256,10 +272,10 @@ module _ {s s′ : HandlerState} (x : Exchanged s s′) where
   exchanged-queued side (gives none) lit dropped = record { answer = refl; lamps = refl; state = x; event = refl; dropped = refl }
   exchanged-queued side (gives (some e)) lit dropped =
       record {
-        answer = exchanged-room side;
+        answer = exchanged-place side (e .keycode);
         lamps = refl;
-        state = exchanged-joined side;
-        event = ap (λ (a : Answer Success). ifGiven a (some e) none) (exchanged-room side);
+        state = exchanged-joined side (e .keycode);
+        event = ap (λ (a : Answer Success). ifGiven a (some e) none) (exchanged-place side (e .keycode));
         dropped = refl;
       }
   exchanged-queued side (refuses n) lit dropped = record { answer = refl; lamps = refl; state = x; event = refl; dropped = refl }
@@ -274,7 +290,7 @@ module _ (lamps lamps′ : Side → ℕ → Exchange (Answer Success)) (side : S
   exchanged-call =
       rw (exchanged-formed x side, x .keyboards side)
       (apart-cond (callFormed side s)
-      (apart-bind (key-call-apart apart (keyboardAt side s))
+      (apart-bind (profiles-apart (ap (λ (t : Table). t .profile) (x .table)) apart (keyboardAt side s))
       (λ a b e. apart-done (rw e (exchanged-queued (exchanged-with x side (b .keyboard)) side (b .given) (b .lamps) (b .dropped)))))
       (apart-done (record { answer = refl; lamps = refl; state = x; event = refl; dropped = refl })))
 

@@ -28,12 +28,13 @@ use Rattle.ps2_kept.proofs.Thrown.{behind, keeping-behind, keeping-onto}
 use Rattle.ps2_ports.specs.Ports.{readPort}
 use Rattle.ps2_keyboard.specs.Keyboard.{readScancode}
 use Rattle.keyboard_scancodes.specs.Strokes.{stroke, isPrefix, isSilent}
-use Rattle.keyboard_scancodes.specs.FlagTable.{flagTable, isLockPress}
+use Rattle.keyboard_scancodes.specs.Profile.{followed, pressesFollowed}
 use Rattle.keyboard_scancodes.specs.FlagsAfter.{flagsAfter, flagsThen}
 use Rattle.keyboard_scancodes.specs.Lamps.{lampsLit}
 use Rattle.keyboard_scancodes.specs.Waiting.{bytesFrom, waitingBytes, waitingIn}
 use Rattle.keyboard_scancodes.specs.declared.KeyboardState.{KeyboardState}
 use Rattle.keyboard_scancodes.specs.Remembered.{keyboardOf}
+use Rattle.keyboard.specs.Rules.{Rules}
 use Rattle.keyboard.specs.Byte.{Keyed, keyed, afterLamps, shown, KeyEffects, keyEffectsBy, takeByte, lampExchange, onByte, keyCall, keyEffects}
 use Rattle.keyboard.specs.Outcomes.{onKey}
 use Rattle.keyboard.proofs.Courses.{call-taken, no-bytes, none-taken}
@@ -48,11 +49,11 @@ module _ (h : KeyboardState) (t : Exchange Keyed) (s l : List ℕ) {e : End Keye
 abbrev further : ℕ → KeyEffects → KeyEffects
 further u x = record { end = x .end; lamps = x .lamps; used = u + x .used; pairs = x .pairs; keyboard = x .keyboard; dropped = x .dropped }
 
-module _ {A : Type 0} (lamps : ℕ → Exchange (Answer A)) (h : KeyboardState) where
-  pub call-back : (s l : List ℕ) {e : End Keyed} {u w : ℕ} {l′ : List ℕ} → played e u w l′ ≡ play (keyCall lamps h) s l
-      → (keyEffectsBy h (played e u w l′) ≡ keyEffects lamps h s l) × (l′ ≡ play (keyCall lamps h) s l .log)
+module _ {A : Type 0} (rules : Rules A) (h : KeyboardState) where
+  pub call-back : (s l : List ℕ) {e : End Keyed} {u w : ℕ} {l′ : List ℕ} → played e u w l′ ≡ play (keyCall rules h) s l
+      → (keyEffectsBy h (played e u w l′) ≡ keyEffects rules h s l) × (l′ ≡ play (keyCall rules h) s l .log)
   unfolding keyEffects
-  call-back s l p = gives-back h (keyCall lamps h) s l p refl
+  call-back s l p = gives-back h (keyCall rules h) s l p refl
 
   -- ---- the byte of a key, with its flags and the bytes that wait behind it
 
@@ -61,43 +62,43 @@ module _ {A : Type 0} (lamps : ℕ → Exchange (Answer A)) (h : KeyboardState) 
     abbrev event : Kept KeptBytes (Answer A) → Exchange Keyed
     event k = done (afterLamps b flags (k .bytes) (shown (k .value)))
 
-    module _ (k : isLockPress b ≡ true) {v : ℕ} (m : v ≡ lampsLit flags) {n w₀ : ℕ} (within : Within n w₀ (lamps v)) (few : length rest + n ≤ othersLimit) where
-      lock-tree : lampExchange lamps b flags ≡ bind (lamps v) (λ a. done (shown a))
+    module _ (k : pressesFollowed (rules .profile) b ≡ true) {v : ℕ} (m : v ≡ lampsLit flags) {n w₀ : ℕ} (within : Within n w₀ (rules .lamps v)) (few : length rest + n ≤ othersLimit) where
+      lock-tree : lampExchange rules b flags ≡ bind (rules .lamps v) (λ a. done (shown a))
       unfolding lampExchange
       lock-tree = rw (k, m)
 
       -- by the list of the bytes that it throws away
-      key-tree : onKey lamps rest b flags ≡ bind (keeping thrown [] (lamps v)) (λ x. event (retold (λ y. keptOf (rest ++ y)) x))
+      key-tree : onKey rules rest b flags ≡ bind (keeping thrown [] (rules .lamps v)) (λ x. event (retold (λ y. keptOf (rest ++ y)) x))
       unfolding keeping bind
       key-tree =
           ap (λ (t : Exchange (Answer Success)). bind (keeping thrown [] t) (λ lit. done (afterLamps b flags (keptOf (rest ++ lit .bytes)) (lit .value)))) lock-tree
           ∙ ap (λ (t : Exchange (Kept (List ℕ) (Answer Success))). bind t (λ lit. done (afterLamps b flags (keptOf (rest ++ lit .bytes)) (lit .value))))
-          (keeping-bind thrown (λ a. done (shown a)) [] (lamps v))
-          ∙ bind-assoc (keeping thrown [] (lamps v)) _ _
+          (keeping-bind thrown (λ a. done (shown a)) [] (rules .lamps v))
+          ∙ bind-assoc (keeping thrown [] (rules .lamps v)) _ _
 
       -- and as the code goes on from the bytes kept before
-      onto-tree : bind (keepingOnto (keptOf rest) (lamps v)) event ≡ onKey lamps rest b flags
+      onto-tree : bind (keepingOnto (keptOf rest) (rules .lamps v)) event ≡ onKey rules rest b flags
       unfolding bind
       onto-tree =
           ap (λ (t : Exchange (Kept KeptBytes (Answer A))). bind t event)
-          (sym (keeping-onto within rest few) ∙ ap (λ (t : Exchange (Kept (List ℕ) (Answer A))). bind t (λ x. done (retold keptOf x))) (sym (keeping-behind rest (lamps v))))
-          ∙ bind-assoc (behind rest (keeping thrown [] (lamps v))) (λ x. done (retold keptOf x)) event
-          ∙ bind-assoc (keeping thrown [] (lamps v)) (λ x. done (retold (λ y. rest ++ y) x)) (λ x. event (retold keptOf x))
+          (sym (keeping-onto within rest few) ∙ ap (λ (t : Exchange (Kept (List ℕ) (Answer A))). bind t (λ x. done (retold keptOf x))) (sym (keeping-behind rest (rules .lamps v))))
+          ∙ bind-assoc (behind rest (keeping thrown [] (rules .lamps v))) (λ x. done (retold keptOf x)) event
+          ∙ bind-assoc (keeping thrown [] (rules .lamps v)) (λ x. done (retold (λ y. rest ++ y) x)) (λ x. event (retold keptOf x))
           ∙ sym key-tree
 
       module _ {kept left : KeptBytes} (q : kept ≡ keptOf rest) {e : End (Answer A)} {u w : ℕ} {l′ : List ℕ}
-          (r : PlaysKept (keepingOnto kept (lamps v)) s l e u w l′ left) where
-        plays : played (keptEnd e left) u w l′ ≡ play (keepingOnto (keptOf rest) (lamps v)) s l
+          (r : PlaysKept (keepingOnto kept (rules .lamps v)) s l e u w l′ left) where
+        plays : played (keptEnd e left) u w l′ ≡ play (keepingOnto (keptOf rest) (rules .lamps v)) s l
         plays = rw q at (r .plays)
 
-        pub lamps-answer : {a : Answer A} → e ≡ yields a → played (yields (afterLamps b flags left (shown a))) u w l′ ≡ play (onKey lamps rest b flags) s l
-        lamps-answer is = rw (← onto-tree) (bind-done (keepingOnto (keptOf rest) (lamps v)) event s l plays (ap (λ x. keptEnd x left) is) refl)
+        pub lamps-answer : {a : Answer A} → e ≡ yields a → played (yields (afterLamps b flags left (shown a))) u w l′ ≡ play (onKey rules rest b flags) s l
+        lamps-answer is = rw (← onto-tree) (bind-done (keepingOnto (keptOf rest) (rules .lamps v)) event s l plays (ap (λ x. keptEnd x left) is) refl)
 
-        pub lamps-lack : {x : Lack} → e ≡ lacks x → played (lacks x) u w l′ ≡ play (onKey lamps rest b flags) s l
-        lamps-lack is = rw (← onto-tree) (bind-lacks (keepingOnto (keptOf rest) (lamps v)) event s l plays (ap (λ x. keptEnd x left) is))
+        pub lamps-lack : {x : Lack} → e ≡ lacks x → played (lacks x) u w l′ ≡ play (onKey rules rest b flags) s l
+        lamps-lack is = rw (← onto-tree) (bind-lacks (keepingOnto (keptOf rest) (rules .lamps v)) event s l plays (ap (λ x. keptEnd x left) is))
 
-    pub no-lamps : {kept : KeptBytes} → kept ≡ keptOf rest → isLockPress b ≡ false
-        → played (yields (afterLamps b flags kept (gives success))) 0 0 l ≡ play (onKey lamps rest b flags) s l
+    pub no-lamps : {kept : KeptBytes} → kept ≡ keptOf rest → pressesFollowed (rules .profile) b ≡ false
+        → played (yields (afterLamps b flags kept (gives success))) 0 0 l ≡ play (onKey rules rest b flags) s l
     unfolding lampExchange keeping bind play
     no-lamps q k = rw (k, lampExchange, q, append-nil rest)
 
@@ -105,12 +106,12 @@ module _ {A : Type 0} (lamps : ℕ → Exchange (Answer A)) (h : KeyboardState) 
 
   pub silent-byte : (b : ℕ) (rest s l : List ℕ) {kept : KeptBytes} → kept ≡ keptOf rest → isSilent b ≡ true
       → played (yields (keyed (gives none) (gives success) (keyboardOf (isPrefix b) (h .modifiers .bits) (waitingIn kept)) 0)) 0 0 l
-      ≡ play (onByte lamps h rest b) s l
+      ≡ play (onByte rules h rest b) s l
   unfolding onByte play
   silent-byte b rest s l k q = rw (k, q, onByte)
 
-  pub key-byte : (b : ℕ) (rest : List ℕ) {flags : ℕ} → flags ≡ flagsAfter flagTable (stroke b (h .prefix)) (h .modifiers .bits) → isSilent b ≡ false
-      → onKey lamps rest b flags ≡ onByte lamps h rest b
+  pub key-byte : (b : ℕ) (rest : List ℕ) {flags : ℕ} → flags ≡ flagsAfter (followed (rules .profile)) (stroke b (h .prefix)) (h .modifiers .bits) → isSilent b ≡ false
+      → onKey rules rest b flags ≡ onByte rules h rest b
   unfolding onByte flagsThen
   key-byte b rest e q = rw (e, q)
 
@@ -130,36 +131,36 @@ module _ {A : Type 0} (lamps : ℕ → Exchange (Answer A)) (h : KeyboardState) 
         let e : h .waiting .count ≡ suc (h .waiting .count - 1) = omega (arith, some-wait) in
         ap (bytesFrom (h .waiting .bytes) 0) e
 
-    pub waiting-call : {x : KeyEffects} {m : List ℕ} → let o = play (onByte lamps h others oldest) s l in (x ≡ keyEffectsBy h o) × (m ≡ o .log)
-        → (x ≡ keyEffects lamps h s l) × (m ≡ play (keyCall lamps h) s l .log)
+    pub waiting-call : {x : KeyEffects} {m : List ℕ} → let o = play (onByte rules h others oldest) s l in (x ≡ keyEffectsBy h o) × (m ≡ o .log)
+        → (x ≡ keyEffects rules h s l) × (m ≡ play (keyCall rules h) s l .log)
     unfolding keyEffects
     waiting-call p =
-        let t : onByte lamps h others oldest ≡ keyCall lamps h = sym (call-taken lamps h ∙ ap (λ (y : List ℕ). takeByte y (onByte lamps h)) waits) in
+        let t : onByte rules h others oldest ≡ keyCall rules h = sym (call-taken rules h ∙ ap (λ (y : List ℕ). takeByte y (onByte rules h)) waits) in
         (p .0 ∙ ap (λ (y : Exchange Keyed). keyEffectsBy h (play y s l)) t, p .1 ∙ ap (λ (y : Exchange Keyed). play y s l .log) t)
 
   -- none waits: it is read
   module _ (none-waits : h .waiting .count ≡ 0) where
     -- what is left of a call by the answer of its read; the read alone refuses nothing
     abbrev onRead : Answer ℕ → Exchange Keyed
-    onRead (gives b) = onByte lamps h [] b
+    onRead (gives b) = onByte rules h [] b
     onRead (refuses n) = done (keyed (refuses n) (gives success) h 0)
 
-    read-tree : keyCall lamps h ≡ bind readScancode onRead
+    read-tree : keyCall rules h ≡ bind readScancode onRead
     unfolding bind readScancode readPort
-    read-tree = none-taken lamps h (no-bytes lamps h none-waits)
+    read-tree = none-taken rules h (no-bytes rules h none-waits)
 
     module _ (s l : List ℕ) {e : End (Answer ℕ)} {u v : ℕ} (r : Reads readScancode s e u v) where
-      read-byte : (b : ℕ) → e ≡ yields (gives b) → let o = play (onByte lamps h [] b) (part u s) l in
-          played (o .end) (u + o .used) (o .pairs) (o .log) ≡ play (keyCall lamps h) s l
+      read-byte : (b : ℕ) → e ≡ yields (gives b) → let o = play (onByte rules h [] b) (part u s) l in
+          played (o .end) (u + o .used) (o .pairs) (o .log) ≡ play (keyCall rules h) s l
       read-byte b q = rw read-tree (reads-then readScancode onRead s r l q refl)
 
       -- the rest of the call, after the byte
-      module _ (b : ℕ) (q : e ≡ yields (gives b)) {after : KeyEffects} (x : after ≡ keyEffectsBy h (play (onByte lamps h [] b) (part u s) l)) where
+      module _ (b : ℕ) (q : e ≡ yields (gives b)) {after : KeyEffects} (x : after ≡ keyEffectsBy h (play (onByte rules h [] b) (part u s) l)) where
         pub byte-used : u + after .used ≤ length s
-        byte-used = rw x (call-used-le (keyCall lamps h) s l (read-byte b q))
+        byte-used = rw x (call-used-le (keyCall rules h) s l (read-byte b q))
 
-        pub byte-call : {m : List ℕ} → m ≡ play (onByte lamps h [] b) (part u s) l .log
-            → (further u after ≡ keyEffects lamps h s l) × (m ≡ play (keyCall lamps h) s l .log)
+        pub byte-call : {m : List ℕ} → m ≡ play (onByte rules h [] b) (part u s) l .log
+            → (further u after ≡ keyEffects rules h s l) × (m ≡ play (keyCall rules h) s l .log)
         byte-call y = rw (x, y) (call-back s l (read-byte b q))
 
       -- a read of data gives a byte, or lacks one
@@ -179,7 +180,7 @@ module _ {A : Type 0} (lamps : ℕ → Exchange (Answer A)) (h : KeyboardState) 
 
       -- where no byte was read, the call lacks one from port 60
       pub no-byte : (x : Refusal) → e ≡ refused x
-          → (keyEffectsBy h (played (lacks (noScript p60)) u 0 l) ≡ keyEffects lamps h s l) × (l ≡ play (keyCall lamps h) s l .log)
+          → (keyEffectsBy h (played (lacks (noScript p60)) u 0 l) ≡ keyEffects rules h s l) × (l ≡ play (keyCall rules h) s l .log)
       no-byte x q =
-          let p : played (lacks (noScript p60)) u 0 l ≡ play (keyCall lamps h) s l = rw read-tree (reads-then-lacks readScancode onRead s r l (only-lack x q)) in
+          let p : played (lacks (noScript p60)) u 0 l ≡ play (keyCall rules h) s l = rw read-tree (reads-then-lacks readScancode onRead s r l (only-lack x q)) in
           call-back s l p

@@ -1,4 +1,4 @@
--- The ways in which a key's byte can end after its lamp exchange: 19, 31 or 20, or its event is queued.
+-- The ways in which a key's byte can end after its lamp exchange: 19, 33, 31 or 20, or its event is queued.
 -- Assumes nothing.
 use mathlib.Core.Path.{_≡_, refl}
 use mathlib.Core.Bool.{true, false}
@@ -12,22 +12,17 @@ use Rattle.keyboard_scancodes.specs.Events.{isKnown, eventOf}
 use Rattle.keyboard_scancodes.proofs.Tests.{which}
 use Rattle.keyboard_sides.specs.declared.Side.{Side}
 use Rattle.keyboard_record.specs.declared.HandlerState.{HandlerState}
-use Rattle.keyboard_record.specs.Queue.{room, oneMore, waitingSides}
-use Rattle.keyboard_record.proofs.Meeting.{Meets, side-full, queue-full, free, meets-cases}
+use Rattle.keyboard_record.specs.Queue.{place, oneMore, waitingSides}
+use Rattle.keyboard_record.proofs.Meeting.{Refused, refused-33, refused-31, refused-20, Admits, not-admitted, admitted, admits-cases}
 use Rattle.keyboard.specs.Byte.{keyEvent}
 use Rattle.keyboard.specs.Handler.{outcome, queued}
-
--- what is answered where the event met n: 31 or 20
-pub data MetNumber : ℕ → Type 0 where
-  met-31 : MetNumber 31
-  met-20 : MetNumber 20
 
 pub data Queued (side : Side) (s : HandlerState) (b w : ℕ) : Type 0 where
   is-unknown : isKnown b ≡ false
       → ((lit : Answer Success) (d : ℕ) → queued side s (keyEvent b w) lit d ≡ outcome (refuses 19) lit s none d) → Queued side s b w
-  is-met : isKnown b ≡ true → {n : ℕ} → MetNumber n → room side s ≡ refuses n
+  is-met : isKnown b ≡ true → {n : ℕ} → Refused n → place side (eventOf b w .keycode) s ≡ refuses n
       → ((lit : Answer Success) (d : ℕ) → queued side s (keyEvent b w) lit d ≡ outcome (refuses n) lit s none d) → Queued side s b w
-  is-queued : isKnown b ≡ true → room side s ≡ gives success
+  is-queued : isKnown b ≡ true → place side (eventOf b w .keycode) s ≡ gives success
       → ((lit : Answer Success) (d : ℕ) → queued side s (keyEvent b w) lit d ≡ outcome (gives success) lit (oneMore side s) (some (eventOf b w)) d) → Queued side s b w
 
 module _ (side : Side) (s : HandlerState) (b w : ℕ) where
@@ -35,14 +30,14 @@ module _ (side : Side) (s : HandlerState) (b w : ℕ) where
   unfolding keyEvent
   by-code c = is-unknown c (λ lit d. rw c)
 
-  by-room : isKnown b ≡ true → Meets (s .keyboards) side (waitingSides s) → Queued side s b w
+  by-place : isKnown b ≡ true → Admits (s .table) side (waitingSides s) (eventOf b w .keycode) → Queued side s b w
   unfolding keyEvent
-  by-room c (side-full t h e) = is-met c met-31 e (λ lit d. rw (c, e))
-  by-room c (queue-full i h e) = is-met c met-20 e (λ lit d. rw (c, e))
-  by-room c (free i h e) = is-queued c e (λ lit d. rw (c, e))
+  by-place c (not-admitted m e) = is-met c m e (λ lit d. rw (c, e))
+  by-place c (admitted i m e) = is-queued c e (λ lit d. rw (c, e))
 
   pub queued-way : Queued side s b w
-  queued-way = ⊎-elim (λ c. by-room c (meets-cases (s .keyboards) side (waitingSides s))) by-code (which (isKnown b))
+  queued-way =
+      ⊎-elim (λ c. by-place c (admits-cases (s .table) side (waitingSides s) (eventOf b w .keycode))) by-code (which (isKnown b))
 
   -- the number that is answered after the lamp exchange
   abbrev pub queuedNumber : Answer Success → ℕ → ℕ
@@ -54,10 +49,12 @@ pub data KeyNumber : ℕ → Type 0 where
   unknown-19 : KeyNumber 19
   full-20 : KeyNumber 20
   side-31 : KeyNumber 31
+  outside-33 : KeyNumber 33
 
-met-number : {n : ℕ} → MetNumber n → KeyNumber n
-met-number met-31 = side-31
-met-number met-20 = full-20
+met-number : {n : ℕ} → Refused n → KeyNumber n
+met-number refused-33 = outside-33
+met-number refused-31 = side-31
+met-number refused-20 = full-20
 
 module _ {side : Side} {s : HandlerState} {b w : ℕ} where
   -- the answer is none of document 01's numbers from 1 to 18, nor 21

@@ -19,10 +19,11 @@ use Rattle.keyboard_sides.specs.declared.Side.{Side}
 use Rattle.keyboard_record.specs.declared.HandlerState.{HandlerState}
 use Rattle.keyboard_record.specs.declared.KeyboardHandler.{KeyboardHandler}
 use Rattle.keyboard_record.specs.Record.{keyboardAt, withKeyboard, callFormed}
+use Rattle.keyboard.specs.Rules.{rulesAt}
 use Rattle.keyboard.specs.Answers.{ends2-3-21}
 use Rattle.keyboard.specs.Scancode.{Took}
 use Rattle.keyboard.specs.Handler.{handle, Effects, effects, logLeft, handled, endOutcome}
-use Rattle.keyboard.proofs.Queued.{KeyNumber, done-0, unknown-19, full-20, side-31, queuedNumber, queued-number, queued-kept}
+use Rattle.keyboard.proofs.Queued.{KeyNumber, done-0, unknown-19, full-20, side-31, outside-33, queuedNumber, queued-number, queued-kept}
 use Rattle.keyboard.proofs.Ways.{waitsAfter, Course, lacking, at-silent, at-key}
 use Rattle.keyboard.proofs.Calls.{callEnd, callScanned, malformed-play, CallCourse, malformed, formed, call-course}
 use Rattle.keyboard.proofs.Counted.{answerEnd, queued-ends}
@@ -46,13 +47,14 @@ no-small done-0 u v = omega arith
 no-small unknown-19 u v = omega arith
 no-small full-20 u v = omega arith
 no-small side-31 u v = omega arith
+no-small outside-33 u v = omega arith
 
 module _ {A : Type 0} (lamps : Side → ℕ → Exchange (Answer A)) (side : Side) where
   -- the side's keyboard after the byte of a key
   abbrev moved : HandlerState → Took → List ℕ → HandlerState
-  moved h t l = withKeyboard side (keyboardOf false (flagsThen (keyboardAt side h) (t .byte)) (waitingOf (waitsAfter (lamps side) (keyboardAt side h) t l))) h
+  moved h t l = withKeyboard side (keyboardOf false (flagsThen (h .table .profile) (keyboardAt side h) (t .byte)) (waitingOf (waitsAfter (rulesAt (h .table) lamps side) (keyboardAt side h) t l))) h
 
-  -- what is left after 19, 20 or 31, with the byte that the call took
+  -- what is left after 19, 20, 31 or 33, with the byte that the call took
   abbrev MovedOn : HandlerState → List ℕ → List ℕ → Effects → Type 0
   MovedOn s script log x = (t : Took) × (callScanned lamps side s script log ≡ some (t .byte)) × (x .state ≡ moved s t log) × (x .event ≡ none)
 
@@ -66,7 +68,7 @@ module _ {A : Type 0} (lamps : Side → ℕ → Exchange (Answer A)) (side : Sid
     same-state (formed w e n (lacking x q m)) r = rw (e, q) (refl, refl, refl)
     same-state (formed w e n (at-silent t q g u m)) r = absurd (false≢true (rw (e, u) at r))
     same-state (formed w e n (at-key t lit q g u m)) r =
-        absurd (false≢true (sym (queued-ends side (moved h t l) (t .byte) (flagsThen (keyboardAt side h) (t .byte)) lit _) ∙ (rw (e, u) at r)))
+        absurd (false≢true (sym (queued-ends side (moved h t l) (t .byte) (flagsThen (h .table .profile) (keyboardAt side h) (t .byte)) lit _) ∙ (rw (e, u) at r)))
 
     -- a number from 1 to 18 is answered only where script or log runs out
     runs-out : CallCourse lamps side h s l → 0 < number h s l → number h s l < 19 → (x : Lack) × (callEnd lamps side h s l ≡ lacks x)
@@ -74,7 +76,7 @@ module _ {A : Type 0} (lamps : Side → ℕ → Exchange (Answer A)) (side : Sid
     runs-out (formed w e n (lacking x q m)) u v = (x, rw (e, q))
     runs-out (formed w e n (at-silent t q g k m)) u v = let z : 0 < 0 = rw (e, k) at u in absurd (omega arith)
     runs-out (formed w e n (at-key t lit q g k m)) u v =
-        absurd (no-small (queued-number side (moved h t l) (t .byte) (flagsThen (keyboardAt side h) (t .byte)) lit _) (rw (e, k) at u) (rw (e, k) at v))
+        absurd (no-small (queued-number side (moved h t l) (t .byte) (flagsThen (h .table .profile) (keyboardAt side h) (t .byte)) lit _) (rw (e, k) at u) (rw (e, k) at v))
 
     moves-on : CallCourse lamps side h s l → 19 ≤ number h s l → number h s l ≢ 21
         → (t : Took) × (callScanned lamps side h s l ≡ some (t .byte)) × (endOutcome h (callEnd lamps side h s l) .state ≡ moved h t l) × (endOutcome h (callEnd lamps side h s l) .event ≡ none)
@@ -82,7 +84,7 @@ module _ {A : Type 0} (lamps : Side → ℕ → Exchange (Answer A)) (side : Sid
     moves-on (formed w e n (lacking x q m)) u v = let z : 19 ≤ numberEnded {A = ℕ} (lacks x) = rw (e, q) at u in absurd (omega (arith, lack-small x))
     moves-on (formed w e n (at-silent t q g k m)) u v = let z : 19 ≤ 0 = rw (e, k) at u in absurd (omega arith)
     moves-on (formed w e n (at-key t lit q g k m)) u v =
-        let x = queued-kept side (moved h t l) (t .byte) (flagsThen (keyboardAt side h) (t .byte)) lit _ (rw (e, k) at u) in
+        let x = queued-kept side (moved h t l) (t .byte) (flagsThen (h .table .profile) (keyboardAt side h) (t .byte)) lit _ (rw (e, k) at u) in
         (t, n ∙ m, rw (e, k) (x .0), rw (e, k) (x .1))
 
   module _ (s : HandlerState) (script log : List ℕ) where
@@ -92,7 +94,7 @@ module _ {A : Type 0} (lamps : Side → ℕ → Exchange (Answer A)) (side : Sid
     unfolding effects
     left-as-passed t = same-state (call-course lamps side s script log) t
 
-    -- "After 19 or 20 prefix and flags have moved on and the queue is unchanged", and 31 is "leaving what 20 leaves"
+    -- "After 19 or 20 prefix and flags have moved on and the queue is unchanged", and 31 and 33 are "leaving what 20 leaves"
     pub left-moved-on : 19 ≤ numberEnded (effects lamps side s script log .end) → numberEnded (effects lamps side s script log .end) ≢ 21
         → MovedOn s script log (effects lamps side s script log)
     unfolding effects

@@ -19,6 +19,7 @@ saidCall HandlerAnswer.UnknownScancode = yields (refuses 19)
 saidCall HandlerAnswer.QueueFull = yields (refuses 20)
 saidCall HandlerAnswer.MalformedRecord = yields (refuses 21)
 saidCall HandlerAnswer.SideFull = yields (refuses 31)
+saidCall HandlerAnswer.OutsideProfile = yields (refuses 33)
 
 -- Of its lamp exchange, beside the answer: whether it failed.
 abbrev pub saidLamps : Bool → Answer Success
@@ -36,6 +37,6 @@ saidGiven (GivenEvent.Lacking l) = lacks (lackOf l)
 abbrev pub ends2-3-21 : End (Answer Success) → Bool
 ends2-3-21 e = eqb (numberEnded e) 2 || (eqb (numberEnded e) 3 || eqb (numberEnded e) 21)
 
--- A call that ended with this number: 20, "the queue is full"; 31, "the side has 96 waiting".
+-- A call that ended with this number: 20, "the queue is full"; 31, "the side has 96 waiting"; 33, "the key is outside the profile".
 abbrev pub endsWith : ℕ → End (Answer Success) → Bool
 endsWith n e = eqb (numberEnded e) n

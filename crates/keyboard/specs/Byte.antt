@@ -1,5 +1,5 @@
 -- What a handler call does for one keyboard, on any memory of it, script and log: a byte is taken, flags and locks follow it, and an event is given. Whether the event joins the queue is the record's business.
--- The lamp exchange is an argument, `lamps`: the operation that sends a byte of lamps to this keyboard.
+-- How bytes are followed is an argument, `rules`: the profile, and the operation that sends a byte of lamps to this keyboard.
 -- Assumes nothing.
 use mathlib.Core.Bool.{false, cond}
 use mathlib.Core.List.{List, [], _∷_, _++_}
@@ -15,12 +15,13 @@ use Rattle.ps2_kept.specs.Kept.{keptOf}
 use Rattle.keycodes_ascii.specs.declared.KeyEvent.{KeyEvent}
 use Rattle.keyboard_scancodes.specs.declared.KeyboardState.{KeyboardState}
 use Rattle.keyboard_scancodes.specs.Strokes.{isPrefix, isSilent}
-use Rattle.keyboard_scancodes.specs.FlagTable.{isLockPress}
+use Rattle.keyboard_scancodes.specs.Profile.{pressesFollowed}
 use Rattle.keyboard_scancodes.specs.FlagsAfter.{flagsThen}
 use Rattle.keyboard_scancodes.specs.Lamps.{lampsLit}
 use Rattle.keyboard_scancodes.specs.Events.{isKnown, eventOf}
 use Rattle.keyboard_scancodes.specs.Waiting.{waitingBytes, waitingIn, waitingOf}
 use Rattle.keyboard_scancodes.specs.Remembered.{keyboardOf}
+use Rattle.keyboard.specs.Rules.{Rules}
 
 -- What a byte comes to where neither script nor log runs out: the event that it gives, if it gives one, or 19; the answer of the lamp exchange beside it; what is then remembered of the keyboard; and how many bytes of the lamp exchange were dropped.
 pub record Keyed : Type 0 where
@@ -76,16 +77,16 @@ abbrev pub takeByte : {A : Type 0} → List ℕ → (List ℕ → ℕ → Exchan
 takeByte [] next = read p60 (next [])
 takeByte (b ∷ waiting) next = next waiting b
 
-module _ {A : Type 0} (lamps : ℕ → Exchange (Answer A)) where
-  -- "Locks run the lamp exchange"; other bytes have none, so none fails.
+module _ {A : Type 0} (rules : Rules A) where
+  -- "Locks run the lamp exchange", those that the profile follows; other bytes have none, so none fails.
   unfoldable pub lampExchange : ℕ → ℕ → Exchange (Answer Success)
-  lampExchange b flags = cond (isLockPress b) (bind (lamps (lampsLit flags)) (λ a. done (shown a))) (done (gives success))
+  lampExchange b flags = cond (pressesFollowed (rules .profile) b) (bind (rules .lamps (lampsLit flags)) (λ a. done (shown a))) (done (gives success))
 
   -- A byte: "E0 and E1 set the prefix; any other byte uses it up, 00 and FA included, which do nothing else"; flags first, then the lamp exchange, then the event. Of the bytes that the exchange threw away "the handler record keeps the earliest of them waiting, up to 16 with the old ones", and "new ones wait behind old ones".
   unfoldable pub onByte : KeyboardState → List ℕ → ℕ → Exchange Keyed
   onByte k waiting b =
       cond (isSilent b) (done (keyed (gives none) (gives success) (keyboardOf (isPrefix b) (k .modifiers .bits) (waitingOf waiting)) 0))
-      (bind (keeping thrown [] (lampExchange b (flagsThen k b))) (λ lit. done (afterLamps b (flagsThen k b) (keptOf (waiting ++ lit .bytes)) (lit .value))))
+      (bind (keeping thrown [] (lampExchange b (flagsThen (rules .profile) k b))) (λ lit. done (afterLamps b (flagsThen (rules .profile) k b) (keptOf (waiting ++ lit .bytes)) (lit .value))))
 
   -- A keyboard's part of a handler call: its byte is taken, and followed.
   unfoldable pub keyCall : KeyboardState → Exchange Keyed

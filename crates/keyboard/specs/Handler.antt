@@ -12,8 +12,9 @@ use Rattle.keycodes_ascii.specs.declared.KeyEvent.{KeyEvent}
 use Rattle.keyboard_sides.specs.declared.Side.{Side}
 use Rattle.keyboard_record.specs.declared.HandlerState.{HandlerState}
 use Rattle.keyboard_record.specs.declared.KeyboardHandler.{KeyboardHandler}
-use Rattle.keyboard_record.specs.Queue.{room, ifGiven, joined, placesWith}
+use Rattle.keyboard_record.specs.Queue.{place, ifGiven, joined, placesWith}
 use Rattle.keyboard_record.specs.Record.{keyboardAt, withKeyboard, callFormed}
+use Rattle.keyboard.specs.Rules.{rulesAt}
 use Rattle.keyboard.specs.Byte.{Keyed, keyCall}
 
 -- What a call comes to where neither script nor log runs out: its answer, that of the lamp exchange beside it, the state, the event that joins the queue, if one does, and how many bytes of the lamp exchange were dropped.
@@ -28,10 +29,10 @@ pub record Outcome : Type 0 where
 abbrev pub outcome : Answer Success → Answer Success → HandlerState → Option KeyEvent → ℕ → Outcome
 outcome answer lamps s event dropped = record { answer = answer; lamps = lamps; state = s; event = event; dropped = dropped }
 
--- The event that a side's byte gives, if it gives one, is queued: 31 and 20 are asked of it alone. "After 19 or 20 prefix and flags have moved on and the queue is unchanged"; 31 is "leaving what 20 leaves".
+-- The event that a side's byte gives, if it gives one, is queued: 33, 31 and 20 are asked of it alone, in this order. "After 19 or 20 prefix and flags have moved on and the queue is unchanged"; 31 and 33 are "leaving what 20 leaves".
 abbrev pub queued : Side → HandlerState → Answer (Option KeyEvent) → Answer Success → ℕ → Outcome
 queued side s (gives none) lit dropped = outcome (gives success) lit s none dropped
-queued side s (gives (some e)) lit dropped = outcome (room side s) lit (joined side s) (ifGiven (room side s) (some e) none) dropped
+queued side s (gives (some e)) lit dropped = outcome (place side (e .keycode) s) lit (joined side (e .keycode) s) (ifGiven (place side (e .keycode) s) (some e) none) dropped
 queued side s (refuses n) lit dropped = outcome (refuses n) lit s none dropped
 
 -- What a side's byte makes of the record: the other side's keyboard stays as it was.
@@ -89,7 +90,7 @@ module _ {A : Type 0} (lamps : Side → ℕ → Exchange (Answer A)) where
   -- A handler call for a side: 21 first, then its keyboard's byte, then the event.
   unfoldable pub handle : Side → HandlerState → Exchange Outcome
   handle side s =
-      cond (callFormed side s) (bind (keyCall (lamps side) (keyboardAt side s)) (λ o. done (afterByte side s o)))
+      cond (callFormed side s) (bind (keyCall (rulesAt (s .table) lamps side) (keyboardAt side s)) (λ o. done (afterByte side s o)))
       (done (outcome (refuses 21) (gives success) s none 0))
 
   -- What a handler call gives back on a state, a script and a log, and the log that it leaves.

@@ -1,4 +1,5 @@
 -- What a handler call means, and what the code's answers say.
+pub mod Rules
 pub mod Scancode
 pub mod Byte
 pub mod Handler

@@ -16,10 +16,10 @@ abbrev pub otherSide : Side → Side
 otherSide Side.First = Side.Second
 otherSide Side.Second = Side.First
 
--- Two states of a table with two keyboards, the one with the sides of the other exchanged: each side has the other's keyboard, and each event that waits is of the other side.
+-- Two states of a table with two keyboards and one profile, the one with the sides of the other exchanged: each side has the other's keyboard, and each event that waits is of the other side.
 pub record Exchanged (s s′ : HandlerState) : Type 0 where
-  pub two : s .keyboards ≡ Keyboards.Two
-  pub two′ : s′ .keyboards ≡ Keyboards.Two
+  pub two : s .table .keyboards ≡ Keyboards.Two
+  pub table : s′ .table ≡ s .table
   pub keyboards : (side : Side) → keyboardAt (otherSide side) s′ ≡ keyboardAt side s
   pub start : s′ .start ≡ s .start
   pub count : s′ .count ≡ s .count

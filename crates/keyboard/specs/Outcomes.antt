@@ -6,7 +6,6 @@ use mathlib.Core.Path.{_≡_}
 use Prim.Native.Nat.{ℕ, _≤_}
 use lib.ListN.{length}
 use Rattle.exchange.specs.Exchange.{Exchange, done, bind, yields, play}
-use Rattle.exchange.specs.Answer.{Answer}
 use Rattle.exchange.specs.Keeping.{keeping}
 use Rattle.ps2_kept.specs.declared.KeptBytes.{KeptBytes}
 use Rattle.ps2_kept.specs.Thrown.{thrown}
@@ -17,6 +16,7 @@ use Rattle.keyboard.specs.declared.Effect.{Effect}
 use Rattle.keyboard.specs.declared.Handled.{Handled}
 use Rattle.keyboard.specs.declared.KeyEffect.{KeyEffect}
 use Rattle.keyboard.specs.declared.NewEvent.{NewEvent}
+use Rattle.keyboard.specs.Rules.{Rules}
 use Rattle.keyboard.specs.Answers.{saidCall, saidLamps, saidGiven}
 use Rattle.keyboard.specs.Byte.{Keyed, afterLamps, KeyEffects, keyEffectsBy, lampExchange}
 use Rattle.keyboard.specs.Handler.{Effects, Called}
@@ -31,9 +31,9 @@ abbrev pub keyEffectsOf : Keyed → ℕ → ℕ → KeyEffects
 keyEffectsOf o used pairs = record { end = yields (o .given); lamps = o .lamps; used = used; pairs = pairs; keyboard = o .keyboard; dropped = o .dropped }
 
 -- What is left of a call at the byte of a key, with the flags just after it: the lamp exchange, then the event.
-abbrev pub onKey : {A : Type 0} → (ℕ → Exchange (Answer A)) → List ℕ → ℕ → ℕ → Exchange Keyed
-onKey lamps waiting b flags =
-    bind (keeping thrown [] (lampExchange lamps b flags)) (λ lit. done (afterLamps b flags (keptOf (waiting ++ lit .bytes)) (lit .value)))
+abbrev pub onKey : {A : Type 0} → Rules A → List ℕ → ℕ → ℕ → Exchange Keyed
+onKey rules waiting b flags =
+    bind (keeping thrown [] (lampExchange rules b flags)) (λ lit. done (afterLamps b flags (keptOf (waiting ++ lit .bytes)) (lit .value)))
 
 -- What a call gives back, and the log that it leaves, are those of the operation's play: for every list of at most 16 bytes that wait, where these are the kept bytes.
 pub record PlaysOn (k : KeyboardState) (kept : KeptBytes) (t : List ℕ → Exchange Keyed) (script log : List ℕ) (x : KeyEffects) (log-left : List ℕ) : Type 0 where

@@ -4,12 +4,12 @@ use mathlib.Core.Bool.{Bool, true, false, not, cond, _&&_}
 use mathlib.Core.List.{List, [], _∷_}
 use mathlib.Core.Option.{Option, none, some}
 use Prim.Native.Nat.{ℕ}
-use Rattle.exchange.specs.Exchange.{Exchange, End, yields, lacks, play}
-use Rattle.exchange.specs.Answer.{Answer}
+use Rattle.exchange.specs.Exchange.{End, yields, lacks, play}
 use Rattle.exchange.specs.Keeping.{Kept, keeping}
 use Rattle.ps2_kept.specs.Thrown.{thrown}
-use Rattle.keyboard_scancodes.specs.FlagTable.{isLockPress}
+use Rattle.keyboard_scancodes.specs.Profile.{pressesFollowed}
 use Rattle.keyboard_scancodes.specs.Lamps.{lampsLit}
+use Rattle.keyboard.specs.Rules.{Rules}
 
 -- A byte that was taken, the bytes that still wait, and what is left of the script.
 pub record Took : Type 0 where
@@ -41,14 +41,14 @@ abbrev pub isSome : Option ℕ → Bool
 isSome none = false
 isSome (some b) = true
 
-module _ {A : Type 0} (lamps : ℕ → Exchange (Answer A)) where
-  -- Whether the lamp exchange of this byte, if it is the press of a lock, runs out of the script that is left or of the log. `flags b` are those just after the byte b.
+module _ {A : Type 0} (rules : Rules A) where
+  -- Whether the lamp exchange of this byte, if it is the press of a lock that the profile follows, runs out of the script that is left or of the log. `flags b` are those just after the byte b.
   abbrev pub lampsRanOut : (ℕ → ℕ) → Took → List ℕ → Bool
-  lampsRanOut flags t log = isLockPress (t .byte) && ranOut (play (lamps (lampsLit (flags (t .byte)))) (t .script) log .end)
+  lampsRanOut flags t log = pressesFollowed (rules .profile) (t .byte) && ranOut (play (rules .lamps (lampsLit (flags (t .byte)))) (t .script) log .end)
 
-  -- The bytes that the lamp exchange of this byte throws away: none where it is no lock's press.
+  -- The bytes that the lamp exchange of this byte throws away: none where it is no such press.
   unfoldable pub caught : (ℕ → ℕ) → Took → List ℕ → List ℕ
-  caught flags t log = cond (isLockPress (t .byte)) (thrownAt (play (keeping thrown [] (lamps (lampsLit (flags (t .byte))))) (t .script) log .end)) []
+  caught flags t log = cond (pressesFollowed (rules .profile) (t .byte)) (thrownAt (play (keeping thrown [] (rules .lamps (lampsLit (flags (t .byte))))) (t .script) log .end)) []
 
   abbrev pub countedOf : Bool → (ℕ → ℕ) → Option Took → List ℕ → Option ℕ
   countedOf wellFormed flags none log = none

@@ -5,13 +5,14 @@ ghost use Prim.Native.Nat.{_-_, _≤_};
 ghost use Rattle.exchange.specs.Exchange.{play};
 ghost use Rattle.ps2_kept.specs.Kept.{keptLimit, keptOf};
 ghost use Rattle.keyboard_scancodes.specs.Strokes.{lowPart};
-ghost use Rattle.keyboard_scancodes.specs.FlagTable.{isLockPress};
+ghost use Rattle.keyboard_scancodes.specs.declared.Profile.{Profile};
+ghost use Rattle.keyboard_scancodes.specs.Profile.{pressesFollowed};
 ghost use Rattle.keyboard_scancodes.specs.Events.{keycodeAt, eventOf};
 ghost use Rattle.keyboard_scancodes.specs.Waiting.{bytesFrom};
 ghost use Rattle.keyboard.specs.Byte.{afterLamps, onByte, keyCall, keyEffects};
 ghost use Rattle.exchange.specs.Answer.{numberEnded};
 ghost use Rattle.keyboard.specs.Answers.{saidCall, saidLamps};
-ghost use Rattle.keyboard.specs.KeyboardLamps.{portOf, portLamps, keyboardLamps};
+ghost use Rattle.keyboard.specs.KeyboardLamps.{portOf, portRules, keyboardLamps};
 ghost use Rattle.keyboard.specs.Handler.{effects, logLeft, handled};
 ghost use Rattle.keyboard.specs.Outcomes.{saidKeyEffect, saidEffect, saidHandled, keyEffectsOf, onKey, PlaysOn};
 use keyboard_modifiers::KeyboardModifiers;
@@ -20,6 +21,7 @@ use keyboard_record::KeyboardHandler;
 use keyboard_record::QUEUE_LENGTH;
 use keyboard_record::Room;
 use keyboard_scancodes::KeyboardState;
+use keyboard_scancodes::Profile;
 use keyboard_scancodes::WaitingBytes;
 use keyboard_scancodes::is_lock_press;
 use keyboard_scancodes::is_prefix;
@@ -44,7 +46,7 @@ use ps2_keyboard::read_scancode;
 use ps2_keyboard::set_port_led_onto;
 use ps2_ports::DevicePort;
 
-// How a handler call ends: done, for lack of a byte or room, or with the refusal that document 01 numbers 19, 20 or 21, or document 02 numbers 31.
+// How a handler call ends: done, for lack of a byte or room, or with the refusal that document 01 numbers 19, 20 or 21, or document 02 numbers 31 or 33.
 pub enum HandlerAnswer {
     Done,
     Lacking(Lack),
@@ -52,6 +54,7 @@ pub enum HandlerAnswer {
     QueueFull,
     MalformedRecord,
     SideFull,
+    OutsideProfile,
 }
 
 // What a byte gives: an event, nothing, the refusal that document 01 numbers 19, or nothing for lack of a byte or room.
@@ -111,6 +114,7 @@ impl HandlerAnswer {
             HandlerAnswer::QueueFull => 20,
             HandlerAnswer::MalformedRecord => 21,
             HandlerAnswer::SideFull => 31,
+            HandlerAnswer::OutsideProfile => 33,
         }
     }
 }
@@ -188,7 +192,7 @@ fn after_lamps(
     }
 }
 
-// The press of a lock, with the flags just after it: the lamps are set, and its event is given whether they could be or not. What the lamp exchange throws away waits behind the bytes that wait already.
+// The press of a lock that is followed, with the flags just after it: the lamps are set, and its event is given whether they could be or not. What the lamp exchange throws away waits behind the bytes that wait already.
 fn lock_pressed(
     port: DevicePort,
     keyboard: KeyboardState,
@@ -198,8 +202,8 @@ fn lock_pressed(
     script: &[u8],
     log: &mut [u8],
 ) -> KeyEffect
-    requires { ⌜ isLockPress «scan_code» ≡ true ⌝ }
-    ensures { λ r. ⌜ PlaysOn keyboard kept (λ waiting. onKey (portLamps port) waiting «scan_code» (modifiers .bits)) (now (script .entry)) (now (log .entry)) (saidKeyEffect r) (now (log .exit)) ⌝ }
+    requires { ⌜ pressesFollowed Profile.Any «scan_code» ≡ true ⌝ }
+    ensures { λ r. ⌜ PlaysOn keyboard kept (λ waiting. onKey (portRules Profile.Any port) waiting «scan_code» (modifiers .bits)) (now (script .entry)) (now (log .entry)) (saidKeyEffect r) (now (log .exit)) ⌝ }
 {
     let lit = set_port_led_onto(script, log, port, leds(modifiers), kept);
     let used = lit.used;
@@ -224,6 +228,7 @@ fn lock_pressed(
 
 // A scancode that was taken, with the bytes that still wait.
 fn on_byte(
+    profile: Profile,
     port: DevicePort,
     keyboard: KeyboardState,
     kept: KeptBytes,
@@ -231,7 +236,7 @@ fn on_byte(
     script: &[u8],
     log: &mut [u8],
 ) -> KeyEffect
-    ensures { λ r. ⌜ PlaysOn keyboard kept (λ waiting. onByte (portLamps port) keyboard waiting «scan_code») (now (script .entry)) (now (log .entry)) (saidKeyEffect r) (now (log .exit)) ⌝ }
+    ensures { λ r. ⌜ PlaysOn keyboard kept (λ waiting. onByte (portRules profile port) keyboard waiting «scan_code») (now (script .entry)) (now (log .entry)) (saidKeyEffect r) (now (log .exit)) ⌝ }
 {
     if is_silent(scan_code) {
         let modifiers = keyboard.modifiers;
@@ -250,29 +255,51 @@ fn on_byte(
             dropped: 0,
         };
     }
-    let modifiers = modifiers_after(keyboard, scan_code);
-    if is_lock_press(scan_code) {
+    let modifiers = modifiers_after(profile, keyboard, scan_code);
+    if is_lock_press(profile, scan_code) {
         return lock_pressed(port, keyboard, kept, scan_code, modifiers, script, log);
     }
     after_lamps(kept, scan_code, modifiers, false, 0, 0)
 }
 
 // A keyboard's part of a handler call: one scancode is taken and followed. It is the oldest byte that waits; where none waits, one is read without asking the status.
-fn key_call(port: DevicePort, keyboard: KeyboardState, script: &[u8], log: &mut [u8]) -> KeyEffect
+fn key_call(
+    profile: Profile,
+    port: DevicePort,
+    keyboard: KeyboardState,
+    script: &[u8],
+    log: &mut [u8],
+) -> KeyEffect
     requires { ⌜ keyboard .waiting .count ≤ keptLimit ⌝ }
-    ensures { λ r. ⌜ (saidKeyEffect r ≡ keyEffects (portLamps port) keyboard (now (script .entry)) (now (log .entry))) × (now (log .exit) ≡ play (keyCall (portLamps port) keyboard) (now (script .entry)) (now (log .entry)) .log) ⌝ }
+    ensures { λ r. ⌜ (saidKeyEffect r ≡ keyEffects (portRules profile port) keyboard (now (script .entry)) (now (log .entry))) × (now (log .exit) ≡ play (keyCall (portRules profile port) keyboard) (now (script .entry)) (now (log .entry)) .log) ⌝ }
 {
     let waiting = keyboard.waiting;
     if waiting.count != 0 {
         let oldest = waiting.bytes[0];
-        return on_byte(port, keyboard, behind_oldest(waiting), oldest, script, log);
+        return on_byte(
+            profile,
+            port,
+            keyboard,
+            behind_oldest(waiting),
+            oldest,
+            script,
+            log,
+        );
     }
     let read = read_scancode(script);
     let used = read.used;
     let answer = read.answer;
     match answer {
         ByteAnswer::Byte(scan_code) => {
-            let after = on_byte(port, keyboard, none_kept(), scan_code, &script[used..], log);
+            let after = on_byte(
+                profile,
+                port,
+                keyboard,
+                none_kept(),
+                scan_code,
+                &script[used..],
+                log,
+            );
             let given = after.given;
             let left = after.keyboard;
             KeyEffect {
@@ -320,7 +347,9 @@ pub fn effect_of(state: HandlerState, side: Side, script: &[u8], log: &mut [u8])
             dropped: 0,
         };
     }
-    let key = key_call(port_of(side), state.keyboard_at(side), script, log);
+    let table = state.table;
+    let profile = table.profile;
+    let key = key_call(profile, port_of(side), state.keyboard_at(side), script, log);
     let lamps_failed = key.lamps_failed;
     let used = key.used;
     let pairs = key.pairs;
@@ -330,7 +359,8 @@ pub fn effect_of(state: HandlerState, side: Side, script: &[u8], log: &mut [u8])
     let left = state.with_keyboard(side, keyboard);
     match given {
         GivenEvent::Event(event) => {
-            let joined = left.join(side);
+            let keycode = event.keycode;
+            let joined = left.join(side, keycode);
             let state = joined.state;
             let room = joined.room;
             match room {
@@ -341,6 +371,15 @@ pub fn effect_of(state: HandlerState, side: Side, script: &[u8], log: &mut [u8])
                     pairs,
                     state,
                     event: NewEvent::Event(event),
+                    dropped,
+                },
+                Room::OutsideProfile => Effect {
+                    answer: HandlerAnswer::OutsideProfile,
+                    lamps_failed,
+                    used,
+                    pairs,
+                    state,
+                    event: NewEvent::Nothing,
                     dropped,
                 },
                 Room::SideFull => Effect {

@@ -3,16 +3,18 @@
 use mathlib.Core.Bool.{Bool, true, false}
 use mathlib.Core.List.{List}
 use Prim.Native.Nat.{ℕ, zero, suc}
+use Rattle.keyboard_scancodes.specs.declared.Profile.{Profile}
 use Rattle.keyboard_sides.specs.declared.Side.{Side}
 use Rattle.keyboard_record.specs.declared.KeyboardHandler.{KeyboardHandler}
 use Rattle.keyboard_record.specs.declared.Keyboards.{Keyboards}
+use Rattle.keyboard_record.specs.declared.Table.{Table}
 use Rattle.keyboard.specs.KeyboardLamps.{keyboardLamps}
 use Rattle.keyboard.specs.Handler.{handled, logLeft}
 
--- Two keyboards, or one.
-abbrev pub keyboardsOf : Bool → Keyboards
-keyboardsOf true = Keyboards.Two
-keyboardsOf false = Keyboards.One
+-- A table with two keyboards, or with one, without the profile.
+abbrev pub tableOf : Bool → Table
+tableOf true = record { keyboards = Keyboards.Two; profile = Profile.Any }
+tableOf false = record { keyboards = Keyboards.One; profile = Profile.Any }
 
 -- What a call leaves: the record and the log.
 pub record Left : Type 0 where

@@ -4,18 +4,30 @@ ghost use Rattle.keyboard_sides.specs.Sides.{sideOf};
 ghost use Rattle.keyboard_record.specs.Record.{fresh};
 ghost use Rattle.keyboard.specs.KeyboardLamps.{keyboardLamps};
 ghost use Rattle.keyboard.specs.Handler.{handled, logLeft};
-ghost use Rattle.keyboard_calls.specs.Calls.{keyboardsOf, left, called};
+ghost use Rattle.keyboard_calls.specs.Calls.{tableOf, left, called};
 use keyboard::handle;
 use keyboard_in_place::handle_in_place;
 use keyboard_record::KeyboardHandler;
 use keyboard_record::Keyboards;
+use keyboard_record::Table;
+use keyboard_scancodes::Profile;
 use keyboard_sides::Side;
 
-// One keyboard or two, and a side of a table: enums don't cross `extern "C"`.
-fn keyboards_of(two: bool) -> Keyboards
-    ensures { λ r. ⌜ r ≡ keyboardsOf two ⌝ }
+// A table with one keyboard or two, without the profile, and a side of it: enums don't cross `extern "C"`.
+fn table_of(two: bool) -> Table
+    ensures { λ r. ⌜ r ≡ tableOf two ⌝ }
 {
-    if two { Keyboards::Two } else { Keyboards::One }
+    if two {
+        Table {
+            keyboards: Keyboards::Two,
+            profile: Profile::Any,
+        }
+    } else {
+        Table {
+            keyboards: Keyboards::One,
+            profile: Profile::Any,
+        }
+    }
 }
 
 fn side_of(second: bool) -> Side
@@ -60,10 +72,10 @@ pub extern "C" fn keyboard_calls_by_value(
     two: bool,
     second: bool,
 ) -> usize
-    ensures { λ r. ⌜ (r ≡ called (sideOf second) times (now (script .entry)) (left (fresh (keyboardsOf two)) (now (log .entry))) .handler .state .count) × (now (log .exit) ≡ called (sideOf second) times (now (script .entry)) (left (fresh (keyboardsOf two)) (now (log .entry))) .log) ⌝ }
+    ensures { λ r. ⌜ (r ≡ called (sideOf second) times (now (script .entry)) (left (fresh (tableOf two)) (now (log .entry))) .handler .state .count) × (now (log .exit) ≡ called (sideOf second) times (now (script .entry)) (left (fresh (tableOf two)) (now (log .entry))) .log) ⌝ }
 {
     let side = side_of(second);
-    let mut handler = KeyboardHandler::fresh(keyboards_of(two));
+    let mut handler = KeyboardHandler::fresh(table_of(two));
     let mut i: usize = 0;
     while i < times {
         let next = call_by_value(handler, side, script, log);
@@ -82,10 +94,10 @@ pub extern "C" fn keyboard_calls_in_place(
     two: bool,
     second: bool,
 ) -> usize
-    ensures { λ r. ⌜ (r ≡ called (sideOf second) times (now (script .entry)) (left (fresh (keyboardsOf two)) (now (log .entry))) .handler .state .count) × (now (log .exit) ≡ called (sideOf second) times (now (script .entry)) (left (fresh (keyboardsOf two)) (now (log .entry))) .log) ⌝ }
+    ensures { λ r. ⌜ (r ≡ called (sideOf second) times (now (script .entry)) (left (fresh (tableOf two)) (now (log .entry))) .handler .state .count) × (now (log .exit) ≡ called (sideOf second) times (now (script .entry)) (left (fresh (tableOf two)) (now (log .entry))) .log) ⌝ }
 {
     let side = side_of(second);
-    let mut handler = KeyboardHandler::fresh(keyboards_of(two));
+    let mut handler = KeyboardHandler::fresh(table_of(two));
     let mut i: usize = 0;
     while i < times {
         let next = call_in_place(handler, side, script, log);

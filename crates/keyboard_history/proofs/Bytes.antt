@@ -10,12 +10,13 @@ use Rattle.exchange.specs.Answer.{Answer}
 use Rattle.exchange.specs.Attains.{Bytes}
 use Rattle.exchange.specs.Keeping.{keeping}
 use Rattle.ps2_kept.specs.Thrown.{unlisted, thrown}
-use Rattle.keyboard_scancodes.specs.FlagTable.{isLockPress}
+use Rattle.keyboard_scancodes.specs.Profile.{pressesFollowed}
 use Rattle.keyboard_scancodes.specs.Lamps.{lampsLit}
 use Rattle.keyboard_sides.specs.declared.Side.{Side}
 use Rattle.keyboard_sides.specs.Sides.{sameSide}
-use Rattle.keyboard_record.specs.declared.Keyboards.{Keyboards}
+use Rattle.keyboard_record.specs.declared.Table.{Table}
 use Rattle.keyboard_record.specs.Record.{atTable}
+use Rattle.keyboard.specs.Rules.{Rules, rulesAt}
 use Rattle.keyboard.specs.Scancode.{Took, took, takes, thrownAt, lampsRanOut, caught, scancode}
 use Rattle.keyboard_history.specs.Past.{Past, _▸_}
 use Rattle.keyboard_history.specs.Said.{flagsSaid}
@@ -58,13 +59,13 @@ thrown-bytes (write p v t) m s [] hm hs = tt
 thrown-bytes (write p v t) m s (x ∷ []) hm hs = tt
 thrown-bytes (write p v t) m s (x ∷ y ∷ l) hm hs = thrown-bytes t m s l hm hs
 
-module _ {A : Type 0} (lamps : ℕ → Exchange (Answer A)) where
-  caught-bytes : (flags : ℕ → ℕ) (t : Took) (l : List ℕ) → Bytes (t .script) → Bytes (caught lamps flags t l)
+module _ {A : Type 0} (rules : Rules A) where
+  caught-bytes : (flags : ℕ → ℕ) (t : Took) (l : List ℕ) → Bytes (t .script) → Bytes (caught rules flags t l)
   unfolding caught
-  caught-bytes flags t l h = by (isLockPress (t .byte))
+  caught-bytes flags t l h = by (pressesFollowed (rules .profile) (t .byte))
     where
-      by : (c : Bool) → Bytes (cond c (thrownAt (play (keeping thrown [] (lamps (lampsLit (flags (t .byte))))) (t .script) l .end)) [])
-      by true = thrown-bytes (lamps (lampsLit (flags (t .byte)))) [] (t .script) l tt h
+      by : (c : Bool) → Bytes (cond c (thrownAt (play (keeping thrown [] (rules .lamps (lampsLit (flags (t .byte))))) (t .script) l .end)) [])
+      by true = thrown-bytes (rules .lamps (lampsLit (flags (t .byte)))) [] (t .script) l tt h
       by false = tt
 
   -- ---- a call counts a byte that waits, or one of its script
@@ -74,34 +75,34 @@ module _ {A : Type 0} (lamps : ℕ → Exchange (Answer A)) where
     count-bytes true b all h = one-more all h
     count-bytes false b all h = all
 
-    scanned-bytes : (ws s : List ℕ) → AllBytes bytes → Bytes ws → Bytes s → AllBytes (count bytes (scancodeAfter lamps bytes ws s l))
+    scanned-bytes : (ws s : List ℕ) → AllBytes bytes → Bytes ws → Bytes s → AllBytes (count bytes (scancodeAfter rules bytes ws s l))
     unfolding scancodeAfter scancode
     scanned-bytes [] [] all hw hs = all
-    scanned-bytes [] (b ∷ s) all hw hs = count-bytes (not (lampsRanOut lamps (λ b. flagsSaid (bytes ▸ b)) (took b [] s) l)) b all (hs .0)
-    scanned-bytes (b ∷ ws) s all hw hs = count-bytes (not (lampsRanOut lamps (λ b. flagsSaid (bytes ▸ b)) (took b ws s) l)) b all (hw .0)
+    scanned-bytes [] (b ∷ s) all hw hs = count-bytes (not (lampsRanOut rules (λ b. flagsSaid (rules .profile) (bytes ▸ b)) (took b [] s) l)) b all (hs .0)
+    scanned-bytes (b ∷ ws) s all hw hs = count-bytes (not (lampsRanOut rules (λ b. flagsSaid (rules .profile) (bytes ▸ b)) (took b ws s) l)) b all (hw .0)
 
-    by-took : (ws s : List ℕ) → Bytes s → Bytes (thrownBy lamps (λ b. flagsSaid (bytes ▸ b)) (takes ws s) l)
+    by-took : (ws s : List ℕ) → Bytes s → Bytes (thrownBy rules (λ b. flagsSaid (rules .profile) (bytes ▸ b)) (takes ws s) l)
     by-took [] [] h = tt
-    by-took [] (b ∷ s) h = caught-bytes (λ b. flagsSaid (bytes ▸ b)) (took b [] s) l (h .1)
-    by-took (b ∷ ws) s h = caught-bytes (λ b. flagsSaid (bytes ▸ b)) (took b ws s) l h
+    by-took [] (b ∷ s) h = caught-bytes (λ b. flagsSaid (rules .profile) (bytes ▸ b)) (took b [] s) l (h .1)
+    by-took (b ∷ ws) s h = caught-bytes (λ b. flagsSaid (rules .profile) (bytes ▸ b)) (took b ws s) l h
 
-    waited-bytes : (ws s : List ℕ) → Bytes ws → Bytes s → Bytes (waitingAfter lamps bytes ws s l)
+    waited-bytes : (ws s : List ℕ) → Bytes ws → Bytes s → Bytes (waitingAfter rules bytes ws s l)
     unfolding behindAfter joinedAfter thrownAfter
     waited-bytes ws s hw hs =
-        let sc = scancodeAfter lamps bytes ws s l in
-        bytes-append (behind sc ws) (joinedAfter lamps bytes ws s l) (bytes-behind sc ws hw)
-        (bytes-take (room (behind sc ws)) (thrownAfter lamps bytes ws s l) (by-took ws s hs))
+        let sc = scancodeAfter rules bytes ws s l in
+        bytes-append (behind sc ws) (joinedAfter rules bytes ws s l) (bytes-behind sc ws hw)
+        (bytes-take (room (behind sc ws)) (thrownAfter rules bytes ws s l) (by-took ws s hs))
 
   -- ---- so do all calls of a keyboard
 
   abbrev BytesOf : Past Lent → Type 0
-  BytesOf calls = AllBytes (counted lamps calls) × Bytes (waits lamps calls)
+  BytesOf calls = AllBytes (counted rules calls) × Bytes (waits rules calls)
 
   one-bytes : (past : Past Lent) (x : Lent) → BytesOf past → Bytes (x .script) → BytesOf (past ▸ x)
   unfolding counted waits
   one-bytes past x r h = (
-    scanned-bytes (counted lamps past) (x .log) (waits lamps past) (x .script) (r .0) (r .1) h,
-    waited-bytes (counted lamps past) (x .log) (waits lamps past) (x .script) (r .1) h,
+    scanned-bytes (counted rules past) (x .log) (waits rules past) (x .script) (r .0) (r .1) h,
+    waited-bytes (counted rules past) (x .log) (waits rules past) (x .script) (r .1) h,
   )
 
   own-bytes : (b : Bool) (past : Past Lent) (x : Lent) → BytesOf past → Bytes (x .script) → BytesOf (ownCall b past x)
@@ -110,10 +111,10 @@ module _ {A : Type 0} (lamps : ℕ → Exchange (Answer A)) where
 
 -- ---- and all calls of a list
 
-module _ {A : Type 0} (keyboards : Keyboards) (lamps : Side → ℕ → Exchange (Answer A)) where
-  pub counted-bytes : {calls : Past Call} → ByteCalls calls → (side : Side) → AllBytes (countedOf keyboards lamps side calls) × Bytes (waitsOf keyboards lamps side calls)
+module _ {A : Type 0} (table : Table) (lamps : Side → ℕ → Exchange (Answer A)) where
+  pub counted-bytes : {calls : Past Call} → ByteCalls calls → (side : Side) → AllBytes (countedOf table lamps side calls) × Bytes (waitsOf table lamps side calls)
   unfolding own counted waits
   counted-bytes no-calls side = (no-bytes, tt)
   counted-bytes (one-handling {past = past} {side = s} {script = script} {log = log} all h) side =
-      own-bytes (lamps side) (sameSide side s && atTable keyboards s) (own keyboards side past) (lent script log) (counted-bytes all side) (bytes-script script h)
+      own-bytes (rulesAt table lamps side) (sameSide side s && atTable (table .keyboards) s) (own (table .keyboards) side past) (lent script log) (counted-bytes all side) (bytes-script script h)
   counted-bytes (one-taking all) side = counted-bytes all side

@@ -14,6 +14,8 @@ use Rattle.bits.proofs.Bits.{digit, bit-put-same, bit-put-other, put-lt}
 use Rattle.keyboard_history.specs.Past.{Past, nothing, _▸_}
 use Rattle.keyboard_scancodes.specs.Strokes.{Stroke, stroke}
 use Rattle.keyboard_history.specs.Said.{prefixSaid, strokes, times, lastWasPress, saidOf, said, wordOf, flagsSaid}
+use Rattle.keyboard_scancodes.specs.declared.Profile.{Profile}
+use Rattle.keyboard_scancodes.specs.Profile.{followed}
 use Rattle.keyboard_scancodes.specs.FlagTable.{Kind, lock, held, left, right, FlagRow, flagTable, flagLimit, isOf}
 use Rattle.keyboard_scancodes.specs.FlagsAfter.{flagAfter, rowAfter, flagsAfter}
 use Rattle.keyboard_scancodes.proofs.Flags.{apart, distinct, below, differ, after-apart, row-own, table-distinct, table-below}
@@ -74,20 +76,21 @@ said-more right r past s = refl
 -- ---- what the bytes say, with one more
 
 -- "a flag with no counted byte to judge is clear"
-pub flags-none : flagsSaid nothing ≡ 0
-unfolding flagsSaid wordOf saidOf times lastWasPress strokes flagTable putBit odd
-flags-none = refl
+pub flags-none : (profile : Profile) → flagsSaid profile nothing ≡ 0
+unfolding flagsSaid followed wordOf saidOf times lastWasPress strokes flagTable putBit odd
+flags-none Profile.Any = refl
+flags-none Profile.Tournament = refl
 
-pub flags-more : (bytes : Past ℕ) (b : ℕ) → flagsSaid (bytes ▸ b) ≡ flagsAfter flagTable (stroke b (prefixSaid bytes)) (flagsSaid bytes)
+pub flags-more : (profile : Profile) (bytes : Past ℕ) (b : ℕ) → flagsSaid profile (bytes ▸ b) ≡ flagsAfter (followed profile) (stroke b (prefixSaid bytes)) (flagsSaid profile bytes)
 unfolding flagsSaid strokes
-flags-more bytes b =
+flags-more profile bytes b =
     let s = stroke b (prefixSaid bytes) in
-    word-after (said (strokes bytes)) (said (strokes bytes ▸ s)) s (λ r. said-more (r .kind) r (strokes bytes) s) flagTable table-distinct
+    word-after (said (strokes bytes)) (said (strokes bytes ▸ s)) s (λ r. said-more (r .kind) r (strokes bytes) s) (followed profile) (table-distinct profile)
 
-pub flags-lt : (bytes : Past ℕ) → flagsSaid bytes < flagLimit
+pub flags-lt : (profile : Profile) (bytes : Past ℕ) → flagsSaid profile bytes < flagLimit
 unfolding flagsSaid flagLimit
-flags-lt bytes = word-lt (said (strokes bytes)) (length flagTable) flagTable table-below
+flags-lt profile bytes = word-lt (said (strokes bytes)) (length flagTable) (followed profile) (table-below profile)
 
-pub flag-bit : (bytes : Past ℕ) {r : FlagRow} → List·Memᴰ r flagTable → bit (r .flag) (flagsSaid bytes) ≡ said (strokes bytes) r
+pub flag-bit : (profile : Profile) (bytes : Past ℕ) {r : FlagRow} → List·Memᴰ r (followed profile) → bit (r .flag) (flagsSaid profile bytes) ≡ said (strokes bytes) r
 unfolding flagsSaid
-flag-bit bytes m = bit-word (said (strokes bytes)) table-distinct m
+flag-bit profile bytes m = bit-word (said (strokes bytes)) (table-distinct profile) m

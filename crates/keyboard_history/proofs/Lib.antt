@@ -9,8 +9,12 @@ pub mod History
 pub mod NothingLost
 pub mod KeyboardHistory
 pub mod Shares
+pub mod Laid
+pub mod Unrated
+pub mod Referees
 pub mod Bytes
 pub mod Meaning
 pub mod Witness
 pub mod WitnessWaiting
+pub mod WitnessRated
 pub mod Worked

@@ -18,11 +18,13 @@ use Rattle.scancode_set1.specs.Set1.{releaseOf}
 use Rattle.keyboard_history.specs.Past.{Past, nothing, _▸_, onto}
 use Rattle.keyboard_scancodes.specs.Strokes.{stroke, lowPart, isPress}
 use Rattle.keyboard_history.specs.Said.{prefixSaid, strokes, times, lastWasPress, saidOf, said, flagsSaid}
+use Rattle.keyboard_scancodes.specs.declared.Profile.{Profile}
+use Rattle.keyboard_scancodes.specs.Profile.{followed}
 use Rattle.keyboard_scancodes.specs.FlagTable.{Kind, lock, held, left, right, FlagRow, flagRow, flagTable, isOf, has}
 use Rattle.keyboard_scancodes.specs.Events.{lastKeycode, keycodeAt}
 use Rattle.keyboard_history.specs.Counted.{Call, countedOf}
 use Rattle.keyboard_sides.specs.declared.Side.{Side}
-use Rattle.keyboard_record.specs.declared.Keyboards.{Keyboards}
+use Rattle.keyboard_record.specs.declared.Table.{Table}
 use Rattle.keyboard_record.specs.Record.{keyboardAt, fresh}
 use Rattle.keyboard_history.specs.Run.{after, run}
 use Rattle.keyboard_history.specs.Bytes.{AllBytes, no-bytes, one-more, ByteCalls, timesByte, lastOf, absent, Last, those, demanded}
@@ -33,14 +35,14 @@ use Rattle.keyboard_history.proofs.History.{history}
 
 -- ---- order
 
-module _ {A : Type 0} (keyboards : Keyboards) (lamps : Side → ℕ → Exchange (Answer A)) where
-  run-onto : (calls : List Call) (past : Past Call) → run keyboards lamps (after keyboards lamps past) calls ≡ after keyboards lamps (onto past calls)
+module _ {A : Type 0} (table : Table) (lamps : Side → ℕ → Exchange (Answer A)) where
+  run-onto : (calls : List Call) (past : Past Call) → run table lamps (after table lamps past) calls ≡ after table lamps (onto past calls)
   unfolding run after onto
   run-onto [] past = refl
   run-onto (call ∷ calls) past = run-onto calls (past ▸ call)
 
   -- the calls of a list, made in order from a fresh record on, leave the record of the rule
-  pub in-order : (calls : List Call) → run keyboards lamps (fresh keyboards) calls ≡ after keyboards lamps (onto nothing calls)
+  pub in-order : (calls : List Call) → run table lamps (fresh table) calls ≡ after table lamps (onto nothing calls)
   unfolding after
   in-order calls = run-onto calls nothing
 
@@ -223,19 +225,21 @@ unfolding lowCodes
 low-in t (List·Memᴰ·head {x = x} {xs = xs} e) = rw e (ltb-true (x .code) 128 (and-eq-true-iff (ltb (x .code) 128) (lowCodes xs) .0 t .0))
 low-in t (List·Memᴰ·tail {x = x} {xs = xs} m) = low-in (and-eq-true-iff (ltb (x .code) 128) (lowCodes xs) .0 t .1) m
 
-table-low : lowCodes flagTable ≡ true
-unfolding lowCodes flagTable
-table-low = refl
+table-low : (profile : Profile) → lowCodes (followed profile) ≡ true
+unfolding lowCodes followed flagTable
+table-low Profile.Any = refl
+table-low Profile.Tournament = refl
 
--- each flag that the bytes say, by the request's sentence
-pub flag-demanded : {bytes : Past ℕ} {r : FlagRow} → AllBytes bytes → List·Memᴰ r flagTable → bit (r .flag) (flagsSaid bytes) ≡ demanded (r .kind) (r .code) bytes
-flag-demanded {bytes} {r} all m = flag-bit bytes m ∙ kind-bytes (r .kind) (r .flag) (r .code) (low-in table-low m) all
+-- each flag that the bytes say, of those that the profile follows, by the request's sentence
+pub flag-demanded : (profile : Profile) {bytes : Past ℕ} {r : FlagRow} → AllBytes bytes → List·Memᴰ r (followed profile)
+    → bit (r .flag) (flagsSaid profile bytes) ≡ demanded (r .kind) (r .code) bytes
+flag-demanded profile {bytes} {r} all m = flag-bit profile bytes m ∙ kind-bytes (r .kind) (r .flag) (r .code) (low-in (table-low profile) m) all
 
-module _ {A : Type 0} (keyboards : Keyboards) (lamps : Side → ℕ → Exchange (Answer A)) where
+module _ {A : Type 0} (table : Table) (lamps : Side → ℕ → Exchange (Answer A)) where
   -- each flag of a side after a list of calls, by the request's sentence on its counted bytes
-  pub flag-after : {calls : Past Call} {r : FlagRow} → ByteCalls calls → List·Memᴰ r flagTable → (side : Side)
-      → bit (r .flag) (keyboardAt side (after keyboards lamps calls .state) .modifiers .bits) ≡ demanded (r .kind) (r .code) (countedOf keyboards lamps side calls)
-  flag-after {calls} {r} all m side = ap (bit (r .flag)) (history keyboards lamps calls .flags side) ∙ flag-demanded (counted-bytes keyboards lamps all side .0) m
+  pub flag-after : {calls : Past Call} {r : FlagRow} → ByteCalls calls → List·Memᴰ r (followed (table .profile)) → (side : Side)
+      → bit (r .flag) (keyboardAt side (after table lamps calls .state) .modifiers .bits) ≡ demanded (r .kind) (r .code) (countedOf table lamps side calls)
+  flag-after {calls} {r} all m side = ap (bit (r .flag)) (history table lamps calls .flags side) ∙ flag-demanded (table .profile) (counted-bytes table lamps all side .0) m
 
 -- ---- the keys
 

@@ -10,11 +10,12 @@ use Rattle.exchange.specs.Exchange.{yields}
 use Rattle.exchange.specs.Answer.{Answer, gives, refuses}
 use Rattle.ps2_answers.specs.Refusals.{Success, success}
 use Rattle.keycodes_ascii.specs.declared.KeyEvent.{KeyEvent}
+use Rattle.keyboard_scancodes.specs.declared.Profile.{Profile}
 use Rattle.keyboard_sides.specs.declared.Side.{Side}
 use Rattle.keyboard_sides.specs.Sides.{sameSide}
 use Rattle.keyboard_sides.specs.Named.{Sided, ofSide, sidesIn}
-use Rattle.keyboard_record.specs.declared.Keyboards.{Keyboards}
-use Rattle.keyboard_record.specs.Queue.{meets, ifGiven}
+use Rattle.keyboard_record.specs.declared.Table.{Table}
+use Rattle.keyboard_record.specs.Queue.{admits, ifGiven}
 use Rattle.keyboard_scancodes.specs.Events.{eventOf, givesEvent}
 use Rattle.keyboard.specs.Answers.{endsWith}
 use Rattle.keyboard_history.specs.Past.{Past, _▸_}
@@ -25,12 +26,12 @@ use Rattle.keyboard_history.specs.Run.{eventsTaken}
 
 -- ---- the event that a byte gives, and the row
 
-module _ (bytes : Past ℕ) (b : ℕ) where
-  pub given-none : givesEvent b ≡ false → eventGiven bytes b ≡ []
+module _ (profile : Profile) (bytes : Past ℕ) (b : ℕ) where
+  pub given-none : givesEvent b ≡ false → eventGiven profile bytes b ≡ []
   unfolding eventGiven
   given-none e = rw e
 
-  pub given-one : givesEvent b ≡ true → eventGiven bytes b ≡ eventOf b (flagsSaid (bytes ▸ b)) ∷ []
+  pub given-one : givesEvent b ≡ true → eventGiven profile bytes b ≡ eventOf b (flagsSaid profile (bytes ▸ b)) ∷ []
   unfolding eventGiven
   given-one e = rw e
 
@@ -42,28 +43,28 @@ or-false : (b : Bool) → (b || false) ≡ b
 or-false true = refl
 or-false false = refl
 
-module _ (keyboards : Keyboards) (side : Side) (row : List (Sided KeyEvent)) where
-  pub less-none : lessMet (givenTo keyboards side row []) ≡ []
+module _ (table : Table) (side : Side) (row : List (Sided KeyEvent)) where
+  pub less-none : lessMet (givenTo table side row []) ≡ []
   unfolding lessMet givenTo
   less-none = refl
 
-  pub met-none : (n : ℕ) → anyMet n (givenTo keyboards side row []) ≡ false
+  pub met-none : (n : ℕ) → anyMet n (givenTo table side row []) ≡ false
   unfolding anyMet givenTo
   met-none n = refl
 
   module _ (e : KeyEvent) where
-    pub less-room : meets keyboards side (sidesIn row) ≡ gives success → lessMet (givenTo keyboards side row (e ∷ [])) ≡ sided side e ∷ []
+    pub less-room : admits table side (sidesIn row) (e .keycode) ≡ gives success → lessMet (givenTo table side row (e ∷ [])) ≡ sided side e ∷ []
     unfolding lessMet givenTo
     less-room h = rw h
 
-    pub less-full : {n : ℕ} → meets keyboards side (sidesIn row) ≡ refuses n → lessMet (givenTo keyboards side row (e ∷ [])) ≡ []
+    pub less-full : {n : ℕ} → admits table side (sidesIn row) (e .keycode) ≡ refuses n → lessMet (givenTo table side row (e ∷ [])) ≡ []
     unfolding lessMet givenTo
     less-full h = rw h
 
     -- it met what its call would answer
-    pub met-one : (n : ℕ) → anyMet n (givenTo keyboards side row (e ∷ [])) ≡ endsWith n (yields (meets keyboards side (sidesIn row)))
+    pub met-one : (n : ℕ) → anyMet n (givenTo table side row (e ∷ [])) ≡ endsWith n (yields (admits table side (sidesIn row) (e .keycode)))
     unfolding anyMet givenTo
-    met-one n = or-false (endsWith n (yields (meets keyboards side (sidesIn row))))
+    met-one n = or-false (endsWith n (yields (admits table side (sidesIn row) (e .keycode))))
 
 -- ---- lists of events given
 
@@ -82,24 +83,24 @@ events-append [] hs = refl
 events-append (g ∷ gs) hs = ap (λ (l : List (Sided KeyEvent)). g .event ∷ l) (events-append gs hs)
 
 -- the events of a side among those that a side gives: all of them, or none
-module _ (keyboards : Keyboards) (row : List (Sided KeyEvent)) where
-  pub own-given : (side : Side) (ks : List KeyEvent) → ofSide side (events (givenTo keyboards side row ks)) ≡ ks
+module _ (table : Table) (row : List (Sided KeyEvent)) where
+  pub own-given : (side : Side) (ks : List KeyEvent) → ofSide side (events (givenTo table side row ks)) ≡ ks
   unfolding givenTo ofSide
   own-given Side.First [] = refl
   own-given Side.Second [] = refl
   own-given Side.First (k ∷ ks) = ap (λ (l : List KeyEvent). k ∷ l) (own-given Side.First ks)
   own-given Side.Second (k ∷ ks) = ap (λ (l : List KeyEvent). k ∷ l) (own-given Side.Second ks)
 
-  pub other-given : (t side : Side) (ks : List KeyEvent) → sameSide t side ≡ false → ofSide t (events (givenTo keyboards side row ks)) ≡ []
+  pub other-given : (t side : Side) (ks : List KeyEvent) → sameSide t side ≡ false → ofSide t (events (givenTo table side row ks)) ≡ []
   unfolding givenTo ofSide
   other-given t side [] n = refl
   other-given t side (k ∷ ks) n = rw n (other-given t side ks n)
 
 -- the events of one more counted scancode, if there is one
-pub more-given : (bytes : Past ℕ) (sc : Option ℕ) → eventsGiven (count bytes sc) ≡ eventsGiven bytes ++ eventOfCall bytes sc
+pub more-given : (profile : Profile) (bytes : Past ℕ) (sc : Option ℕ) → eventsGiven profile (count bytes sc) ≡ eventsGiven profile bytes ++ eventOfCall profile bytes sc
 unfolding eventsGiven
-more-given bytes none = sym (append-nil (eventsGiven bytes))
-more-given bytes (some b) = refl
+more-given profile bytes none = sym (append-nil (eventsGiven profile bytes))
+more-given profile bytes (some b) = refl
 
 -- a taking that answers a row's first, then the row without it
 pub taken-first : (past : Past (Answer (Option (Sided KeyEvent)))) (es : List (Sided KeyEvent)) → eventsTaken (past ▸ first es) ++ rest es ≡ eventsTaken past ++ es

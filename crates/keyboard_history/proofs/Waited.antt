@@ -9,11 +9,11 @@ use native.Mathlib.Omega.{arith}
 use lib.ListN.{length, take, drop, length-append, length-take, length-drop}
 use lib.Seq.{take-append-add}
 use Rattle.exchange.specs.Exchange.{p60, p64, Exchange, done, read, write, play}
-use Rattle.exchange.specs.Answer.{Answer}
 use Rattle.exchange.specs.Keeping.{keeping}
 use Rattle.ps2_kept.specs.Thrown.{thrown}
-use Rattle.keyboard_scancodes.specs.FlagTable.{isLockPress}
+use Rattle.keyboard_scancodes.specs.Profile.{pressesFollowed}
 use Rattle.keyboard_scancodes.specs.Lamps.{lampsLit}
+use Rattle.keyboard.specs.Rules.{Rules}
 use Rattle.keyboard.specs.Scancode.{Took, took, takes, ranOut, thrownAt, lampsRanOut, caught, scancode}
 use Rattle.keyboard_history.specs.Past.{Past, _▸_}
 use Rattle.keyboard_history.specs.Said.{flagsSaid}
@@ -51,10 +51,10 @@ behind-took (b ∷ ws) s q = cc
 none-some : {b : ℕ} → _≡_ {A = Option ℕ} none (some b) → ⊥
 none-some q = let z : _≡_ {A = ℕ} 0 1 = cc in omega arith
 
-pub none-takes : {A : Type 0} (lamps : ℕ → Exchange (Answer A)) (bytes : Past ℕ) (ws s l : List ℕ) {b : ℕ} → takes ws s ≡ none
-    → scancodeAfter lamps bytes ws s l ≡ some b → ⊥
+pub none-takes : {A : Type 0} (rules : Rules A) (bytes : Past ℕ) (ws s l : List ℕ) {b : ℕ} → takes ws s ≡ none
+    → scancodeAfter rules bytes ws s l ≡ some b → ⊥
 unfolding scancodeAfter scancode
-none-takes lamps bytes ws s l g n = none-some (rw g at n)
+none-takes rules bytes ws s l g n = none-some (rw g at n)
 
 -- ---- a call whose byte is not counted throws nothing away
 
@@ -69,38 +69,38 @@ thrown-out (write p v t) m s [] r = refl
 thrown-out (write p v t) m s (x ∷ []) r = refl
 thrown-out (write p v t) m s (x ∷ y ∷ l) r = thrown-out t m s l r
 
-module _ {A : Type 0} (lamps : ℕ → Exchange (Answer A)) (bytes : Past ℕ) (ws s l : List ℕ) (t : Took) (g : takes ws s ≡ some t) where
+module _ {A : Type 0} (rules : Rules A) (bytes : Past ℕ) (ws s l : List ℕ) (t : Took) (g : takes ws s ≡ some t) where
   abbrev flags : ℕ → ℕ
-  flags b = flagsSaid (bytes ▸ b)
+  flags b = flagsSaid (rules .profile) (bytes ▸ b)
 
   not-counted : (c : Bool) → cond (not c) (some (t .byte)) none ≡ none → c ≡ true
   not-counted true e = refl
   not-counted false e = absurd (none-some (sym e))
 
-  ran-out : scancodeAfter lamps bytes ws s l ≡ none → lampsRanOut lamps flags t l ≡ true
+  ran-out : scancodeAfter rules bytes ws s l ≡ none → lampsRanOut rules flags t l ≡ true
   unfolding scancodeAfter scancode
-  ran-out n = not-counted (lampsRanOut lamps flags t l) (rw g at n)
+  ran-out n = not-counted (lampsRanOut rules flags t l) (rw g at n)
 
-  pub uncounted-caught : scancodeAfter lamps bytes ws s l ≡ none → caught lamps flags t l ≡ []
+  pub uncounted-caught : scancodeAfter rules bytes ws s l ≡ none → caught rules flags t l ≡ []
   unfolding caught
   uncounted-caught n =
-      let r = and-eq-true-iff (isLockPress (t .byte)) (ranOut (play (lamps (lampsLit (flags (t .byte)))) (t .script) l .end)) .0 (ran-out n) in
-      rw (r .0) (thrown-out (lamps (lampsLit (flags (t .byte)))) [] (t .script) l (r .1))
+      let r = and-eq-true-iff (pressesFollowed (rules .profile) (t .byte)) (ranOut (play (rules .lamps (lampsLit (flags (t .byte)))) (t .script) l .end)) .0 (ran-out n) in
+      rw (r .0) (thrown-out (rules .lamps (lampsLit (flags (t .byte)))) [] (t .script) l (r .1))
 
 -- ---- the scancode that a call takes from the waiting bytes is the oldest of them
 
-module _ {A : Type 0} (lamps : ℕ → Exchange (Answer A)) (bytes : Past ℕ) (ws s l : List ℕ) where
+module _ {A : Type 0} (rules : Rules A) (bytes : Past ℕ) (ws s l : List ℕ) where
   by-cond : (c : Bool) (x : ℕ) (w : List ℕ) → fromWaiting (cond c (some x) none) (x ∷ w) ++ behind (cond c (some x) none) (x ∷ w) ≡ x ∷ w
   by-cond true x w = refl
   by-cond false x w = refl
 
-  pub oldest-taken : fromWaiting (scancodeAfter lamps bytes ws s l) ws ++ behind (scancodeAfter lamps bytes ws s l) ws ≡ ws
+  pub oldest-taken : fromWaiting (scancodeAfter rules bytes ws s l) ws ++ behind (scancodeAfter rules bytes ws s l) ws ≡ ws
   oldest-taken = by-row ws refl
     where
       none-behind : (sc : Option ℕ) → fromWaiting sc [] ++ behind sc [] ≡ []
       none-behind none = refl
       none-behind (some b) = refl
 
-      by-row : (w : List ℕ) → ws ≡ w → fromWaiting (scancodeAfter lamps bytes ws s l) ws ++ behind (scancodeAfter lamps bytes ws s l) ws ≡ ws
-      by-row [] e = rw e (none-behind (scancodeAfter lamps bytes [] s l))
-      by-row (x ∷ w) e = rw e (unfold scancodeAfter scancode in by-cond (not (lampsRanOut lamps (λ b. flagsSaid (bytes ▸ b)) (took x w s) l)) x w)
+      by-row : (w : List ℕ) → ws ≡ w → fromWaiting (scancodeAfter rules bytes ws s l) ws ++ behind (scancodeAfter rules bytes ws s l) ws ≡ ws
+      by-row [] e = rw e (none-behind (scancodeAfter rules bytes [] s l))
+      by-row (x ∷ w) e = rw e (unfold scancodeAfter scancode in by-cond (not (lampsRanOut rules (λ b. flagsSaid (rules .profile) (bytes ▸ b)) (took x w s) l)) x w)

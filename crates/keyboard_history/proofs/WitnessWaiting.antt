@@ -9,6 +9,7 @@ use Rattle.exchange.specs.Exchange.{Exchange, play}
 use Rattle.exchange.specs.Keeping.{keeping}
 use Rattle.keycodes_ascii.specs.declared.Keycode.{Keycode}
 use Rattle.keycodes_ascii.specs.Keycode.{keycodeOf, numbered, keycodes}
+use Rattle.keyboard_scancodes.specs.Profile.{allows, followed}
 use Rattle.keyboard_scancodes.specs.FlagTable.{flagTable, isOf, pressesLock}
 use Rattle.keyboard_scancodes.specs.Lamps.{lampsLit}
 use Rattle.keyboard_scancodes.specs.Events.{keycodeAt, eventOf}
@@ -20,8 +21,9 @@ use Rattle.keyboard_sides.specs.declared.Side.{Side}
 use Rattle.keyboard_sides.specs.Sides.{countOf}
 use Rattle.keyboard_sides.specs.Named.{Sided, sidesIn}
 use Rattle.keyboard_record.specs.declared.Keyboards.{Keyboards}
-use Rattle.keyboard_record.specs.Queue.{meets, waiting}
+use Rattle.keyboard_record.specs.Queue.{meets, admits, waiting}
 use Rattle.keyboard.specs.Answers.{ends2-3-21}
+use Rattle.keyboard.specs.Rules.{rulesAt}
 use Rattle.keyboard.specs.Scancode.{caught, scancode}
 use Rattle.keyboard_history.specs.Past.{nothing, _▸_, each}
 use Rattle.keyboard_history.specs.Said.{prefixSaid, strokes, times, lastWasPress, saidOf, wordOf, flagsSaid, eventGiven}
@@ -29,7 +31,7 @@ use Rattle.keyboard_history.specs.Counted.{own, scancodeAfter, thrownAft
 use Rattle.keyboard_history.specs.Waited.{dropped}
 use Rattle.keyboard_history.specs.Row.{lessMet, givenTo, newly, row}
 use Rattle.keyboard_history.specs.Run.{after, answers, reported}
-use Rattle.keyboard_history.specs.Examples.{press, untilFA, patientLamps, letterInLamps, seventeen, lockWaits, lockFirstOf16, waitingCut, waitingLit}
+use Rattle.keyboard_history.specs.Examples.{one, press, untilFA, patientLamps, letterInLamps, seventeen, lockWaits, lockFirstOf16, waitingCut, waitingLit}
 use Rattle.keyboard_history.proofs.Row.{sided}
 use Rattle.keyboard_history.proofs.History.{history}
 
@@ -42,68 +44,68 @@ first-press key flags = sided Side.First (press key flags)
 
 -- ---- a letter typed during Caps Lock's lamp exchange gives its event in the next call, which has no script
 
-letter-row : row Keyboards.One patient letterInLamps ≡ first-press Keycode.CapsLock 0x80 ∷ first-press Keycode.A 0x80 ∷ []
-unfolding row newly scancodeOf own givenTo sidesIn countOf meets lessMet counted waits behindAfter joinedAfter thrownAfter caught scancodeAfter scancode keeping decode play untilFA flagsSaid wordOf saidOf times lastWasPress strokes prefixSaid flagTable isOf pressesLock lampsLit putBit odd bit eventGiven eventOf keycodeAt keycodeOf numbered keycodes
+letter-row : row one patient letterInLamps ≡ first-press Keycode.CapsLock 0x80 ∷ first-press Keycode.A 0x80 ∷ []
+unfolding row newly scancodeOf own givenTo sidesIn countOf admits allows meets lessMet counted waits behindAfter joinedAfter thrownAfter caught scancodeAfter scancode keeping decode play untilFA flagsSaid wordOf saidOf times lastWasPress strokes prefixSaid followed flagTable isOf pressesLock lampsLit putBit odd bit eventGiven eventOf keycodeAt keycodeOf numbered keycodes
 letter-row = refl
 
-pub letter-waits : waiting (after Keyboards.One patient letterInLamps) ≡ first-press Keycode.CapsLock 0x80 ∷ first-press Keycode.A 0x80 ∷ []
-letter-waits = history Keyboards.One patient letterInLamps .queue ∙ letter-row
+pub letter-waits : waiting (after one patient letterInLamps) ≡ first-press Keycode.CapsLock 0x80 ∷ first-press Keycode.A 0x80 ∷ []
+letter-waits = history one patient letterInLamps .queue ∙ letter-row
 
 -- ---- 17 bytes come: the earliest 16 wait, and one is reported
 
 seventeen-said :
-    (waitsOf Keyboards.One patient Side.First seventeen ≡ 0x10 ∷ 0x11 ∷ 0x12 ∷ 0x13 ∷ 0x14 ∷ 0x15 ∷ 0x16 ∷ 0x17 ∷ 0x18 ∷ 0x19 ∷ 0x1A ∷ 0x1B ∷ 0x1C ∷ 0x1D ∷ 0x1E ∷ 0x1F ∷ [])
-    × (dropped patientLamps (own Keyboards.One Side.First seventeen) ≡ nothing ▸ (0x20 ∷ []))
-unfolding own dropped droppedAfter counted waits behindAfter joinedAfter thrownAfter caught scancodeAfter scancode keeping decode play untilFA flagTable isOf pressesLock
+    (waitsOf one patient Side.First seventeen ≡ 0x10 ∷ 0x11 ∷ 0x12 ∷ 0x13 ∷ 0x14 ∷ 0x15 ∷ 0x16 ∷ 0x17 ∷ 0x18 ∷ 0x19 ∷ 0x1A ∷ 0x1B ∷ 0x1C ∷ 0x1D ∷ 0x1E ∷ 0x1F ∷ [])
+    × (dropped (rulesAt one patient Side.First) (own Keyboards.One Side.First seventeen) ≡ nothing ▸ (0x20 ∷ []))
+unfolding own dropped droppedAfter counted waits behindAfter joinedAfter thrownAfter caught scancodeAfter scancode keeping decode play untilFA followed flagTable isOf pressesLock
 seventeen-said = (refl, refl)
 
-pub seventeen-wait : waitingBytes (after Keyboards.One patient seventeen .state .first .waiting)
+pub seventeen-wait : waitingBytes (after one patient seventeen .state .first .waiting)
     ≡ 0x10 ∷ 0x11 ∷ 0x12 ∷ 0x13 ∷ 0x14 ∷ 0x15 ∷ 0x16 ∷ 0x17 ∷ 0x18 ∷ 0x19 ∷ 0x1A ∷ 0x1B ∷ 0x1C ∷ 0x1D ∷ 0x1E ∷ 0x1F ∷ []
-seventeen-wait = history Keyboards.One patient seventeen .waiting-bytes Side.First ∙ seventeen-said .0
+seventeen-wait = history one patient seventeen .waiting-bytes Side.First ∙ seventeen-said .0
 
-pub seventeen-reported : reported Keyboards.One patient Side.First seventeen ≡ nothing ▸ 1
+pub seventeen-reported : reported one patient Side.First seventeen ≡ nothing ▸ 1
 unfolding each
-seventeen-reported = history Keyboards.One patient seventeen .drops Side.First ∙ rw (seventeen-said .1)
+seventeen-reported = history one patient seventeen .drops Side.First ∙ rw (seventeen-said .1)
 
 -- ---- a lock waits among the bytes, and what its own lamp exchange catches waits behind those that waited
 
-lock-row : row Keyboards.One patient lockWaits ≡ first-press Keycode.CapsLock 0x80 ∷ first-press Keycode.NumLock 0x180 ∷ first-press Keycode.A 0x180 ∷ first-press Keycode.B 0x180 ∷ []
-unfolding row newly scancodeOf own givenTo sidesIn countOf meets lessMet counted waits behindAfter joinedAfter thrownAfter caught scancodeAfter scancode keeping decode play untilFA flagsSaid wordOf saidOf times lastWasPress strokes prefixSaid flagTable isOf pressesLock lampsLit putBit odd bit eventGiven eventOf keycodeAt keycodeOf numbered keycodes
+lock-row : row one patient lockWaits ≡ first-press Keycode.CapsLock 0x80 ∷ first-press Keycode.NumLock 0x180 ∷ first-press Keycode.A 0x180 ∷ first-press Keycode.B 0x180 ∷ []
+unfolding row newly scancodeOf own givenTo sidesIn countOf admits allows meets lessMet counted waits behindAfter joinedAfter thrownAfter caught scancodeAfter scancode keeping decode play untilFA flagsSaid wordOf saidOf times lastWasPress strokes prefixSaid followed flagTable isOf pressesLock lampsLit putBit odd bit eventGiven eventOf keycodeAt keycodeOf numbered keycodes
 lock-row = refl
 
-pub lock-waits : waiting (after Keyboards.One patient lockWaits) ≡ first-press Keycode.CapsLock 0x80 ∷ first-press Keycode.NumLock 0x180 ∷ first-press Keycode.A 0x180 ∷ first-press Keycode.B 0x180 ∷ []
-lock-waits = history Keyboards.One patient lockWaits .queue ∙ lock-row
+pub lock-waits : waiting (after one patient lockWaits) ≡ first-press Keycode.CapsLock 0x80 ∷ first-press Keycode.NumLock 0x180 ∷ first-press Keycode.A 0x180 ∷ first-press Keycode.B 0x180 ∷ []
+lock-waits = history one patient lockWaits .queue ∙ lock-row
 
 -- ---- 16 wait, and the oldest is a lock: of two bytes that its exchange catches one finds its place, and one is reported
 
 first-said :
-    (waitsOf Keyboards.One patient Side.First lockFirstOf16 ≡ 0x10 ∷ 0x11 ∷ 0x12 ∷ 0x13 ∷ 0x14 ∷ 0x15 ∷ 0x16 ∷ 0x17 ∷ 0x18 ∷ 0x19 ∷ 0x1A ∷ 0x1B ∷ 0x1C ∷ 0x1D ∷ 0x1F ∷ 0x1E ∷ [])
-    × (dropped patientLamps (own Keyboards.One Side.First lockFirstOf16) ≡ nothing ▸ [] ▸ (0x30 ∷ []))
-unfolding own dropped droppedAfter counted waits behindAfter joinedAfter thrownAfter caught scancodeAfter scancode keeping decode play untilFA flagTable isOf pressesLock
+    (waitsOf one patient Side.First lockFirstOf16 ≡ 0x10 ∷ 0x11 ∷ 0x12 ∷ 0x13 ∷ 0x14 ∷ 0x15 ∷ 0x16 ∷ 0x17 ∷ 0x18 ∷ 0x19 ∷ 0x1A ∷ 0x1B ∷ 0x1C ∷ 0x1D ∷ 0x1F ∷ 0x1E ∷ [])
+    × (dropped (rulesAt one patient Side.First) (own Keyboards.One Side.First lockFirstOf16) ≡ nothing ▸ [] ▸ (0x30 ∷ []))
+unfolding own dropped droppedAfter counted waits behindAfter joinedAfter thrownAfter caught scancodeAfter scancode keeping decode play untilFA followed flagTable isOf pressesLock
 first-said = (refl, refl)
 
-pub first-wait : waitingBytes (after Keyboards.One patient lockFirstOf16 .state .first .waiting)
+pub first-wait : waitingBytes (after one patient lockFirstOf16 .state .first .waiting)
     ≡ 0x10 ∷ 0x11 ∷ 0x12 ∷ 0x13 ∷ 0x14 ∷ 0x15 ∷ 0x16 ∷ 0x17 ∷ 0x18 ∷ 0x19 ∷ 0x1A ∷ 0x1B ∷ 0x1C ∷ 0x1D ∷ 0x1F ∷ 0x1E ∷ []
-first-wait = history Keyboards.One patient lockFirstOf16 .waiting-bytes Side.First ∙ first-said .0
+first-wait = history one patient lockFirstOf16 .waiting-bytes Side.First ∙ first-said .0
 
-pub first-reported : reported Keyboards.One patient Side.First lockFirstOf16 ≡ nothing ▸ 0 ▸ 1
+pub first-reported : reported one patient Side.First lockFirstOf16 ≡ nothing ▸ 0 ▸ 1
 unfolding each
-first-reported = history Keyboards.One patient lockFirstOf16 .drops Side.First ∙ rw (first-said .1)
+first-reported = history one patient lockFirstOf16 .drops Side.First ∙ rw (first-said .1)
 
 -- ---- a call that ends in 2 inside the exchange of a lock that waited leaves it waiting, and drops nothing; the next call takes it
 
 lock-cut-said :
-    (counts Keyboards.One patient waitingCut ≡ nothing ▸ true ▸ false) × (waitsOf Keyboards.One patient Side.First waitingCut ≡ 0x45 ∷ [])
-    × (countedOf Keyboards.One patient Side.First waitingLit ≡ nothing ▸ 0x3A ▸ 0x45) × (waitsOf Keyboards.One patient Side.First waitingLit ≡ [])
-unfolding counts scancodeOf own counted waits behindAfter joinedAfter thrownAfter caught scancodeAfter scancode keeping decode play untilFA flagTable isOf pressesLock
+    (counts one patient waitingCut ≡ nothing ▸ true ▸ false) × (waitsOf one patient Side.First waitingCut ≡ 0x45 ∷ [])
+    × (countedOf one patient Side.First waitingLit ≡ nothing ▸ 0x3A ▸ 0x45) × (waitsOf one patient Side.First waitingLit ≡ [])
+unfolding counts scancodeOf own counted waits behindAfter joinedAfter thrownAfter caught scancodeAfter scancode keeping decode play untilFA followed flagTable isOf pressesLock
 lock-cut-said = (refl, refl, refl, refl)
 
-pub lock-cut-ends : each ends2-3-21 (answers Keyboards.One patient waitingCut) ≡ nothing ▸ false ▸ true
+pub lock-cut-ends : each ends2-3-21 (answers one patient waitingCut) ≡ nothing ▸ false ▸ true
 unfolding each
-lock-cut-ends = history Keyboards.One patient waitingCut .left-out ∙ rw (lock-cut-said .0)
+lock-cut-ends = history one patient waitingCut .left-out ∙ rw (lock-cut-said .0)
 
-pub lock-cut-waits : waitingBytes (after Keyboards.One patient waitingCut .state .first .waiting) ≡ 0x45 ∷ []
-lock-cut-waits = history Keyboards.One patient waitingCut .waiting-bytes Side.First ∙ lock-cut-said .1
+pub lock-cut-waits : waitingBytes (after one patient waitingCut .state .first .waiting) ≡ 0x45 ∷ []
+lock-cut-waits = history one patient waitingCut .waiting-bytes Side.First ∙ lock-cut-said .1
 
-pub lock-lit-waits : waitingBytes (after Keyboards.One patient waitingLit .state .first .waiting) ≡ []
-lock-lit-waits = history Keyboards.One patient waitingLit .waiting-bytes Side.First ∙ lock-cut-said .3
+pub lock-lit-waits : waitingBytes (after one patient waitingLit .state .first .waiting) ≡ []
+lock-lit-waits = history one patient waitingLit .waiting-bytes Side.First ∙ lock-cut-said .3

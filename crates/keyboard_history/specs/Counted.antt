@@ -11,8 +11,10 @@ use Rattle.ps2_kept.specs.Kept.{keptLimit}
 use Rattle.keyboard_sides.specs.declared.Side.{Side}
 use Rattle.keyboard_sides.specs.Sides.{sameSide}
 use Rattle.keyboard_record.specs.declared.Keyboards.{Keyboards}
+use Rattle.keyboard_record.specs.declared.Table.{Table}
 use Rattle.keyboard_record.specs.Record.{atTable}
 use Rattle.keyboard_history.specs.Past.{Past, nothing, _▸_}
+use Rattle.keyboard.specs.Rules.{Rules, rulesAt}
 use Rattle.keyboard.specs.Scancode.{Took, takes, isSome, caught, scancode}
 use Rattle.keyboard_history.specs.Said.{flagsSaid}
 
@@ -55,18 +57,18 @@ behind (some b) waiting = drop 1 waiting
 abbrev pub room : List ℕ → ℕ
 room waiting = keptLimit - length waiting
 
-module _ {A : Type 0} (lamps : ℕ → Exchange (Answer A)) where
+module _ {A : Type 0} (rules : Rules A) where
   -- The scancode that a handler call counts, if it counts one, after a list of calls whose counted bytes, which say the flags, and whose waiting bytes are these. "Such bytes count as scancodes in the history rule at the call that takes them." The record is well formed, as every record is that such a list leaves (the clause `well` of the rule).
   unfoldable pub scancodeAfter : Past ℕ → List ℕ → List ℕ → List ℕ → Option ℕ
-  scancodeAfter bytes waiting script log = scancode lamps true (λ b. flagsSaid (bytes ▸ b)) waiting script log
+  scancodeAfter bytes waiting script log = scancode rules true (λ b. flagsSaid (rules .profile) (bytes ▸ b)) waiting script log
 
   -- The bytes that the lamp exchange of the byte that it takes throws away; where the exchange runs out of script or log, so that the byte is not counted, none.
   abbrev pub thrownBy : (ℕ → ℕ) → Option Took → List ℕ → List ℕ
   thrownBy flags none log = []
-  thrownBy flags (some t) log = caught lamps flags t log
+  thrownBy flags (some t) log = caught rules flags t log
 
   unfoldable pub thrownAfter : Past ℕ → List ℕ → List ℕ → List ℕ → List ℕ
-  thrownAfter bytes waiting script log = thrownBy (λ b. flagsSaid (bytes ▸ b)) (takes waiting script) log
+  thrownAfter bytes waiting script log = thrownBy (λ b. flagsSaid (rules .profile) (bytes ▸ b)) (takes waiting script) log
 
   -- Those that wait behind its byte; of those thrown away "the earliest", which find room with them; and the others, which are dropped.
   unfoldable pub behindAfter : Past ℕ → List ℕ → List ℕ → List ℕ → List ℕ
@@ -97,17 +99,17 @@ module _ {A : Type 0} (lamps : ℕ → Exchange (Answer A)) where
 
 -- ---- a list of calls at a table
 
-module _ {A : Type 0} (keyboards : Keyboards) (lamps : Side → ℕ → Exchange (Answer A)) where
+module _ {A : Type 0} (table : Table) (lamps : Side → ℕ → Exchange (Answer A)) where
   -- The counted scancodes of a side, and the bytes of its own that wait: "Each side has its own prefix, flags and waiting bytes (those its own lamp exchanges caught)."
   abbrev pub countedOf : Side → Past Call → Past ℕ
-  countedOf side calls = counted (lamps side) (own keyboards side calls)
+  countedOf side calls = counted (rulesAt table lamps side) (own (table .keyboards) side calls)
 
   abbrev pub waitsOf : Side → Past Call → List ℕ
-  waitsOf side calls = waits (lamps side) (own keyboards side calls)
+  waitsOf side calls = waits (rulesAt table lamps side) (own (table .keyboards) side calls)
 
   -- The scancode that a handler call for a side counts after a list of calls, if it counts one; at a table without that side, none.
   unfoldable pub scancodeOf : Past Call → Side → List ℕ → List ℕ → Option ℕ
-  scancodeOf past side script log = cond (atTable keyboards side) (scancodeAfter (lamps side) (countedOf side past) (waitsOf side past) script log) none
+  scancodeOf past side script log = cond (atTable (table .keyboards) side) (scancodeAfter (rulesAt table lamps side) (countedOf side past) (waitsOf side past) script log) none
 
   -- Of each handler call of the list, whether it counts a scancode.
   unfoldable pub counts : Past Call → Past Bool

@@ -9,9 +9,22 @@ use Rattle.exchange.specs.Answer.{Answer, gives, refuses}
 use Rattle.keycodes_ascii.specs.declared.KeyAction.{KeyAction}
 use Rattle.keycodes_ascii.specs.declared.KeyEvent.{KeyEvent}
 use Rattle.keycodes_ascii.specs.declared.Keycode.{Keycode}
+use Rattle.keyboard_scancodes.specs.declared.Profile.{Profile}
 use Rattle.keyboard_sides.specs.declared.Side.{Side}
+use Rattle.keyboard_record.specs.declared.Keyboards.{Keyboards}
+use Rattle.keyboard_record.specs.declared.Table.{Table}
 use Rattle.keyboard_history.specs.Past.{Past, nothing, _▸_}
 use Rattle.keyboard_history.specs.Counted.{Call, handling, taking}
+
+-- A table with one keyboard, and one with two, without the profile; and one with one keyboard for rated games.
+abbrev pub one : Table
+one = record { keyboards = Keyboards.One; profile = Profile.Any }
+
+abbrev pub two : Table
+two = record { keyboards = Keyboards.Two; profile = Profile.Any }
+
+abbrev pub rated : Table
+rated = record { keyboards = Keyboards.One; profile = Profile.Tournament }
 
 -- A key pressed, with these flags.
 abbrev pub press : Keycode → ℕ → KeyEvent
@@ -76,3 +89,9 @@ waitingCut = nothing ▸ handling Side.First (0x3A ∷ 0x45 ∷ 0xFA ∷ []) fou
 
 abbrev pub waitingLit : Past Call
 waitingLit = waitingCut ▸ handling Side.First (0xFA ∷ []) fourFree
+
+-- For rated games: Caps Lock, A, Alt, the left Shift, B, and the release of Caps Lock, each with its byte for the script and no room in the log.
+abbrev pub ratedGame : Past Call
+ratedGame =
+    nothing ▸ handling Side.First (0x3A ∷ []) [] ▸ handling Side.First (0x1E ∷ []) [] ▸ handling Side.First (0x38 ∷ []) [] ▸ handling Side.First (0x2A ∷ []) []
+    ▸ handling Side.First (0x30 ∷ []) [] ▸ handling Side.First (0xBA ∷ []) []

@@ -9,7 +9,8 @@ use Rattle.exchange.specs.Answer.{Answer}
 use Rattle.keyboard_scancodes.specs.Waiting.{waitingBytes}
 use Rattle.keyboard_history.specs.Past.{Past, nothing, _▸_}
 use Rattle.keyboard_sides.specs.declared.Side.{Side}
-use Rattle.keyboard_record.specs.declared.Keyboards.{Keyboards}
+use Rattle.keyboard_record.specs.declared.Table.{Table}
+use Rattle.keyboard.specs.Rules.{rulesAt}
 use Rattle.keyboard_record.specs.Record.{keyboardAt}
 use Rattle.keyboard_history.specs.Counted.{Call, own}
 use Rattle.keyboard_history.specs.Waited.{thrownAway, joined, takenWaiting}
@@ -26,10 +27,10 @@ pub data Reported : Past (List ℕ) → Past (List ℕ) → Past ℕ → Type 0 
   one-call : {thrown joined : Past (List ℕ)} {reported : Past ℕ} {room : List ℕ} → Reported thrown joined reported → (others : List ℕ)
       → Reported (thrown ▸ room ++ others) (joined ▸ room) (reported ▸ length others)
 
-module _ {A : Type 0} (keyboards : Keyboards) (lamps : Side → ℕ → Exchange (Answer A)) where
+module _ {A : Type 0} (table : Table) (lamps : Side → ℕ → Exchange (Answer A)) where
   pub record NothingLost (side : Side) (calls : Past Call) : Type 0 where
     -- Of the bytes that each call's exchange threw away the earliest found room; the others are as many as the call reported.
-    pub others-reported : Reported (thrownAway (lamps side) (own keyboards side calls)) (joined (lamps side) (own keyboards side calls)) (reported keyboards lamps side calls)
+    pub others-reported : Reported (thrownAway (rulesAt table lamps side) (own (table .keyboards) side calls)) (joined (rulesAt table lamps side) (own (table .keyboards) side calls)) (reported table lamps side calls)
     -- The bytes that found room are, in order, those that later calls took, then those that wait in the record.
-    pub taken-then-waiting : takenWaiting (lamps side) (own keyboards side calls) ++ waitingBytes (keyboardAt side (after keyboards lamps calls .state) .waiting)
-        ≡ inOrder (joined (lamps side) (own keyboards side calls))
+    pub taken-then-waiting : takenWaiting (rulesAt table lamps side) (own (table .keyboards) side calls) ++ waitingBytes (keyboardAt side (after table lamps calls .state) .waiting)
+        ≡ inOrder (joined (rulesAt table lamps side) (own (table .keyboards) side calls))

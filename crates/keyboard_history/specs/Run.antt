@@ -1,4 +1,4 @@
--- The calls of a list made one after another, the first on a fresh record for one keyboard or two and each other on the record that the last one left.
+-- The calls of a list made one after another, the first on a fresh record for a table and each other on the record that the last one left.
 -- Assumes nothing.
 use mathlib.Core.Bool.{Bool, true, false, _&&_}
 use mathlib.Core.List.{List, [], _∷_, _++_}
@@ -12,7 +12,7 @@ use Rattle.keyboard_sides.specs.declared.Side.{Side}
 use Rattle.keyboard_sides.specs.Sides.{sameSide}
 use Rattle.keyboard_sides.specs.Named.{Sided}
 use Rattle.keyboard_record.specs.declared.KeyboardHandler.{KeyboardHandler}
-use Rattle.keyboard_record.specs.declared.Keyboards.{Keyboards}
+use Rattle.keyboard_record.specs.declared.Table.{Table}
 use Rattle.keyboard_history.specs.Past.{Past, nothing, _▸_}
 use Rattle.keyboard_history.specs.Counted.{Call, handling, taking}
 use Rattle.keyboard_record.specs.Record.{atTable, fresh}
@@ -26,7 +26,7 @@ eventsTaken (past ▸ gives (some e)) = eventsTaken past ++ (e ∷ [])
 eventsTaken (past ▸ gives none) = eventsTaken past
 eventsTaken (past ▸ refuses n) = eventsTaken past
 
-module _ {A : Type 0} (keyboards : Keyboards) (lamps : Side → ℕ → Exchange (Answer A)) where
+module _ {A : Type 0} (table : Table) (lamps : Side → ℕ → Exchange (Answer A)) where
   -- The record that a call leaves.
   unfoldable pub leaves : KeyboardHandler → Call → KeyboardHandler
   leaves h (handling side script log) = handled lamps side h script log .handler
@@ -34,7 +34,7 @@ module _ {A : Type 0} (keyboards : Keyboards) (lamps : Side → ℕ → Exchange
 
   -- The record after the calls.
   unfoldable pub after : Past Call → KeyboardHandler
-  after nothing = fresh keyboards
+  after nothing = fresh table
   after (past ▸ call) = leaves (after past) call
 
   -- The record after calls that are made in order from a record on.
@@ -61,5 +61,5 @@ module _ {A : Type 0} (keyboards : Keyboards) (lamps : Side → ℕ → Exchange
 
   unfoldable pub reported : Side → Past Call → Past ℕ
   reported side nothing = nothing
-  reported side (past ▸ handling s script log) = ownNumber (sameSide side s && atTable keyboards s) (reported side past) (handled lamps s (after past) script log .dropped)
+  reported side (past ▸ handling s script log) = ownNumber (sameSide side s && atTable (table .keyboards) s) (reported side past) (handled lamps s (after past) script log .dropped)
   reported side (past ▸ taking) = reported side past

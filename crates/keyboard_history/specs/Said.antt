@@ -8,7 +8,9 @@ use Rattle.keycodes_ascii.specs.declared.KeyEvent.{KeyEvent}
 use Rattle.keyboard_history.specs.Past.{Past, nothing, _▸_}
 use Rattle.keyboard_scancodes.specs.Events.{givesEvent, eventOf}
 use Rattle.keyboard_scancodes.specs.Strokes.{Stroke, stroke, isPrefix}
-use Rattle.keyboard_scancodes.specs.FlagTable.{Kind, lock, held, left, right, FlagRow, flagTable, isOf}
+use Rattle.keyboard_scancodes.specs.FlagTable.{Kind, lock, held, left, right, FlagRow, isOf}
+use Rattle.keyboard_scancodes.specs.declared.Profile.{Profile}
+use Rattle.keyboard_scancodes.specs.Profile.{followed}
 
 -- ---- the strokes
 
@@ -49,17 +51,17 @@ unfoldable pub wordOf : (FlagRow → Bool) → List FlagRow → ℕ
 wordOf f [] = 0
 wordOf f (r ∷ rows) = putBit (r .flag) (f r) (wordOf f rows)
 
--- The flags that the bytes say.
-unfoldable pub flagsSaid : Past ℕ → ℕ
-flagsSaid bytes = wordOf (said (strokes bytes)) flagTable
+-- The flags that the bytes say, those that the profile follows: "under the profile the lock rule reads "off"".
+unfoldable pub flagsSaid : Profile → Past ℕ → ℕ
+flagsSaid profile bytes = wordOf (said (strokes bytes)) (followed profile)
 
 -- ---- the events
 
 -- The event, if any, that the byte b gives after the bytes of past, "with the flags just after it".
-unfoldable pub eventGiven : Past ℕ → ℕ → List KeyEvent
-eventGiven past b = cond (givesEvent b) (eventOf b (flagsSaid (past ▸ b)) ∷ []) []
+unfoldable pub eventGiven : Profile → Past ℕ → ℕ → List KeyEvent
+eventGiven profile past b = cond (givesEvent b) (eventOf b (flagsSaid profile (past ▸ b)) ∷ []) []
 
 -- The events that the bytes give, in byte order.
-unfoldable pub eventsGiven : Past ℕ → List KeyEvent
-eventsGiven nothing = []
-eventsGiven (past ▸ b) = eventsGiven past ++ eventGiven past b
+unfoldable pub eventsGiven : Profile → Past ℕ → List KeyEvent
+eventsGiven profile nothing = []
+eventsGiven profile (past ▸ b) = eventsGiven profile past ++ eventGiven profile past b

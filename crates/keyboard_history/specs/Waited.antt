@@ -3,8 +3,7 @@
 use mathlib.Core.List.{List, [], _∷_, _++_}
 use mathlib.Core.Option.{Option, none, some}
 use Prim.Native.Nat.{ℕ}
-use Rattle.exchange.specs.Exchange.{Exchange}
-use Rattle.exchange.specs.Answer.{Answer}
+use Rattle.keyboard.specs.Rules.{Rules}
 use Rattle.keyboard_history.specs.Past.{Past, nothing, _▸_}
 use Rattle.keyboard_history.specs.Counted.{Lent, scancodeAfter, thrownAfter, joinedAfter, droppedAfter, counted, waits}
 
@@ -14,22 +13,22 @@ fromWaiting none waiting = []
 fromWaiting (some b) [] = []
 fromWaiting (some b) (oldest ∷ waiting) = b ∷ []
 
-module _ {A : Type 0} (lamps : ℕ → Exchange (Answer A)) where
+module _ {A : Type 0} (rules : Rules A) where
   -- Of each call, the bytes that its lamp exchange threw away where it counted a scancode: all of them; those that found room to wait; and those that found none.
   unfoldable pub thrownAway : Past Lent → Past (List ℕ)
   thrownAway nothing = nothing
-  thrownAway (past ▸ x) = thrownAway past ▸ thrownAfter lamps (counted lamps past) (waits lamps past) (x .script) (x .log)
+  thrownAway (past ▸ x) = thrownAway past ▸ thrownAfter rules (counted rules past) (waits rules past) (x .script) (x .log)
 
   unfoldable pub joined : Past Lent → Past (List ℕ)
   joined nothing = nothing
-  joined (past ▸ x) = joined past ▸ joinedAfter lamps (counted lamps past) (waits lamps past) (x .script) (x .log)
+  joined (past ▸ x) = joined past ▸ joinedAfter rules (counted rules past) (waits rules past) (x .script) (x .log)
 
   unfoldable pub dropped : Past Lent → Past (List ℕ)
   dropped nothing = nothing
-  dropped (past ▸ x) = dropped past ▸ droppedAfter lamps (counted lamps past) (waits lamps past) (x .script) (x .log)
+  dropped (past ▸ x) = dropped past ▸ droppedAfter rules (counted rules past) (waits rules past) (x .script) (x .log)
 
   -- The scancodes that calls took from the waiting bytes, in order.
   unfoldable pub takenWaiting : Past Lent → List ℕ
   takenWaiting nothing = []
   takenWaiting (past ▸ x) =
-      takenWaiting past ++ fromWaiting (scancodeAfter lamps (counted lamps past) (waits lamps past) (x .script) (x .log)) (waits lamps past)
+      takenWaiting past ++ fromWaiting (scancodeAfter rules (counted rules past) (waits rules past) (x .script) (x .log)) (waits rules past)

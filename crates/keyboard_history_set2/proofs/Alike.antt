@@ -11,7 +11,8 @@ use Rattle.scancode_set2.specs.Codes.{isPrefix, Code}
 use Rattle.scancode_set2.specs.Convert.{becomes}
 use Rattle.scancode_set2.specs.Stops.{Became, no-codes, one-code}
 use Rattle.keyboard_scancodes.specs.Strokes.{Stroke, stroke, isSilent}
-use Rattle.keyboard_scancodes.specs.FlagTable.{flagTable}
+use Rattle.keyboard_scancodes.specs.declared.Profile.{Profile}
+use Rattle.keyboard_scancodes.specs.Profile.{followed}
 use Rattle.keyboard_scancodes.specs.FlagsAfter.{flagsAfter}
 use Rattle.keyboard_scancodes.specs.Events.{givesEvent, eventOf}
 use Rattle.keyboard_scancodes.proofs.Flags.{table-distinct}
@@ -46,7 +47,7 @@ prefix-reads (one-read {c = c} r q) = prefix-says (says c q)
 
 -- ---- the flags
 
-module _ (codes : Past Code) (c : Code) where
+module _ (profile : Profile) (codes : Past Code) (c : Code) where
   stroke-none : isPrefixCode c ≡ true → strokeSet2 codes c ≡ []
   unfolding strokeSet2
   stroke-none e = rw e
@@ -55,40 +56,40 @@ module _ (codes : Past Code) (c : Code) where
   unfolding strokeSet2
   stroke-one e = rw e
 
-  flags-none-more : strokeSet2 codes c ≡ [] → flagsSet2 (codes ▸ c) ≡ flagsSet2 codes
+  flags-none-more : strokeSet2 codes c ≡ [] → flagsSet2 profile (codes ▸ c) ≡ flagsSet2 profile codes
   unfolding flagsSet2 strokesSet2 onto
   flags-none-more e = rw e
 
-  flags-one-more : (s : Stroke) → strokeSet2 codes c ≡ s ∷ [] → flagsSet2 (codes ▸ c) ≡ flagsAfter flagTable s (flagsSet2 codes)
+  flags-one-more : (s : Stroke) → strokeSet2 codes c ≡ s ∷ [] → flagsSet2 profile (codes ▸ c) ≡ flagsAfter (followed profile) s (flagsSet2 profile codes)
   unfolding flagsSet2 strokesSet2 onto
   flags-one-more s e =
-      rw e (word-after (said (strokesSet2 codes)) (said (strokesSet2 codes ▸ s)) s (λ r. said-more (r .kind) r (strokesSet2 codes) s) flagTable table-distinct)
+      rw e (word-after (said (strokesSet2 codes)) (said (strokesSet2 codes ▸ s)) s (λ r. said-more (r .kind) r (strokesSet2 codes) s) (followed profile) (table-distinct profile))
 
 -- the stroke of a key's code is that of the byte, after as many others
-key-stroke : {codes : Past Code} {bytes : Past ℕ} → Reads codes bytes → (c : Code) {b : ℕ} → becomes c ≡ gives b → isPrefixCode c ≡ false
+key-stroke : (profile : Profile) {codes : Past Code} {bytes : Past ℕ} → Reads codes bytes → (c : Code) {b : ℕ} → becomes c ≡ gives b → isPrefixCode c ≡ false
     → strokeSet2 codes c ≡ stroke b (prefixSaid bytes) ∷ []
-key-stroke {codes} {bytes} r c {b} q n =
-    stroke-one codes c n ∙ stroke-says (says c q) n (prefixSet2 codes) ∙ ap (λ (x : Bool). stroke b x ∷ []) (sym (prefix-reads r))
+key-stroke profile {codes} {bytes} r c {b} q n =
+    stroke-one profile codes c n ∙ stroke-says (says c q) n (prefixSet2 codes) ∙ ap (λ (x : Bool). stroke b x ∷ []) (sym (prefix-reads r))
 
 prefix-silent : (c : Code) {b : ℕ} → becomes c ≡ gives b → isPrefixCode c ≡ true → isSilent b ≡ true
 prefix-silent c {b} q p = let e : isPrefix b ≡ true = prefix-says (says c q) ∙ p in rw e
 
-flags-step : {codes : Past Code} {bytes : Past ℕ} → Reads codes bytes → flagsSaid bytes ≡ flagsSet2 codes → (c : Code) {b : ℕ} → becomes c ≡ gives b
-    → flagsSaid (bytes ▸ b) ≡ flagsSet2 (codes ▸ c)
-flags-step {codes} {bytes} r same c {b} q = by (isPrefixCode c) refl
+flags-step : (profile : Profile) {codes : Past Code} {bytes : Past ℕ} → Reads codes bytes → flagsSaid profile bytes ≡ flagsSet2 profile codes → (c : Code) {b : ℕ} → becomes c ≡ gives b
+    → flagsSaid profile (bytes ▸ b) ≡ flagsSet2 profile (codes ▸ c)
+flags-step profile {codes} {bytes} r same c {b} q = by (isPrefixCode c) refl
   where
-    by : (t : Bool) → isPrefixCode c ≡ t → flagsSaid (bytes ▸ b) ≡ flagsSet2 (codes ▸ c)
+    by : (t : Bool) → isPrefixCode c ≡ t → flagsSaid profile (bytes ▸ b) ≡ flagsSet2 profile (codes ▸ c)
     by true p =
-        flags-more bytes b ∙ silent-flags b (prefix-silent c q p) (prefixSaid bytes) (flagsSaid bytes) ∙ same
-        ∙ sym (flags-none-more codes c (stroke-none codes c p))
+        flags-more profile bytes b ∙ silent-flags b (prefix-silent c q p) profile (prefixSaid bytes) (flagsSaid profile bytes) ∙ same
+        ∙ sym (flags-none-more profile codes c (stroke-none profile codes c p))
     by false n =
-        flags-more bytes b ∙ ap (flagsAfter flagTable (stroke b (prefixSaid bytes))) same
-        ∙ sym (flags-one-more codes c (stroke b (prefixSaid bytes)) (key-stroke r c q n))
+        flags-more profile bytes b ∙ ap (flagsAfter (followed profile) (stroke b (prefixSaid bytes))) same
+        ∙ sym (flags-one-more profile codes c (stroke b (prefixSaid bytes)) (key-stroke profile r c q n))
 
-pub flags-reads : {codes : Past Code} {bytes : Past ℕ} → Reads codes bytes → flagsSaid bytes ≡ flagsSet2 codes
+pub flags-reads : (profile : Profile) {codes : Past Code} {bytes : Past ℕ} → Reads codes bytes → flagsSaid profile bytes ≡ flagsSet2 profile codes
 unfolding flagsSaid flagsSet2 strokes strokesSet2
-flags-reads no-reads = refl
-flags-reads (one-read {c = c} r q) = flags-step r (flags-reads r) c q
+flags-reads profile no-reads = refl
+flags-reads profile (one-read {c = c} r q) = flags-step profile r (flags-reads profile r) c q
 
 -- ---- the events
 
@@ -97,32 +98,32 @@ event-stroke : (b flags : ℕ) (x : Bool) → eqb b 0x00 ≡ false → eventOfSt
 unfolding eventOf
 event-stroke b flags x n = rw (n, append-nil (eventOfStroke flags (stroke b x)))
 
-given-cond : (bytes : Past ℕ) (b : ℕ) → eventGiven bytes b ≡ cond (givesEvent b) (eventOf b (flagsSaid (bytes ▸ b)) ∷ []) []
-given-cond bytes b = by (givesEvent b) refl
+given-cond : (profile : Profile) (bytes : Past ℕ) (b : ℕ) → eventGiven profile bytes b ≡ cond (givesEvent b) (eventOf b (flagsSaid profile (bytes ▸ b)) ∷ []) []
+given-cond profile bytes b = by (givesEvent b) refl
   where
-    by : (t : Bool) → givesEvent b ≡ t → eventGiven bytes b ≡ cond t (eventOf b (flagsSaid (bytes ▸ b)) ∷ []) []
-    by true e = given-one bytes b e
-    by false e = given-none bytes b e
+    by : (t : Bool) → givesEvent b ≡ t → eventGiven profile bytes b ≡ cond t (eventOf b (flagsSaid profile (bytes ▸ b)) ∷ []) []
+    by true e = given-one profile bytes b e
+    by false e = given-none profile bytes b e
 
-pub event-reads : {codes : Past Code} {bytes : Past ℕ} → Reads codes bytes → (c : Code) {b : ℕ} → becomes c ≡ gives b → eventGiven bytes b ≡ eventSet2 codes c
+pub event-reads : (profile : Profile) {codes : Past Code} {bytes : Past ℕ} → Reads codes bytes → (c : Code) {b : ℕ} → becomes c ≡ gives b → eventGiven profile bytes b ≡ eventSet2 profile codes c
 unfolding eventSet2
-event-reads {codes} {bytes} r c {b} q = by (isPrefixCode c) refl
+event-reads profile {codes} {bytes} r c {b} q = by (isPrefixCode c) refl
   where
-    by : (t : Bool) → isPrefixCode c ≡ t → eventGiven bytes b ≡ eventOfStrokes (flagsSet2 (codes ▸ c)) (strokeSet2 codes c)
-    by true p = given-none bytes b (silent-gives b (prefix-silent c q p)) ∙ sym (ap (eventOfStrokes (flagsSet2 (codes ▸ c))) (stroke-none codes c p))
+    by : (t : Bool) → isPrefixCode c ≡ t → eventGiven profile bytes b ≡ eventOfStrokes (flagsSet2 profile (codes ▸ c)) (strokeSet2 codes c)
+    by true p = given-none profile bytes b (silent-gives b (prefix-silent c q p)) ∙ sym (ap (eventOfStrokes (flagsSet2 profile (codes ▸ c))) (stroke-none profile codes c p))
     by false n =
-        given-cond bytes b
-        ∙ ap (λ (w : ℕ). cond (givesEvent b) (eventOf b w ∷ []) []) (flags-step r (flags-reads r) c q)
-        ∙ sym (event-stroke b (flagsSet2 (codes ▸ c)) (prefixSaid bytes) (nonzero-says (says c q)))
-        ∙ sym (ap (eventOfStrokes (flagsSet2 (codes ▸ c))) (key-stroke r c q n))
+        given-cond profile bytes b
+        ∙ ap (λ (w : ℕ). cond (givesEvent b) (eventOf b w ∷ []) []) (flags-step profile r (flags-reads profile r) c q)
+        ∙ sym (event-stroke b (flagsSet2 profile (codes ▸ c)) (prefixSaid bytes) (nonzero-says (says c q)))
+        ∙ sym (ap (eventOfStrokes (flagsSet2 profile (codes ▸ c))) (key-stroke profile r c q n))
 
-pub events-reads : {codes : Past Code} {bytes : Past ℕ} → Reads codes bytes → eventsGiven bytes ≡ eventsSet2 codes
+pub events-reads : (profile : Profile) {codes : Past Code} {bytes : Past ℕ} → Reads codes bytes → eventsGiven profile bytes ≡ eventsSet2 profile codes
 unfolding eventsGiven eventsSet2
-events-reads no-reads = refl
-events-reads (one-read {c = c} r q) = ap₂ {C = List KeyEvent} (λ (x y : List KeyEvent). x ++ y) (events-reads r) (event-reads r c q)
+events-reads profile no-reads = refl
+events-reads profile (one-read {c = c} r q) = ap₂ {C = List KeyEvent} (λ (x y : List KeyEvent). x ++ y) (events-reads profile r) (event-reads profile r c q)
 
 -- and the same, one by one
-pub each-reads : {codes : Past Code} {bytes : Past ℕ} → Reads codes bytes → eachSaid bytes ≡ eachSet2 codes
+pub each-reads : (profile : Profile) {codes : Past Code} {bytes : Past ℕ} → Reads codes bytes → eachSaid profile bytes ≡ eachSet2 profile codes
 unfolding eachSaid eachSet2
-each-reads no-reads = refl
-each-reads (one-read {c = c} r q) = ap₂ {C = Past (List KeyEvent)} (λ (past : Past (List KeyEvent)) (es : List KeyEvent). past ▸ es) (each-reads r) (event-reads r c q)
+each-reads profile no-reads = refl
+each-reads profile (one-read {c = c} r q) = ap₂ {C = Past (List KeyEvent)} (λ (past : Past (List KeyEvent)) (es : List KeyEvent). past ▸ es) (each-reads profile r) (event-reads profile r c q)

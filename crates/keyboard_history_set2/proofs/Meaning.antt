@@ -21,9 +21,11 @@ use Rattle.scancode_set2.proofs.Table.{entry-above, both, entry-press}
 use Rattle.scancode_set2.proofs.Becomes.{top-bit}
 use Rattle.scancode_set2.proofs.Laws.{convert-became}
 use Rattle.keyboard_sides.specs.declared.Side.{Side}
-use Rattle.keyboard_record.specs.declared.Keyboards.{Keyboards}
+use Rattle.keyboard_record.specs.declared.Table.{Table}
 use Rattle.keyboard_record.specs.Record.{keyboardAt}
 use Rattle.keyboard_scancodes.specs.Strokes.{stroke, lowPart, isPress}
+use Rattle.keyboard_scancodes.specs.declared.Profile.{Profile}
+use Rattle.keyboard_scancodes.specs.Profile.{withoutLocks, followed}
 use Rattle.keyboard_scancodes.specs.FlagTable.{Kind, lock, held, left, right, FlagRow, flagRow, flagTable, isOf, has}
 use Rattle.keyboard_scancodes.proofs.Tests.{one-holds}
 use Rattle.keyboard_history.specs.Past.{Past, nothing, _▸_, onto}
@@ -32,7 +34,8 @@ use Rattle.keyboard_history.specs.Counted.{Call, countedOf}
 use Rattle.keyboard_history.specs.Run.{after}
 use Rattle.keyboard_history.proofs.Flags.{flag-bit}
 use Rattle.keyboard_history.proofs.History.{history}
-use Rattle.keyboard_history_set2.specs.SaidSet2.{prefixSet2, keyOf}
+use Rattle.keyboard_history.proofs.Referees.{LocksOff, word-locks-off}
+use Rattle.keyboard_history_set2.specs.SaidSet2.{prefixSet2, keyOf, strokesSet2, flagsSet2}
 use Rattle.keyboard_history_set2.specs.HistorySet2.{codesOf}
 use Rattle.keyboard_history_set2.specs.Demanded.{flagCodes, timesAlone, lastAlone, those, demandedSet2}
 use Rattle.keyboard_history_set2.proofs.Says.{Says, a-prefix, a-press, a-release, says}
@@ -58,10 +61,6 @@ abbrev isFlagged : ℕ → Bool
 isFlagged p =
     every (λ (c : ℕ). Bool·beq (eqb (keyOf c) (keyOf p)) (eqb c p)) 0x85
     && (ltb 0 (keyOf p) && (ltb (keyOf p) 0x60 && ltb p 0x85))
-
-all-flagged : T (each (λ (r : FlagRow). isFlagged (r .code)) flagCodes)
-unfolding entryOf printed
-all-flagged = tt
 
 module _ (p : ℕ) (t : T (isFlagged p)) where
   abbrev shared : ℕ → Bool
@@ -174,16 +173,36 @@ in-table : {r : FlagRow} {rows : List FlagRow} → List·Memᴰ r rows → List�
 in-table (List·Memᴰ·head e) = List·Memᴰ·head (ap inSet1 e)
 in-table (List·Memᴰ·tail m) = List·Memᴰ·tail (in-table m)
 
-flag-codes-said : {r : FlagRow} → List·Memᴰ r flagCodes → {codes : Past Code} {bytes : Past ℕ} → Reads codes bytes
-    → bit (r .flag) (flagsSaid bytes) ≡ demandedSet2 (r .kind) (r .code) codes
-flag-codes-said {r} m {codes} {bytes} h =
-    flag-bit bytes {r = inSet1 r} (subst (List·Memᴰ (inSet1 r)) flag-codes (in-table m))
-    ∙ kind-codes (r .kind) (r .flag) (r .code) (flagged (r .code) (each-in (λ (r : FlagRow). isFlagged (r .code)) all-flagged m)) h
+-- the rows of set 2 that a profile follows
+abbrev followedCodes : Profile → List FlagRow
+followedCodes Profile.Any = flagCodes
+followedCodes Profile.Tournament = withoutLocks flagCodes
+
+followed-codes : (profile : Profile) → map inSet1 (followedCodes profile) ≡ followed profile
+unfolding followed entryOf printed flagTable
+followed-codes Profile.Any = refl
+followed-codes Profile.Tournament = refl
+
+followed-flagged : (profile : Profile) → T (each (λ (r : FlagRow). isFlagged (r .code)) (followedCodes profile))
+unfolding entryOf printed
+followed-flagged Profile.Any = tt
+followed-flagged Profile.Tournament = tt
+
+flag-codes-said : (profile : Profile) {r : FlagRow} → List·Memᴰ r (followedCodes profile) → {codes : Past Code} {bytes : Past ℕ} → Reads codes bytes
+    → bit (r .flag) (flagsSaid profile bytes) ≡ demandedSet2 (r .kind) (r .code) codes
+flag-codes-said profile {r} m {codes} {bytes} h =
+    flag-bit profile bytes {r = inSet1 r} (subst (List·Memᴰ (inSet1 r)) (followed-codes profile) (in-table m))
+    ∙ kind-codes (r .kind) (r .flag) (r .code) (flagged (r .code) (each-in (λ (r : FlagRow). isFlagged (r .code)) (followed-flagged profile) m)) h
 
 -- each flag of a side after a list of calls in which its counted scancodes are a converted stream, by the request's sentence on the codes that were used
-module _ {A : Type 0} (keyboards : Keyboards) (lamps : Side → ℕ → Exchange (Answer A)) where
-  pub flag-set2 : (side : Side) (calls : Past Call) (stream : List ℕ) (room : ℕ) {r : FlagRow} → List·Memᴰ r flagCodes
-      → countedOf keyboards lamps side calls ≡ onto nothing (convertStream stream room .bytes)
-      → bit (r .flag) (keyboardAt side (after keyboards lamps calls .state) .modifiers .bits) ≡ demandedSet2 (r .kind) (r .code) (codesOf (take (convertStream stream room .used) stream))
+module _ {A : Type 0} (table : Table) (lamps : Side → ℕ → Exchange (Answer A)) where
+  pub flag-set2 : (side : Side) (calls : Past Call) (stream : List ℕ) (room : ℕ) {r : FlagRow} → List·Memᴰ r (followedCodes (table .profile))
+      → countedOf table lamps side calls ≡ onto nothing (convertStream stream room .bytes)
+      → bit (r .flag) (keyboardAt side (after table lamps calls .state) .modifiers .bits) ≡ demandedSet2 (r .kind) (r .code) (codesOf (take (convertStream stream room .used) stream))
   flag-set2 side calls stream room {r} m e =
-      ap (bit (r .flag)) (history keyboards lamps calls .flags side ∙ ap flagsSaid e) ∙ flag-codes-said m (reads-all (convert-became stream room))
+      ap (bit (r .flag)) (history table lamps calls .flags side ∙ ap (flagsSaid (table .profile)) e) ∙ flag-codes-said (table .profile) m (reads-all (convert-became stream room))
+
+-- "under the profile the lock rule reads "off"", whatever the codes
+pub locks-off-set2 : (codes : Past Code) → LocksOff (flagsSet2 Profile.Tournament codes)
+unfolding flagsSet2
+locks-off-set2 codes = word-locks-off (said (strokesSet2 codes))

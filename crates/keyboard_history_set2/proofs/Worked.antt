@@ -18,8 +18,9 @@ use Rattle.keyboard.specs.Scancode.{caught, scancode}
 use Rattle.keyboard_sides.specs.declared.Side.{Side}
 use Rattle.keyboard_sides.specs.Sides.{countOf}
 use Rattle.keyboard_sides.specs.Named.{Sided, sidesIn}
-use Rattle.keyboard_record.specs.declared.Keyboards.{Keyboards}
-use Rattle.keyboard_record.specs.Queue.{meets, waiting}
+use Rattle.keyboard_record.specs.Queue.{meets, admits, waiting}
+use Rattle.keyboard_scancodes.specs.declared.Profile.{Profile}
+use Rattle.keyboard_scancodes.specs.Profile.{allows, followed}
 use Rattle.keyboard_scancodes.specs.FlagTable.{flagTable, isOf, pressesLock}
 use Rattle.keyboard_scancodes.specs.Events.{keycodeAt, eventOf}
 use Rattle.keyboard_history.specs.Past.{Past, nothing, _▸_, onto}
@@ -27,7 +28,7 @@ use Rattle.keyboard_history.specs.Said.{prefixSaid, strokes, times, lastWasPres
 use Rattle.keyboard_history.specs.Counted.{Call, handling, taking, own, scancodeAfter, thrownAfter, behindAfter, joinedAfter, counted, waits, countedOf, scancodeOf, counts}
 use Rattle.keyboard_history.specs.Row.{lessMet, givenTo}
 use Rattle.keyboard_history.specs.Run.{after}
-use Rattle.keyboard_history.specs.Examples.{press, shortLamps}
+use Rattle.keyboard_history.specs.Examples.{two, press, shortLamps}
 use Rattle.keyboard_history.proofs.Row.{sided}
 use Rattle.keyboard_history_set2.specs.SaidSet2.{prefixSet2, strokeSet2, strokesSet2, flagsSet2, eventSet2, eventsSet2}
 use Rattle.keyboard_history_set2.specs.Turns.{eachSet2, eachSaid, turns, rowOf}
@@ -35,9 +36,6 @@ use Rattle.keyboard_history_set2.specs.HistorySet2.{codesOf, oneSet2}
 use Rattle.keyboard_history_set2.proofs.HistorySet2.{history-set2, both-set2}
 
 -- ---- Shift, A, and both released on the second side; meanwhile A on the first, and one event taken
-
-abbrev two : Keyboards
-two = Keyboards.Two
 
 abbrev lamps : Side → ℕ → Exchange (Answer ℕ)
 lamps side = shortLamps
@@ -61,7 +59,7 @@ left =
     ∷ sided Side.First (release Keycode.A 0x000) ∷ sided Side.Second (release Keycode.LeftShift 0x000) ∷ []
 
 counted-bytes : countedOf two lamps Side.Second calls ≡ onto nothing (convertStream stream 4 .bytes)
-unfolding own counted waits behindAfter joinedAfter thrownAfter caught scancodeAfter scancode flagTable isOf pressesLock onto convertCodes codes becomes entryOf printed putBit
+unfolding own counted waits behindAfter joinedAfter thrownAfter caught scancodeAfter scancode followed flagTable isOf pressesLock onto convertCodes codes becomes entryOf printed putBit
 counted-bytes = refl
 
 converted-whole : convertStream stream 4 .end ≡ gives success
@@ -70,7 +68,7 @@ converted-whole = refl
 
 -- what the codes of the second side and the bytes of the first say of the row
 row-codes : rowOf two (turns two lamps calls (oneSet2 two lamps Side.Second stream calls)) ≡ left
-unfolding rowOf turns counts scancodeOf own counted waits behindAfter joinedAfter thrownAfter caught scancodeAfter scancode lessMet givenTo meets countOf sidesIn onto codes eachSet2 eachSaid eventGiven eventOf flagsSaid strokes prefixSaid eventSet2 flagsSet2 strokeSet2 strokesSet2 prefixSet2 wordOf saidOf times lastWasPress flagTable isOf pressesLock entryOf printed putBit odd keycodeAt keycodeOf numbered keycodes
+unfolding rowOf turns counts scancodeOf own counted waits behindAfter joinedAfter thrownAfter caught scancodeAfter scancode lessMet givenTo admits allows meets countOf sidesIn onto codes eachSet2 eachSaid eventGiven eventOf flagsSaid strokes prefixSaid eventSet2 flagsSet2 strokeSet2 strokesSet2 prefixSet2 wordOf saidOf times lastWasPress followed flagTable isOf pressesLock entryOf printed putBit odd keycodeAt keycodeOf numbered keycodes
 row-codes = refl
 
 pub shift-a-waits : waiting (after two lamps calls) ≡ left
@@ -83,7 +81,7 @@ streams Side.First = 0x1C ∷ 0xF0 ∷ 0x1C ∷ []
 streams Side.Second = stream
 
 counted-both : (side : Side) → countedOf two lamps side calls ≡ onto nothing (convertStream (streams side) 4 .bytes)
-unfolding own counted waits behindAfter joinedAfter thrownAfter caught scancodeAfter scancode flagTable isOf pressesLock onto convertCodes codes becomes entryOf printed putBit
+unfolding own counted waits behindAfter joinedAfter thrownAfter caught scancodeAfter scancode followed flagTable isOf pressesLock onto convertCodes codes becomes entryOf printed putBit
 counted-both Side.First = refl
 counted-both Side.Second = counted-bytes
 
@@ -92,8 +90,8 @@ unfolding convertCodes codes becomes entryOf printed putBit
 converted-both Side.First = refl
 converted-both Side.Second = converted-whole
 
-row-both : rowOf two (turns two lamps calls (λ side. eachSet2 (codesOf (streams side)))) ≡ left
-unfolding rowOf turns counts scancodeOf own counted waits behindAfter joinedAfter thrownAfter caught scancodeAfter scancode lessMet givenTo meets countOf sidesIn onto codes eachSet2 eventSet2 flagsSet2 strokeSet2 strokesSet2 prefixSet2 wordOf saidOf times lastWasPress flagTable isOf pressesLock entryOf printed putBit odd keycodeAt keycodeOf numbered keycodes
+row-both : rowOf two (turns two lamps calls (λ side. eachSet2 Profile.Any (codesOf (streams side)))) ≡ left
+unfolding rowOf turns counts scancodeOf own counted waits behindAfter joinedAfter thrownAfter caught scancodeAfter scancode lessMet givenTo admits allows meets countOf sidesIn onto codes eachSet2 eventSet2 flagsSet2 strokeSet2 strokesSet2 prefixSet2 wordOf saidOf times lastWasPress followed flagTable isOf pressesLock entryOf printed putBit odd keycodeAt keycodeOf numbered keycodes
 row-both = refl
 
 pub both-wait : waiting (after two lamps calls) ≡ left
@@ -103,28 +101,30 @@ both-wait = both-set2 two lamps calls streams (λ side. 4) counted-both converte
 
 -- E0 14 is right Control, and its release is E0 F0 14: F0 is passed over in "directly after".
 pub right-control :
-    (flagsSet2 (nothing ▸ alone 0xE0 ▸ alone 0x14) ≡ 0x008)
-    × (flagsSet2 (nothing ▸ alone 0xE0 ▸ alone 0x14 ▸ alone 0xE0 ▸ afterF0 0x14) ≡ 0x000)
-    × (flagsSet2 (nothing ▸ alone 0xE0 ▸ alone 0x14 ▸ afterF0 0x14) ≡ 0x008)
-unfolding flagsSet2 strokeSet2 strokesSet2 prefixSet2 onto wordOf saidOf times lastWasPress flagTable isOf entryOf printed putBit odd
+    (flagsSet2 Profile.Any (nothing ▸ alone 0xE0 ▸ alone 0x14) ≡ 0x008)
+    × (flagsSet2 Profile.Any (nothing ▸ alone 0xE0 ▸ alone 0x14 ▸ alone 0xE0 ▸ afterF0 0x14) ≡ 0x000)
+    × (flagsSet2 Profile.Any (nothing ▸ alone 0xE0 ▸ alone 0x14 ▸ afterF0 0x14) ≡ 0x008)
+unfolding flagsSet2 strokeSet2 strokesSet2 prefixSet2 onto wordOf saidOf times lastWasPress followed flagTable isOf entryOf printed putBit odd
 right-control = (refl, refl, refl)
 
 -- F0 47 and F0 4F count as E0 and E1: the 14 behind them is right Control. 47 itself does not.
 pub released-prefix :
-    (flagsSet2 (nothing ▸ afterF0 0x47 ▸ alone 0x14) ≡ 0x008)
-    × (flagsSet2 (nothing ▸ afterF0 0x4F ▸ alone 0x14) ≡ 0x008)
-    × (flagsSet2 (nothing ▸ alone 0x47 ▸ alone 0x14) ≡ 0x004)
-unfolding flagsSet2 strokeSet2 strokesSet2 prefixSet2 onto wordOf saidOf times lastWasPress flagTable isOf entryOf printed putBit odd
+    (flagsSet2 Profile.Any (nothing ▸ afterF0 0x47 ▸ alone 0x14) ≡ 0x008)
+    × (flagsSet2 Profile.Any (nothing ▸ afterF0 0x4F ▸ alone 0x14) ≡ 0x008)
+    × (flagsSet2 Profile.Any (nothing ▸ alone 0x47 ▸ alone 0x14) ≡ 0x004)
+unfolding flagsSet2 strokeSet2 strokesSet2 prefixSet2 onto wordOf saidOf times lastWasPress followed flagTable isOf entryOf printed putBit odd
 released-prefix = (refl, refl, refl)
 
--- Both Shifts, left Control, Alt, both Supers and the three locks, by their codes.
-pub every-flag : flagsSet2 (nothing ▸ alone 0x12 ▸ alone 0x59 ▸ alone 0x14 ▸ alone 0x11 ▸ alone 0xE0 ▸ alone 0x1F ▸ alone 0xE0 ▸ alone 0x27 ▸ alone 0x58 ▸ alone 0x77 ▸ alone 0x7E) ≡ 0x3F7
-unfolding flagsSet2 strokeSet2 strokesSet2 prefixSet2 onto wordOf saidOf times lastWasPress flagTable isOf entryOf printed putBit odd
-every-flag = refl
+-- Both Shifts, left Control, Alt, both Supers and the three locks, by their codes; under the tournament profile the locks are off.
+pub every-flag :
+    (flagsSet2 Profile.Any (nothing ▸ alone 0x12 ▸ alone 0x59 ▸ alone 0x14 ▸ alone 0x11 ▸ alone 0xE0 ▸ alone 0x1F ▸ alone 0xE0 ▸ alone 0x27 ▸ alone 0x58 ▸ alone 0x77 ▸ alone 0x7E) ≡ 0x3F7)
+    × (flagsSet2 Profile.Tournament (nothing ▸ alone 0x12 ▸ alone 0x59 ▸ alone 0x14 ▸ alone 0x11 ▸ alone 0xE0 ▸ alone 0x1F ▸ alone 0xE0 ▸ alone 0x27 ▸ alone 0x58 ▸ alone 0x77 ▸ alone 0x7E) ≡ 0x077)
+unfolding flagsSet2 strokeSet2 strokesSet2 prefixSet2 onto wordOf saidOf times lastWasPress followed flagTable isOf entryOf printed putBit odd
+every-flag = (refl, refl)
 
 -- 83 and 02 are one key, F7; a key above 5D gives no event.
 pub one-key :
-    (eventsSet2 (nothing ▸ alone 0x83 ▸ afterF0 0x02) ≡ press Keycode.F7 0x000 ∷ release Keycode.F7 0x000 ∷ [])
-    × (eventsSet2 (nothing ▸ alone 0x13 ▸ afterF0 0x13 ▸ afterF0 0x65) ≡ [])
-unfolding eventsSet2 eventSet2 flagsSet2 strokeSet2 strokesSet2 prefixSet2 onto wordOf saidOf times lastWasPress flagTable isOf entryOf printed putBit odd keycodeAt keycodeOf numbered keycodes
+    (eventsSet2 Profile.Any (nothing ▸ alone 0x83 ▸ afterF0 0x02) ≡ press Keycode.F7 0x000 ∷ release Keycode.F7 0x000 ∷ [])
+    × (eventsSet2 Profile.Any (nothing ▸ alone 0x13 ▸ afterF0 0x13 ▸ afterF0 0x65) ≡ [])
+unfolding eventsSet2 eventSet2 flagsSet2 strokeSet2 strokesSet2 prefixSet2 onto wordOf saidOf times lastWasPress followed flagTable isOf entryOf printed putBit odd keycodeAt keycodeOf numbered keycodes
 one-key = (refl, refl)

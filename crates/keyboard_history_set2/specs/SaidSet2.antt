@@ -9,7 +9,8 @@ use Rattle.keycodes_ascii.specs.declared.KeyEvent.{KeyEvent}
 use Rattle.scancode_set2.specs.Table.{entryOf, orNone}
 use Rattle.scancode_set2.specs.Codes.{isPrefix, Code, alone, afterF0, endsAfterF0}
 use Rattle.keyboard_scancodes.specs.Strokes.{Stroke}
-use Rattle.keyboard_scancodes.specs.FlagTable.{flagTable}
+use Rattle.keyboard_scancodes.specs.declared.Profile.{Profile}
+use Rattle.keyboard_scancodes.specs.Profile.{followed}
 use Rattle.keyboard_scancodes.specs.Events.{keycodeAt, lastKeycode}
 use Rattle.keyboard_history.specs.Past.{Past, nothing, _▸_, onto}
 use Rattle.keyboard_history.specs.Said.{said, wordOf}
@@ -45,10 +46,10 @@ unfoldable pub strokesSet2 : Past Code → Past Stroke
 strokesSet2 nothing = nothing
 strokesSet2 (past ▸ c) = onto (strokesSet2 past) (strokeSet2 past c)
 
--- ---- the flags and the events, as the rule has them of strokes
+-- ---- the flags and the events, as the rule has them of strokes, under a profile: with it the locks are off
 
-unfoldable pub flagsSet2 : Past Code → ℕ
-flagsSet2 codes = wordOf (said (strokesSet2 codes)) flagTable
+unfoldable pub flagsSet2 : Profile → Past Code → ℕ
+flagsSet2 profile codes = wordOf (said (strokesSet2 codes)) (followed profile)
 
 -- The event of a stroke, with these flags: every key whose code is at most 5D gives one.
 abbrev pub eventOfStroke : ℕ → Stroke → List KeyEvent
@@ -62,10 +63,10 @@ eventOfStrokes flags [] = []
 eventOfStrokes flags (s ∷ strokes) = eventOfStroke flags s ++ eventOfStrokes flags strokes
 
 -- The event, if any, that a code gives after these, "with the flags just after it".
-unfoldable pub eventSet2 : Past Code → Code → List KeyEvent
-eventSet2 past c = eventOfStrokes (flagsSet2 (past ▸ c)) (strokeSet2 past c)
+unfoldable pub eventSet2 : Profile → Past Code → Code → List KeyEvent
+eventSet2 profile past c = eventOfStrokes (flagsSet2 profile (past ▸ c)) (strokeSet2 past c)
 
 -- The events that the codes give, in order.
-unfoldable pub eventsSet2 : Past Code → List KeyEvent
-eventsSet2 nothing = []
-eventsSet2 (past ▸ c) = eventsSet2 past ++ eventSet2 past c
+unfoldable pub eventsSet2 : Profile → Past Code → List KeyEvent
+eventsSet2 profile nothing = []
+eventsSet2 profile (past ▸ c) = eventsSet2 profile past ++ eventSet2 profile past c

@@ -6,7 +6,7 @@ ghost use Rattle.keyboard_init.specs.KeyboardInit.{detection, keyboardIn
 ghost use Rattle.keyboard_record.specs.Record.{fresh};
 ghost use Rattle.ps2_answers.specs.Refusals.{saidDone};
 use keyboard_record::KeyboardHandler;
-use keyboard_record::Keyboards;
+use keyboard_record::Table;
 use ps2_answers::Completion;
 use ps2_answers::Failure;
 use ps2_bytes::ScancodeSet;
@@ -24,9 +24,9 @@ pub struct KeyboardInitialized {
     pub pairs: usize,
 }
 
-// Initialises the first keyboard, with a fresh record for a table with so many keyboards.
-pub fn keyboard_init(keyboards: Keyboards, script: &[u8], log: &mut [u8]) -> KeyboardInitialized
-    ensures { λ r. ⌜ (played (saidDone (r .answer)) (r .used) (r .pairs) (now (log .exit)) ≡ play keyboardInit (now (script .entry)) (now (log .entry))) × (r .handler ≡ fresh keyboards) ⌝ }
+// Initialises the first keyboard, with a fresh record for a table: one keyboard or two, and a profile.
+pub fn keyboard_init(table: Table, script: &[u8], log: &mut [u8]) -> KeyboardInitialized
+    ensures { λ r. ⌜ (played (saidDone (r .answer)) (r .used) (r .pairs) (now (log .exit)) ≡ play keyboardInit (now (script .entry)) (now (log .entry))) × (r .handler ≡ fresh table) ⌝ }
 {
     let d = detect_type(script, log);
     let used = d.used;
@@ -39,14 +39,14 @@ pub fn keyboard_init(keyboards: Keyboards, script: &[u8], log: &mut [u8]) -> Key
             let answer = s.answer;
             KeyboardInitialized {
                 answer,
-                handler: KeyboardHandler::fresh(keyboards),
+                handler: KeyboardHandler::fresh(table),
                 used: used + s.used,
                 pairs: pairs + s.pairs,
             }
         }
         TypeAnswer::Refused(e) => KeyboardInitialized {
             answer: Completion::Refused(e),
-            handler: KeyboardHandler::fresh(keyboards),
+            handler: KeyboardHandler::fresh(table),
             used,
             pairs,
         },

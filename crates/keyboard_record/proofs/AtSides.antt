@@ -2,12 +2,13 @@
 -- Assumes nothing.
 use mathlib.Core.Path.{_≡_, refl}
 use mathlib.Core.Bool.{false, true≢false}
+use Rattle.keycodes_ascii.specs.declared.Keycode.{Keycode}
 use Rattle.keyboard_scancodes.specs.declared.KeyboardState.{KeyboardState}
 use Rattle.keyboard_sides.specs.declared.Side.{Side}
 use Rattle.keyboard_sides.specs.Sides.{sameSide}
 use Rattle.keyboard_record.specs.declared.HandlerState.{HandlerState}
 use Rattle.keyboard_record.specs.declared.KeyboardHandler.{KeyboardHandler}
-use Rattle.keyboard_record.specs.Queue.{room, oneMore, waitingSides, withoutOldest}
+use Rattle.keyboard_record.specs.Queue.{place, oneMore, waitingSides, withoutOldest}
 use Rattle.keyboard_record.specs.Record.{keyboardAt, withKeyboard}
 
 pub keyboard-at-with : (side : Side) (k : KeyboardState) (s : HandlerState) → keyboardAt side (withKeyboard side k s) ≡ k
@@ -28,11 +29,11 @@ pub with-keyboard-twice : (side : Side) (j k : KeyboardState) (s : HandlerState)
 with-keyboard-twice Side.First j k s = refl
 with-keyboard-twice Side.Second j k s = refl
 
--- ---- how many keyboards there are, and the queue
+-- ---- what the table is laid with, and the queue
 
-pub keyboards-with : (side : Side) (k : KeyboardState) (s : HandlerState) → withKeyboard side k s .keyboards ≡ s .keyboards
-keyboards-with Side.First k s = refl
-keyboards-with Side.Second k s = refl
+pub table-with : (side : Side) (k : KeyboardState) (s : HandlerState) → withKeyboard side k s .table ≡ s .table
+table-with Side.First k s = refl
+table-with Side.Second k s = refl
 
 pub start-with : (side : Side) (k : KeyboardState) (s : HandlerState) → withKeyboard side k s .start ≡ s .start
 start-with Side.First k s = refl
@@ -46,9 +47,9 @@ pub sides-with : (side : Side) (k : KeyboardState) (s : HandlerState) → waitin
 sides-with Side.First k s = refl
 sides-with Side.Second k s = refl
 
-pub room-with : (side t : Side) (k : KeyboardState) (s : HandlerState) → room t (withKeyboard side k s) ≡ room t s
-room-with Side.First t k s = refl
-room-with Side.Second t k s = refl
+pub place-with : (side t : Side) (key : Keycode) (k : KeyboardState) (s : HandlerState) → place t key (withKeyboard side k s) ≡ place t key s
+place-with Side.First t key k s = refl
+place-with Side.Second t key k s = refl
 
 pub one-more-with : (side t : Side) (k : KeyboardState) (s : HandlerState) → oneMore t (withKeyboard side k s) ≡ withKeyboard side k (oneMore t s)
 one-more-with Side.First t k s = refl

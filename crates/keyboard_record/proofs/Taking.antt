@@ -36,8 +36,8 @@ taken-cases P h p q =
     (λ w. rw (taken-malformed h w) p)
     (which (wellFormed (h .state)))
 
-pub keyboards-taken : (h : KeyboardHandler) → taken h .now .state .keyboards ≡ h .state .keyboards
-keyboards-taken h = taken-cases (λ (g : KeyboardHandler). g .state .keyboards ≡ h .state .keyboards) h refl refl
+pub table-taken : (h : KeyboardHandler) → taken h .now .state .table ≡ h .state .table
+table-taken h = taken-cases (λ (g : KeyboardHandler). g .state .table ≡ h .state .table) h refl refl
 
 pub keyboard-at-taken : (t : Side) (h : KeyboardHandler) → keyboardAt t (taken h .now .state) ≡ keyboardAt t (h .state)
 keyboard-at-taken t h = taken-cases (λ (g : KeyboardHandler). keyboardAt t (g .state) ≡ keyboardAt t (h .state)) h refl (keyboard-at-left t h)

@@ -18,10 +18,10 @@ use Rattle.keyboard_sides.proofs.Row.{sides-length, sides-none, oldest-first, p
 use Rattle.keyboard_sides.proofs.Named.{named-behind, named-length, sides-in-named, named-count}
 use Rattle.keyboard_record.specs.declared.HandlerState.{HandlerState}
 use Rattle.keyboard_record.specs.declared.KeyboardHandler.{KeyboardHandler}
-use Rattle.keyboard_record.specs.Queue.{round, room, joined, oneMore, placesWith, waiting, waitingSides, oldest, withoutOldest}
+use Rattle.keyboard_record.specs.Queue.{round, place, joined, oneMore, placesWith, waiting, waitingSides, oldest, withoutOldest}
 use Rattle.keyboard_record.specs.Record.{withKeyboard}
 use Rattle.keyboard_record.proofs.Ring.{length-round, round-pushed, round-taken}
-use Rattle.keyboard_record.proofs.Meeting.{room-says, joined-free}
+use Rattle.keyboard_record.proofs.Meeting.{place-says, joined-free}
 
 -- a record by its parts
 abbrev pub handlerOf : HandlerState → List KeyEvent → KeyboardHandler
@@ -78,8 +78,8 @@ module _ (side : Side) (h : KeyboardHandler) (e : KeyEvent) (p : length (h .plac
       ap₂ named (sides-more side s c) (round-pushed (h .places) (s .start) (s .count) e p i c)
       ∙ named-behind (waitingSides s) (round (h .places) (s .start) (s .count)) side e (as-long h)
 
-  pub waiting-joined : room side (h .state) ≡ gives success
-      → waiting (handlerOf (joined side (h .state)) (placesWith h (some e))) ≡ waiting h ++ (record { side = side; one = e } ∷ [])
+  pub waiting-joined : place side (e .keycode) (h .state) ≡ gives success
+      → waiting (handlerOf (joined side (e .keycode) (h .state)) (placesWith h (some e))) ≡ waiting h ++ (record { side = side; one = e } ∷ [])
   waiting-joined r =
-      ap (λ (s : HandlerState). waiting (handlerOf s (placesWith h (some e)))) (joined-free side (h .state) r)
-      ∙ waiting-more (room-says side (h .state) r .count-in)
+      ap (λ (s : HandlerState). waiting (handlerOf s (placesWith h (some e)))) (joined-free side (e .keycode) (h .state) r)
+      ∙ waiting-more (place-says side (e .keycode) (h .state) r .1 .count-in)

@@ -10,6 +10,7 @@ use lib.Dec.{eqb, ltb, leb}
 use borrow.Author.Tests.{lt-ltb, le-leb, ltb-true, leb-true}
 use Rattle.exchange.specs.Answer.{gives}
 use Rattle.ps2_answers.specs.Refusals.{success}
+use Rattle.keycodes_ascii.specs.declared.Keycode.{Keycode}
 use Rattle.keyboard_scancodes.specs.declared.KeyboardState.{KeyboardState}
 use Rattle.keyboard_scancodes.specs.FlagTable.{flagTable, flagLimit}
 use Rattle.keyboard_scancodes.proofs.Tests.{which}
@@ -19,11 +20,12 @@ use Rattle.keyboard_sides.proofs.Row.{both-sides, sides-length, count-append, c
 use Rattle.keyboard_record.specs.declared.HandlerState.{HandlerState}
 use Rattle.keyboard_record.specs.declared.KeyboardHandler.{KeyboardHandler}
 use Rattle.keyboard_record.specs.declared.Keyboards.{Keyboards}
-use Rattle.keyboard_record.specs.Queue.{areTwo, room, joined, oneMore, waitingSides, withoutOldest}
+use Rattle.keyboard_record.specs.declared.Table.{Table}
+use Rattle.keyboard_record.specs.Queue.{areTwo, room, place, joined, oneMore, waitingSides, withoutOldest}
 use Rattle.keyboard_record.specs.Record.{atTable, keyboardAt, withKeyboard, freshKeyboard, fresh, keyboardFormed, queueFormed, fair, sidesFormed, wellFormed, callFormed}
 use Rattle.keyboard_record.specs.Taking.{taken}
 use Rattle.keyboard_record.proofs.AtSides.{keyboard-at-more}
-use Rattle.keyboard_record.proofs.Meeting.{Meets, side-full, queue-full, free, meets-cases, Free, room-says, room-free, joined-free, joined-full}
+use Rattle.keyboard_record.proofs.Meeting.{Free, Admits, not-admitted, admitted, admits-cases, place-says, room-free, joined-free, joined-full}
 use Rattle.keyboard_record.proofs.Taking.{taken-none, taken-one}
 use Rattle.keyboard_record.proofs.Waiting.{sides-more, sides-left}
 
@@ -35,8 +37,8 @@ pub record Formed (k : KeyboardState) : Type 0 where
 pub record WellFormed (s : HandlerState) : Type 0 where
   pub start-in : s .start < 128
   pub count-in : s .count ≤ 128
-  pub at : (side : Side) → atTable (s .keyboards) side ≡ true → Formed (keyboardAt side s)
-  pub shares : (side : Side) → areTwo (s .keyboards) ≡ true → countOf side (waitingSides s) ≤ 96
+  pub at : (side : Side) → atTable (s .table .keyboards) side ≡ true → Formed (keyboardAt side s)
+  pub shares : (side : Side) → areTwo (s .table .keyboards) ≡ true → countOf side (waitingSides s) ≤ 96
 
 pub is-formed : (k : KeyboardState) → Formed k → keyboardFormed k ≡ true
 unfolding keyboardFormed
@@ -100,29 +102,29 @@ is-well s k =
     rw (
       lt-ltb (s .start) 128 (k .start-in),
       le-leb (s .count) 128 (k .count-in),
-      sides-well (s .keyboards) s (k .at) (k .shares),
+      sides-well (s .table .keyboards) s (k .at) (k .shares),
     )
 
 pub well-is : (s : HandlerState) → wellFormed s ≡ true → WellFormed s
 unfolding wellFormed
 well-is s w =
-    let p = and-eq-true-iff (queueFormed s) (sidesFormed (s .keyboards) s) .0 w in
+    let p = and-eq-true-iff (queueFormed s) (sidesFormed (s .table .keyboards) s) .0 w in
     let q = and-eq-true-iff (ltb (s .start) 128) (leb (s .count) 128) .0 (p .0) in
     record {
       start-in = ltb-true (s .start) 128 (q .0);
       count-in = leb-true (s .count) 128 (q .1);
-      at = sides-formed (s .keyboards) s (p .1);
-      shares = sides-shared (s .keyboards) s (p .1);
+      at = sides-formed (s .table .keyboards) s (p .1);
+      shares = sides-shared (s .table .keyboards) s (p .1);
     }
 
 -- a call's side is at the table, and the record well formed
-pub call-is : (side : Side) (s : HandlerState) → callFormed side s ≡ true → (atTable (s .keyboards) side ≡ true) × WellFormed s
+pub call-is : (side : Side) (s : HandlerState) → callFormed side s ≡ true → (atTable (s .table .keyboards) side ≡ true) × WellFormed s
 unfolding callFormed
 call-is side s e =
-    let p = and-eq-true-iff (atTable (s .keyboards) side) (wellFormed s) .0 e in
+    let p = and-eq-true-iff (atTable (s .table .keyboards) side) (wellFormed s) .0 e in
     (p .0, well-is s (p .1))
 
-pub is-call : (side : Side) (s : HandlerState) → atTable (s .keyboards) side ≡ true → WellFormed s → callFormed side s ≡ true
+pub is-call : (side : Side) (s : HandlerState) → atTable (s .table .keyboards) side ≡ true → WellFormed s → callFormed side s ≡ true
 unfolding callFormed
 is-call side s t k = rw (t, is-well s k)
 
@@ -132,7 +134,7 @@ fresh-keyboard : Formed freshKeyboard
 unfolding flagLimit flagTable
 fresh-keyboard = record { flags-in = omega arith; waiting-in = omega arith }
 
-fresh-at : (k : Keyboards) (side : Side) → Formed (keyboardAt side (fresh k .state))
+fresh-at : (k : Table) (side : Side) → Formed (keyboardAt side (fresh k .state))
 fresh-at k Side.First = fresh-keyboard
 fresh-at k Side.Second = fresh-keyboard
 
@@ -140,7 +142,7 @@ fresh-shares : (side : Side) → countOf side (sidesOf noSides 0) ≤ 96
 unfolding bitSides countOf
 fresh-shares side = omega arith
 
-pub fresh-well : (k : Keyboards) → WellFormed (fresh k .state)
+pub fresh-well : (k : Table) → WellFormed (fresh k .state)
 fresh-well k =
     record { start-in = omega arith; count-in = omega arith; at = λ side t. fresh-at k side; shares = λ side t. fresh-shares side }
 
@@ -154,7 +156,7 @@ share-more Side.Second Side.First l h i = omega (arith, count-append Side.First 
 share-more Side.Second Side.Second l h i = omega (arith, count-append Side.Second l (Side.Second ∷ []), count-one Side.Second Side.Second)
 
 module _ {s : HandlerState} (w : WellFormed s) where
-  at-with : (side : Side) (k : KeyboardState) → Formed k → AllFormed (s .keyboards) (withKeyboard side k s)
+  at-with : (side : Side) (k : KeyboardState) → Formed k → AllFormed (s .table .keyboards) (withKeyboard side k s)
   at-with Side.First k f Side.First t = f
   at-with Side.First k f Side.Second t = w .at Side.Second t
   at-with Side.Second k f Side.First t = w .at Side.First t
@@ -166,42 +168,40 @@ module _ {s : HandlerState} (w : WellFormed s) where
   well-keyboard Side.Second k f =
       record { start-in = w .start-in; count-in = w .count-in; at = at-with Side.Second k f; shares = w .shares }
 
-  at-more : (side t : Side) → atTable (s .keyboards) t ≡ true → Formed (keyboardAt t (oneMore side s))
+  at-more : (side t : Side) → atTable (s .table .keyboards) t ≡ true → Formed (keyboardAt t (oneMore side s))
   at-more side t h = rw (keyboard-at-more side t s) (w .at t h)
 
-  shares-more : (side : Side) → Free side s → (t : Side) → areTwo (s .keyboards) ≡ true → countOf t (waitingSides (oneMore side s)) ≤ 96
+  shares-more : (side : Side) → Free side s → (t : Side) → areTwo (s .table .keyboards) ≡ true → countOf t (waitingSides (oneMore side s)) ≤ 96
   shares-more side f t e =
       rw (sides-more side s (f .count-in)) (share-more side t (waitingSides s) (f .share-left e) (w .shares t e))
 
-  pub well-more : (side : Side) → room side s ≡ gives success → WellFormed (oneMore side s)
-  well-more side r =
-      let f = room-says side s r in
+  pub well-more : (side : Side) → Free side s → WellFormed (oneMore side s)
+  well-more side f =
       record { start-in = w .start-in; count-in = omega (arith, f .count-in); at = at-more side; shares = shares-more side f }
 
-  joined-cases : (side : Side) → Meets (s .keyboards) side (waitingSides s) → WellFormed (joined side s)
-  joined-cases side (side-full t h e) = rw (joined-full side s 31 e) w
-  joined-cases side (queue-full i h e) = rw (joined-full side s 20 e) w
-  joined-cases side (free i h e) = rw (joined-free side s e) (well-more side e)
+  joined-cases : (side : Side) (key : Keycode) → Admits (s .table) side (waitingSides s) key → WellFormed (joined side key s)
+  joined-cases side key (not-admitted {n = n} r e) = rw (joined-full side key s n e) w
+  joined-cases side key (admitted i m e) = rw (joined-free side key s e) (well-more side (place-says side key s e .1))
 
-  pub well-joined : (side : Side) → WellFormed (joined side s)
-  well-joined side = joined-cases side (meets-cases (s .keyboards) side (waitingSides s))
+  pub well-joined : (side : Side) (key : Keycode) → WellFormed (joined side key s)
+  well-joined side key = joined-cases side key (admits-cases (s .table) side (waitingSides s) key)
 
   -- "a side with fewer than 32 .. meets neither" 31 nor 20: the other has at most 96 of the 128 places
-  fewer : (side : Side) → areTwo (s .keyboards) ≡ true → countOf side (waitingSides s) < 32 → s .count < 128
+  fewer : (side : Side) → areTwo (s .table .keyboards) ≡ true → countOf side (waitingSides s) < 32 → s .count < 128
   fewer Side.First t h =
       omega (arith, both-sides (waitingSides s), sides-length (s .sides) (s .count), w .shares Side.Second t)
   fewer Side.Second t h =
       omega (arith, both-sides (waitingSides s), sides-length (s .sides) (s .count), w .shares Side.First t)
 
-  pub room-below-32 : (side : Side) → areTwo (s .keyboards) ≡ true → countOf side (waitingSides s) < 32 → room side s ≡ gives success
+  pub room-below-32 : (side : Side) → areTwo (s .table .keyboards) ≡ true → countOf side (waitingSides s) < 32 → room side s ≡ gives success
   room-below-32 side t h = room-free side s (record { share-left = λ e. omega arith; count-in = fewer side t h })
 
 module _ (h : KeyboardHandler) (w : WellFormed (h .state)) where
-  at-left : (side : Side) → atTable (h .state .keyboards) side ≡ true → Formed (keyboardAt side (withoutOldest h .state))
+  at-left : (side : Side) → atTable (h .state .table .keyboards) side ≡ true → Formed (keyboardAt side (withoutOldest h .state))
   at-left Side.First t = w .at Side.First t
   at-left Side.Second t = w .at Side.Second t
 
-  shares-left : (side : Side) → areTwo (h .state .keyboards) ≡ true → countOf side (waitingSides (withoutOldest h .state)) ≤ 96
+  shares-left : (side : Side) → areTwo (h .state .table .keyboards) ≡ true → countOf side (waitingSides (withoutOldest h .state)) ≤ 96
   shares-left side t =
       rw (sides-left h) (omega (arith, count-tail side (waitingSides (h .state)), w .shares side t))
 
@@ -216,6 +216,6 @@ module _ (h : KeyboardHandler) (w : WellFormed (h .state)) where
       (which (eqb (h .state .count) 0))
 
 -- the promise on a record as it is asked: question 21, two keyboards, and fewer than 32 events of the side that wait
-pub fair-room : (s : HandlerState) (side : Side) → wellFormed s ≡ true → areTwo (s .keyboards) ≡ true
+pub fair-room : (s : HandlerState) (side : Side) → wellFormed s ≡ true → areTwo (s .table .keyboards) ≡ true
     → countOf side (waitingSides s) < 32 → room side s ≡ gives success
 fair-room s side e = room-below-32 (well-is s e) side

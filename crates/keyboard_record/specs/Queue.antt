@@ -11,6 +11,7 @@ use Rattle.ps2_answers.specs.Refusals.{Success, success}
 use Rattle.keycodes_ascii.specs.declared.KeyAction.{KeyAction}
 use Rattle.keycodes_ascii.specs.declared.KeyEvent.{KeyEvent}
 use Rattle.keycodes_ascii.specs.declared.Keycode.{Keycode}
+use Rattle.keyboard_scancodes.specs.Profile.{allows}
 use Rattle.keyboard_sides.specs.declared.Side.{Side}
 use Rattle.keyboard_sides.specs.Sides.{sidesOf, countOf, oldestSide, withoutOldestSide, withSide}
 use Rattle.keyboard_sides.specs.Named.{Sided, named}
@@ -18,6 +19,7 @@ use Rattle.keyboard_record.specs.declared.HandlerState.{HandlerState}
 use Rattle.keyboard_record.specs.declared.KeyboardHandler.{KeyboardHandler}
 use Rattle.keyboard_record.specs.declared.Keyboards.{Keyboards}
 use Rattle.keyboard_record.specs.declared.Room.{Room}
+use Rattle.keyboard_record.specs.declared.Table.{Table}
 use Rattle.keyboard_record.specs.Limits.{queueLength, share}
 
 -- What an empty place holds.
@@ -52,25 +54,33 @@ meets keyboards side sides =
     cond (areTwo keyboards && leb share (countOf side sides)) (refuses 31) (cond (ltb (length sides) queueLength) (gives success) (refuses 20))
 
 abbrev pub room : Side → HandlerState → Answer Success
-room side s = meets (s .keyboards) side (waitingSides s)
+room side s = meets (s .table .keyboards) side (waitingSides s)
+
+-- "33 if the key is outside the profile, asked after 19, of the same bytes, and before 31": what one more event of a side meets, by its key.
+unfoldable pub admits : Table → Side → List Side → Keycode → Answer Success
+admits table side sides key = cond (allows (table .profile) key) (meets (table .keyboards) side sides) (refuses 33)
+
+abbrev pub place : Side → Keycode → HandlerState → Answer Success
+place side key s = admits (s .table) side (waitingSides s) key
 
 -- What the code's answer says of it.
 abbrev pub saidRoom : Room → Answer Success
 saidRoom Room.Free = gives success
+saidRoom Room.OutsideProfile = refuses 33
 saidRoom Room.SideFull = refuses 31
 saidRoom Room.QueueFull = refuses 20
 
 -- The state with one more event of a side that waits; and that, or the state as it was, by what the event meets.
 abbrev pub oneMore : Side → HandlerState → HandlerState
 oneMore side s =
-    record { first = s .first; second = s .second; keyboards = s .keyboards; start = s .start; count = s .count + 1; sides = withSide side (s .count) (s .sides) }
+    record { first = s .first; second = s .second; table = s .table; start = s .start; count = s .count + 1; sides = withSide side (s .count) (s .sides) }
 
 abbrev pub ifGiven : {A B : Type 0} → Answer A → B → B → B
 ifGiven (gives a) given refused = given
 ifGiven (refuses n) given refused = refused
 
-abbrev pub joined : Side → HandlerState → HandlerState
-joined side s = ifGiven (room side s) (oneMore side s) s
+abbrev pub joined : Side → Keycode → HandlerState → HandlerState
+joined side key s = ifGiven (place side key s) (oneMore side s) s
 
 -- The first place behind those that wait; the places with a new event, if there is one.
 abbrev pub freePlace : HandlerState → ℕ
@@ -93,7 +103,7 @@ withoutOldest h =
           record {
             first = h .state .first;
             second = h .state .second;
-            keyboards = h .state .keyboards;
+            table = h .state .table;
             start = next (h .state .start);
             count = h .state .count - 1;
             sides = withoutOldestSide (h .state .sides);

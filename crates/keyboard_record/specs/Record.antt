@@ -16,6 +16,7 @@ use Rattle.keyboard_sides.specs.Sides.{noSides, sidesOf, countOf}
 use Rattle.keyboard_record.specs.declared.HandlerState.{HandlerState}
 use Rattle.keyboard_record.specs.declared.KeyboardHandler.{KeyboardHandler}
 use Rattle.keyboard_record.specs.declared.Keyboards.{Keyboards}
+use Rattle.keyboard_record.specs.declared.Table.{Table}
 use Rattle.keyboard_record.specs.Limits.{queueLength, share}
 use Rattle.keyboard_record.specs.Queue.{emptyEvent}
 
@@ -33,8 +34,8 @@ keyboardAt Side.First s = s .first
 keyboardAt Side.Second s = s .second
 
 abbrev pub withKeyboard : Side → KeyboardState → HandlerState → HandlerState
-withKeyboard Side.First k s = record { first = k; second = s .second; keyboards = s .keyboards; start = s .start; count = s .count; sides = s .sides }
-withKeyboard Side.Second k s = record { first = s .first; second = k; keyboards = s .keyboards; start = s .start; count = s .count; sides = s .sides }
+withKeyboard Side.First k s = record { first = k; second = s .second; table = s .table; start = s .start; count = s .count; sides = s .sides }
+withKeyboard Side.Second k s = record { first = s .first; second = k; table = s .table; start = s .start; count = s .count; sides = s .sides }
 
 -- What is remembered of a keyboard with this prefix, these flags and these waiting bytes.
 abbrev pub keyboardOf : Bool → ℕ → WaitingBytes → KeyboardState
@@ -46,11 +47,11 @@ keyboardOf prefix flags waiting = record { prefix = prefix; modifiers = record {
 abbrev pub freshKeyboard : KeyboardState
 freshKeyboard = keyboardOf false 0 (waitingOf [])
 
--- "A fresh handler record: no prefix, no flag, an empty queue", "128 places, all empty at the start". "Whoever asks for a fresh record says one keyboard or two."
-abbrev pub fresh : Keyboards → KeyboardHandler
-fresh keyboards =
+-- "A fresh handler record: no prefix, no flag, an empty queue", "128 places, all empty at the start". "Whoever asks for a fresh record says one keyboard or two"; "the profile is chosen by the call that makes a fresh handler".
+abbrev pub fresh : Table → KeyboardHandler
+fresh table =
     record {
-      state = record { first = freshKeyboard; second = freshKeyboard; keyboards = keyboards; start = 0; count = 0; sides = noSides };
+      state = record { first = freshKeyboard; second = freshKeyboard; table = table; start = 0; count = 0; sides = noSides };
       places = replicate queueLength emptyEvent;
     }
 
@@ -74,8 +75,8 @@ sidesFormed Keyboards.One s = keyboardFormed (s .first)
 sidesFormed Keyboards.Two s = keyboardFormed (s .first) && (keyboardFormed (s .second) && fair (s .sides) (s .count))
 
 unfoldable pub wellFormed : HandlerState → Bool
-wellFormed s = queueFormed s && sidesFormed (s .keyboards) s
+wellFormed s = queueFormed s && sidesFormed (s .table .keyboards) s
 
 -- Of a handler call 21 asks also "that a handler call's side is at the table".
 unfoldable pub callFormed : Side → HandlerState → Bool
-callFormed side s = atTable (s .keyboards) side && wellFormed s
+callFormed side s = atTable (s .table .keyboards) side && wellFormed s

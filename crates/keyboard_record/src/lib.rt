@@ -3,10 +3,11 @@ ghost use mathlib.Core.Path.{_≡_};
 ghost use Rattle.exchange.specs.Answer.{numberAnswered};
 ghost use Rattle.exchange.specs.Left.{left};
 ghost use Rattle.keyboard_record.specs.Record.{fresh, atTable, keyboardAt, withKeyboard, keyboardFormed, fair, wellFormed, callFormed};
-ghost use Rattle.keyboard_record.specs.Queue.{room, joined, saidRoom};
+ghost use Rattle.keyboard_record.specs.Queue.{place, joined, saidRoom};
 ghost use Rattle.keyboard_record.specs.Taking.{saidTaken, taken};
 use keyboard_modifiers::KeyboardModifiers;
 use keyboard_scancodes::KeyboardState;
+use keyboard_scancodes::Profile;
 use keyboard_scancodes::WaitingBytes;
 use keyboard_sides::Side;
 use keyboard_sides::Sides;
@@ -30,12 +31,18 @@ pub enum Keyboards {
     Two,
 }
 
-// All of the record but the places: what the handler remembers of each side's keyboard, how many keyboards there are, and where in the places the events wait.
+// What a table is laid with: one keyboard or two, and the keys that its games allow. Whoever asks for a fresh record chooses both, and no call changes them.
+pub struct Table {
+    pub keyboards: Keyboards,
+    pub profile: Profile,
+}
+
+// All of the record but the places: what the handler remembers of each side's keyboard, what the table is laid with, and where in the places the events wait.
 // They stand in a ring: the oldest is at `start`, and `count` of them follow each other round the end. `sides` has the side of each, the oldest first.
 pub struct HandlerState {
     pub first: KeyboardState,
     pub second: KeyboardState,
-    pub keyboards: Keyboards,
+    pub table: Table,
     pub start: usize,
     pub count: usize,
     pub sides: Sides,
@@ -54,9 +61,10 @@ pub struct SideEvent {
     pub event: KeyEvent,
 }
 
-// Whether the queue takes one more event of a side: it does; the side has its share, document 02's 31; or every place is taken, document 01's 20.
+// Whether the queue takes one more event of a side: it does; its key is outside the profile, document 02's 33; the side has its share, document 02's 31; or every place is taken, document 01's 20.
 pub enum Room {
     Free,
+    OutsideProfile,
     SideFull,
     QueueFull,
 }
@@ -142,7 +150,8 @@ impl HandlerState {
         if !keyboard_formed(self.first) {
             return false;
         }
-        let keyboards = self.keyboards;
+        let table = self.table;
+        let keyboards = table.keyboards;
         match keyboards {
             Keyboards::One => true,
             Keyboards::Two => {
@@ -158,7 +167,8 @@ impl HandlerState {
     pub fn call_formed(self, side: Side) -> bool
         ensures { λ r. ⌜ r ≡ callFormed side self ⌝ }
     {
-        let keyboards = self.keyboards;
+        let table = self.table;
+        let keyboards = table.keyboards;
         if !keyboards.has(side) {
             return false;
         }
@@ -181,13 +191,13 @@ impl HandlerState {
     {
         let first = self.first;
         let second = self.second;
-        let keyboards = self.keyboards;
+        let table = self.table;
         let sides = self.sides;
         match side {
             Side::First => HandlerState {
                 first: keyboard,
                 second,
-                keyboards,
+                table,
                 start: self.start,
                 count: self.count,
                 sides,
@@ -195,7 +205,7 @@ impl HandlerState {
             Side::Second => HandlerState {
                 first,
                 second: keyboard,
-                keyboards,
+                table,
                 start: self.start,
                 count: self.count,
                 sides,
@@ -203,11 +213,16 @@ impl HandlerState {
         }
     }
 
-    // Whether the queue takes one more event of a side: 31 is asked, then 20.
-    fn room_for(self, side: Side) -> Room
-        ensures { λ r. ⌜ saidRoom r ≡ room side self ⌝ }
+    // Whether the queue takes one more event of a side, by its key: 33 is asked, then 31, then 20.
+    fn room_for(self, side: Side, keycode: Keycode) -> Room
+        ensures { λ r. ⌜ saidRoom r ≡ place side keycode self ⌝ }
     {
-        let keyboards = self.keyboards;
+        let table = self.table;
+        let profile = table.profile;
+        if !profile.allows(keycode) {
+            return Room::OutsideProfile;
+        }
+        let keyboards = table.keyboards;
         if let Keyboards::Two = keyboards {
             let sides = self.sides;
             if SHARE <= sides.count_of(side, self.count) {
@@ -220,16 +235,16 @@ impl HandlerState {
         Room::Free
     }
 
-    // One more event of a side, where the queue takes it.
-    pub fn join(self, side: Side) -> Joined
-        ensures { λ r. ⌜ (saidRoom (r .room) ≡ room side self) × (r .state ≡ joined side self) ⌝ }
+    // One more event of a side, of this key, where the queue takes it.
+    pub fn join(self, side: Side, keycode: Keycode) -> Joined
+        ensures { λ r. ⌜ (saidRoom (r .room) ≡ place side keycode self) × (r .state ≡ joined side keycode self) ⌝ }
     {
-        let room = self.room_for(side);
+        let room = self.room_for(side, keycode);
         match room {
             Room::Free => {
                 let first = self.first;
                 let second = self.second;
-                let keyboards = self.keyboards;
+                let table = self.table;
                 let sides = self.sides;
                 let count = self.count;
                 Joined {
@@ -237,13 +252,17 @@ impl HandlerState {
                     state: HandlerState {
                         first,
                         second,
-                        keyboards,
+                        table,
                         start: self.start,
                         count: count + 1,
                         sides: sides.with_side(side, count),
                     },
                 }
             }
+            Room::OutsideProfile => Joined {
+                room: Room::OutsideProfile,
+                state: self,
+            },
             Room::SideFull => Joined {
                 room: Room::SideFull,
                 state: self,
@@ -257,9 +276,9 @@ impl HandlerState {
 }
 
 impl KeyboardHandler {
-    // A fresh record for a table with so many keyboards: no prefix, no flag, no byte that waits, an empty queue.
-    pub fn fresh(keyboards: Keyboards) -> KeyboardHandler
-        ensures { λ r. ⌜ r ≡ fresh keyboards ⌝ }
+    // A fresh record for a table: no prefix, no flag, no byte that waits, an empty queue.
+    pub fn fresh(table: Table) -> KeyboardHandler
+        ensures { λ r. ⌜ r ≡ fresh table ⌝ }
     {
         let empty = KeyEvent {
             keycode: Keycode::OverflowError,
@@ -278,7 +297,7 @@ impl KeyboardHandler {
             state: HandlerState {
                 first: keyboard,
                 second: keyboard,
-                keyboards,
+                table,
                 start: 0,
                 count: 0,
                 sides: Sides { low: 0, high: 0 },
@@ -309,7 +328,7 @@ pub fn take_event(handler: KeyboardHandler) -> Taken
     }
     let first = state.first;
     let second = state.second;
-    let keyboards = state.keyboards;
+    let table = state.table;
     let sides = state.sides;
     let others = sides.without_oldest();
     let places = handler.places;
@@ -323,7 +342,7 @@ pub fn take_event(handler: KeyboardHandler) -> Taken
             state: HandlerState {
                 first,
                 second,
-                keyboards,
+                table,
                 start: (start + 1) % QUEUE_LENGTH,
                 count: count - 1,
                 sides: others,

@@ -12,6 +12,8 @@ use Rattle.bits.proofs.Bits.{bit-put-same, bit-put-other, put-lt}
 use Rattle.bits.proofs.PutBits.{put-put, put-comm}
 use Rattle.keyboard_scancodes.specs.Strokes.{Stroke}
 use Rattle.keyboard_scancodes.specs.FlagTable.{FlagRow, flagTable, flagLimit, isOf}
+use Rattle.keyboard_scancodes.specs.declared.Profile.{Profile}
+use Rattle.keyboard_scancodes.specs.Profile.{followed}
 use Rattle.keyboard_scancodes.specs.FlagsAfter.{flagAfter, rowAfter, flagsAfter}
 use Rattle.keyboard_scancodes.proofs.Tests.{neither-holds}
 
@@ -84,21 +86,24 @@ untouched s w (r ∷ rows) t =
     let p = neither-holds (isOf r s) (touches rows s) t in
     rw (p .0) (untouched s w rows (p .1))
 
--- ---- the table
+-- ---- the flags that a profile follows
 
-pub table-distinct : distinct flagTable ≡ true
-unfolding flagTable
-table-distinct = refl
+pub table-distinct : (profile : Profile) → distinct (followed profile) ≡ true
+unfolding followed flagTable
+table-distinct Profile.Any = refl
+table-distinct Profile.Tournament = refl
 
-pub table-below : below (length flagTable) flagTable ≡ true
-unfolding flagTable
-table-below = refl
+pub table-below : (profile : Profile) → below (length flagTable) (followed profile) ≡ true
+unfolding followed flagTable
+table-below Profile.Any = refl
+table-below Profile.Tournament = refl
 
 -- a word of flags has 16 bits
-pub table-below-16 : below 16 flagTable ≡ true
-unfolding flagTable
-table-below-16 = refl
+pub table-below-16 : (profile : Profile) → below 16 (followed profile) ≡ true
+unfolding followed flagTable
+table-below-16 Profile.Any = refl
+table-below-16 Profile.Tournament = refl
 
-pub flags-stay : (s : Stroke) (w : ℕ) → w < flagLimit → flagsAfter flagTable s w < flagLimit
+pub flags-stay : (profile : Profile) (s : Stroke) (w : ℕ) → w < flagLimit → flagsAfter (followed profile) s w < flagLimit
 unfolding flagLimit
-flags-stay s w l = after-lt (length flagTable) s w l flagTable table-below
+flags-stay profile s w l = after-lt (length flagTable) s w l (followed profile) (table-below profile)

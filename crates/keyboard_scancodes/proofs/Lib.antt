@@ -7,3 +7,4 @@ pub mod Untouched
 pub mod Keycodes
 pub mod LampBits
 pub mod Waiting
+pub mod Tournament

@@ -7,7 +7,9 @@ use Prim.Native.Nat.{ℕ}
 use lib.Dec.{eqb}
 use borrow.Author.Tests.{eqb-true}
 use Rattle.keyboard_scancodes.specs.Strokes.{stroke, isPrefix, isSilent}
-use Rattle.keyboard_scancodes.specs.FlagTable.{flagTable, isOf, pressesLock, isLockPress}
+use Rattle.keyboard_scancodes.specs.FlagTable.{flagTable, isOf, pressesLock}
+use Rattle.keyboard_scancodes.specs.declared.Profile.{Profile}
+use Rattle.keyboard_scancodes.specs.Profile.{followed, pressesFollowed}
 use Rattle.keyboard_scancodes.specs.Events.{isKnown, givesEvent}
 use Rattle.keyboard_scancodes.specs.FlagsAfter.{flagsAfter}
 use Rattle.keyboard_scancodes.proofs.Tests.{one-holds, neither-holds}
@@ -22,13 +24,15 @@ silent-is P b e p q r s =
     ⊎-elim (λ t. one-of-two P 0xE0 0xE1 b t p q) (λ t. one-of-two P 0x00 0xFA b t r s) (one-holds (isPrefix b) (eqb b 0x00 || eqb b 0xFA) e)
 
 module _ (b : ℕ) (e : isSilent b ≡ true) where
-  pub silent-lock : isLockPress b ≡ false
-  unfolding flagTable isOf pressesLock
-  silent-lock = silent-is (λ (b : ℕ). isLockPress b ≡ false) b e refl refl refl refl
+  pub silent-lock : (profile : Profile) → pressesFollowed profile b ≡ false
+  unfolding followed flagTable isOf pressesLock
+  silent-lock Profile.Any = silent-is (λ (b : ℕ). pressesFollowed Profile.Any b ≡ false) b e refl refl refl refl
+  silent-lock Profile.Tournament = silent-is (λ (b : ℕ). pressesFollowed Profile.Tournament b ≡ false) b e refl refl refl refl
 
-  pub silent-flags : (x : Bool) (w : ℕ) → flagsAfter flagTable (stroke b x) w ≡ w
-  unfolding flagsAfter flagTable isOf
-  silent-flags x w = silent-is (λ (b : ℕ). flagsAfter flagTable (stroke b x) w ≡ w) b e refl refl refl refl
+  pub silent-flags : (profile : Profile) (x : Bool) (w : ℕ) → flagsAfter (followed profile) (stroke b x) w ≡ w
+  unfolding flagsAfter followed flagTable isOf
+  silent-flags Profile.Any x w = silent-is (λ (b : ℕ). flagsAfter (followed Profile.Any) (stroke b x) w ≡ w) b e refl refl refl refl
+  silent-flags Profile.Tournament x w = silent-is (λ (b : ℕ). flagsAfter (followed Profile.Tournament) (stroke b x) w ≡ w) b e refl refl refl refl
 
   pub silent-gives : givesEvent b ≡ false
   silent-gives = silent-is (λ (b : ℕ). givesEvent b ≡ false) b e refl refl refl refl

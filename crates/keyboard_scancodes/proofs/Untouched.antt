@@ -7,7 +7,8 @@ use Prim.Native.Nat.{ℕ, _%_, _<_}
 use native.Mathlib.Omega.{arith}
 use lib.Dec.{eqb, ltb, lit<}
 use borrow.Author.Tests.{ne-eqb, eqb-true, ltb-true}
-use Rattle.keyboard_scancodes.specs.FlagTable.{flagTable, isOf, pressesLock, isLockPress}
+use Rattle.keyboard_scancodes.specs.FlagTable.{flagTable, isOf, pressesLock}
+use Rattle.keyboard_scancodes.specs.Strokes.{stroke}
 use Rattle.keyboard_scancodes.specs.FlagsAfter.{heldFlags, lockFlags}
 
 not-both : (a c : Bool) → (a ≡ true → c ≡ true → ⊥) → (a && c) ≡ false
@@ -21,7 +22,7 @@ module _ (b : ℕ) (fits : b < 256) where
   no-press code l press =
       not-both (eqb (b % 128) code) (ltb b 128) (λ e t. omega (arith, eqb-true (b % 128) code e, ltb-true b 128 t, press))
 
-  pub no-lock : b ≢ 0x3A → b ≢ 0x45 → b ≢ 0x46 → isLockPress b ≡ false
+  pub no-lock : b ≢ 0x3A → b ≢ 0x45 → b ≢ 0x46 → pressesLock flagTable (stroke b false) ≡ false
   unfolding flagTable isOf pressesLock
   no-lock n1 n2 n3 = rw (no-press 0x3A (lit< tt) n1, no-press 0x45 (lit< tt) n2, no-press 0x46 (lit< tt) n3)
 

@@ -63,7 +63,3 @@ isLock right = false
 unfoldable pub pressesLock : List FlagRow → Stroke → Bool
 pressesLock [] s = false
 pressesLock (r ∷ rows) s = isLock (r .kind) && isOf r s || pressesLock rows s
-
--- Whether a byte is the press of a lock; a prefix before it makes no difference.
-abbrev pub isLockPress : ℕ → Bool
-isLockPress b = pressesLock flagTable (stroke b false)

@@ -6,7 +6,9 @@ use Prim.Native.Nat.{ℕ}
 use Rattle.bits.specs.Bits.{bit, putBit}
 use Rattle.keyboard_scancodes.specs.declared.KeyboardState.{KeyboardState}
 use Rattle.keyboard_scancodes.specs.Strokes.{Stroke, stroke}
-use Rattle.keyboard_scancodes.specs.FlagTable.{Kind, lock, held, left, right, FlagRow, flagTable, isOf, isLock}
+use Rattle.keyboard_scancodes.specs.FlagTable.{Kind, lock, held, left, right, FlagRow, isOf, isLock}
+use Rattle.keyboard_scancodes.specs.declared.Profile.{Profile}
+use Rattle.keyboard_scancodes.specs.Profile.{followed}
 
 -- A flag after a stroke of its key: a lock's press turns it over, another key's stroke sets it to "is pressed".
 abbrev pub flagAfter : Kind → Bool → Bool → Bool
@@ -40,6 +42,6 @@ heldFlags rows code prefixed = flagsOf (holds (record { code = code; pressed = t
 abbrev pub lockFlags : List FlagRow → ℕ → ℕ
 lockFlags rows code = flagsOf (locks (record { code = code; pressed = true; prefixed = false })) rows
 
--- The flags of a keyboard just after a byte.
-unfoldable pub flagsThen : KeyboardState → ℕ → ℕ
-flagsThen k b = flagsAfter flagTable (stroke b (k .prefix)) (k .modifiers .bits)
+-- The flags of a keyboard just after a byte, under a profile.
+unfoldable pub flagsThen : Profile → KeyboardState → ℕ → ℕ
+flagsThen profile k b = flagsAfter (followed profile) (stroke b (k .prefix)) (k .modifiers .bits)

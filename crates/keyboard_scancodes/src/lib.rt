@@ -1,12 +1,15 @@
 // What scancodes say by themselves, with what the handler remembers of one keyboard: whether a byte is a prefix, no key's or a lock's press, and the flags just after it; the lamps of the locks that are on.
+ghost use mathlib.Core.Bool.{false};
 ghost use mathlib.Core.Path.{_≡_};
 ghost use Rattle.keyboard_scancodes.specs.Strokes.{stroke, isPrefix, isSilent};
-ghost use Rattle.keyboard_scancodes.specs.FlagTable.{flagTable, isLockPress};
+ghost use Rattle.keyboard_scancodes.specs.FlagTable.{flagTable, pressesLock};
+ghost use Rattle.keyboard_scancodes.specs.Profile.{allows, isTournamentCode, followed, pressesFollowed};
 ghost use Rattle.keyboard_scancodes.specs.FlagsAfter.{flagsAfter, heldFlags, lockFlags};
 ghost use Rattle.keyboard_scancodes.specs.Lamps.{lampsLit};
 ghost use Rattle.keyboard_scancodes.specs.Waiting.{waitingIn};
 use keyboard_modifiers::KeyboardModifiers;
 use keycodes_ascii::KEY_RELEASED_OFFSET;
+use keycodes_ascii::Keycode;
 use ps2_kept::KEPT_LIMIT;
 use ps2_kept::KeptBytes;
 use ps2_layouts::LEDState;
@@ -46,6 +49,29 @@ const SCROLL_LOCK: u8 = 0x46;
 const ALT_AND_ALT_RIGHT: KeyboardModifiers = KeyboardModifiers {
     bits: 1 << 4 | 1 << 10,
 };
+
+// The keys that rated games allow, a bit for each keycode: Escape, the digits, Q to P, Enter, Control, A to L, the left Shift, Z to M, the right Shift;
+const TOURNAMENT_KEYS: u64 = 1 << 0x01
+    | 0x3FF << 0x02
+    | 0x3FF << 0x10
+    | 1 << 0x1C
+    | 1 << 0x1D
+    | 0x1FF << 0x1E
+    | 1 << 0x2A
+    | 0x7F << 0x2C
+    | 1 << 0x36;
+
+// and from keycode 40 on: up, left, right, down.
+const TOURNAMENT_ARROWS: u64 = 1 << (0x48 - 0x40)
+    | 1 << (0x4B - 0x40)
+    | 1 << (0x4D - 0x40)
+    | 1 << (0x50 - 0x40);
+
+// Under which keys a game is played: any, or those that rated games allow.
+pub enum Profile {
+    Any,
+    Tournament,
+}
 
 // Bytes that wait to be taken, the oldest first: a lamp exchange threw them away.
 pub struct WaitingBytes {
@@ -135,9 +161,54 @@ fn lock_flag(code: u8) -> KeyboardModifiers
     }
 }
 
+// The same of the locks that a profile follows.
+fn followed_lock(profile: Profile, code: u8) -> KeyboardModifiers
+    ensures { λ r. ⌜ r .bits ≡ lockFlags (followed profile) code ⌝ }
+{
+    match profile {
+        Profile::Any => lock_flag(code),
+        Profile::Tournament => KeyboardModifiers { bits: 0 },
+    }
+}
+
+impl Profile {
+    // Whether a key's events are queued.
+    pub fn allows(self, keycode: Keycode) -> bool
+        ensures { λ r. ⌜ r ≡ allows self keycode ⌝ }
+    {
+        match self {
+            Profile::Any => true,
+            Profile::Tournament => is_tournament_key(keycode.to_byte()),
+        }
+    }
+}
+
+// Whether rated games allow a key, by its number.
+fn is_tournament_key(code: u8) -> bool
+    ensures { λ r. ⌜ r ≡ isTournamentCode code ⌝ }
+{
+    if code < 64 {
+        return TOURNAMENT_KEYS & (1 << code) != 0;
+    }
+    if code < 128 {
+        return TOURNAMENT_ARROWS & (1 << (code - 64)) != 0;
+    }
+    false
+}
+
+// The press of a lock that a profile follows: Caps Lock, Num Lock or Scroll Lock, or none.
+pub fn is_lock_press(profile: Profile, scan_code: u8) -> bool
+    ensures { λ r. ⌜ r ≡ pressesFollowed profile «scan_code» ⌝ }
+{
+    match profile {
+        Profile::Any => presses_lock(scan_code),
+        Profile::Tournament => false,
+    }
+}
+
 // The press of Caps Lock, Num Lock or Scroll Lock.
-pub fn is_lock_press(scan_code: u8) -> bool
-    ensures { λ r. ⌜ r ≡ isLockPress «scan_code» ⌝ }
+fn presses_lock(scan_code: u8) -> bool
+    ensures { λ r. ⌜ r ≡ pressesLock flagTable (stroke «scan_code» false) ⌝ }
 {
     match scan_code {
         CAPS_LOCK => true,
@@ -147,15 +218,19 @@ pub fn is_lock_press(scan_code: u8) -> bool
     }
 }
 
-// The flags just after a scancode: a key's press holds its flags down and its release lets them go; a lock goes over at its press.
-pub fn modifiers_after(keyboard: KeyboardState, scan_code: u8) -> KeyboardModifiers
-    ensures { λ r. ⌜ r .bits ≡ flagsAfter flagTable (stroke «scan_code» (keyboard .prefix)) (keyboard .modifiers .bits) ⌝ }
+// The flags just after a scancode: a key's press holds its flags down and its release lets them go; a lock that the profile follows goes over at its press.
+pub fn modifiers_after(
+    profile: Profile,
+    keyboard: KeyboardState,
+    scan_code: u8,
+) -> KeyboardModifiers
+    ensures { λ r. ⌜ r .bits ≡ flagsAfter (followed profile) (stroke «scan_code» (keyboard .prefix)) (keyboard .modifiers .bits) ⌝ }
 {
     let modifiers = keyboard.modifiers;
     let code = scan_code & LOW_PART;
     let held = held_flags(code, keyboard.prefix);
     if scan_code < KEY_RELEASED_OFFSET {
-        let lock = lock_flag(code);
+        let lock = followed_lock(profile, code);
         return modifiers.insert(held).toggle(lock);
     }
     modifiers.remove(held)

@@ -6,8 +6,10 @@ use keyboard::handle;
 use keyboard_modifiers::KeyboardModifiers;
 use keyboard_record::KeyboardHandler;
 use keyboard_record::Keyboards;
+use keyboard_record::Table;
 use keyboard_record::TakenEvent;
 use keyboard_record::take_event;
+use keyboard_scancodes::Profile;
 use keyboard_sides::Side;
 use libc::STDOUT_FILENO;
 
@@ -18,6 +20,14 @@ const CONTROL_RELEASED: u8 = 0x9D;
 const A_PRESSED: u8 = 0x1E;
 
 const T_PRESSED: u8 = 0x14;
+
+// A table with so many keyboards, for any keys.
+fn table_of(keyboards: Keyboards) -> Table {
+    Table {
+        keyboards,
+        profile: Profile::Any,
+    }
+}
 
 // A handler call for a side, on a script of one byte.
 fn handle_byte(handler: KeyboardHandler, side: Side, scan_code: u8) -> Handled {
@@ -162,7 +172,7 @@ fn tell_t(handler: KeyboardHandler) {
 // What a full queue does not take, the flags do.
 fn tell_full_queue() {
     let held = after_byte(
-        KeyboardHandler::fresh(Keyboards::One),
+        KeyboardHandler::fresh(table_of(Keyboards::One)),
         Side::First,
         CONTROL_PRESSED,
     );
@@ -186,7 +196,11 @@ fn tell_full_queue() {
 
 // What one side sends does not take the other side's room.
 fn tell_two_sides() {
-    let filled = fill(KeyboardHandler::fresh(Keyboards::Two), Side::First, 200);
+    let filled = fill(
+        KeyboardHandler::fresh(table_of(Keyboards::Two)),
+        Side::First,
+        200,
+    );
     let full = filled.handler;
     tell(
         b"Two keyboards; side 1 presses A 200 times: ",

@@ -5,8 +5,10 @@ use dispatcher::Served;
 use keyboard_record::KeyboardHandler;
 use keyboard_record::Keyboards;
 use keyboard_record::SideEvent;
+use keyboard_record::Table;
 use keyboard_record::TakenEvent;
 use keyboard_record::take_event;
+use keyboard_scancodes::Profile;
 use keyboard_sides::Side;
 use keycodes_ascii::KeyAction;
 use libc::STDOUT_FILENO;
@@ -167,7 +169,13 @@ fn turn(state: Dispatcher, without: usize, first: &[u8], second: &[u8], third: &
 
 // Steps until nobody waits, or until a whole round took no byte.
 fn show(keyboards: Keyboards, first: &[u8], second: &[u8], third: &[u8]) {
-    let mut state = Dispatcher::new(KeyboardHandler::fresh(keyboards), PS2Mouse::new());
+    let mut state = Dispatcher::new(
+        KeyboardHandler::fresh(Table {
+            keyboards,
+            profile: Profile::Any,
+        }),
+        PS2Mouse::new(),
+    );
     let mut without: usize = 0;
     let mut steps: usize = 0;
     while steps < STEPS {

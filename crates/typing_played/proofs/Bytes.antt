@@ -16,7 +16,8 @@ use Rattle.typing.specs.Typing.{strokesOf, scancodes}
 use Rattle.typing.proofs.Keys.{chosen}
 use Rattle.typing.proofs.Texts.{Keyed, no-text, one-key}
 use Rattle.keyboard_scancodes.specs.Strokes.{stroke}
-use Rattle.keyboard_scancodes.specs.FlagTable.{flagTable, isLockPress}
+use Rattle.keyboard_scancodes.specs.declared.Profile.{Profile}
+use Rattle.keyboard_scancodes.specs.Profile.{followed, pressesFollowed}
 use Rattle.keyboard_scancodes.specs.FlagsAfter.{flagsAfter}
 use Rattle.keyboard_scancodes.specs.Events.{eventOf}
 use Rattle.keyboard_history.specs.Past.{Past, nothing, _▸_, onto}
@@ -29,21 +30,21 @@ use Rattle.typing_played.proofs.Keys.{held, Strikes, press-strikes, rel
 -- none of the bytes presses a lock
 pub data NoLocks : Past ℕ → Type 0 where
   no-bytes : NoLocks nothing
-  one-more : {past : Past ℕ} {b : ℕ} → NoLocks past → isLockPress b ≡ false → NoLocks (past ▸ b)
+  one-more : {past : Past ℕ} {b : ℕ} → NoLocks past → pressesFollowed Profile.Any b ≡ false → NoLocks (past ▸ b)
 
 -- the bytes say that Shift is held, or not, and nothing else
 pub record At (shift : Bool) (past : Past ℕ) : Type 0 where
-  pub flags : flagsSaid past ≡ held shift
+  pub flags : flagsSaid Profile.Any past ≡ held shift
   pub prefix : prefixSaid past ≡ false
 
 pub at-first : At false nothing
 unfolding prefixSaid putBit
-at-first = record { flags = flags-none; prefix = refl }
+at-first = record { flags = flags-none Profile.Any; prefix = refl }
 
 -- bytes behind others, whose press events have these characters
 pub record Says (past : Past ℕ) (shift : Bool) (text : List ℕ) (bytes : Past ℕ) : Type 0 where
   pub at : At shift bytes
-  pub is-text : characters (eventsGiven bytes) ≡ characters (eventsGiven past) ++ text
+  pub is-text : characters (eventsGiven Profile.Any bytes) ≡ characters (eventsGiven Profile.Any past) ++ text
   pub locks : NoLocks past → NoLocks bytes
 
 characters-append : (es ks : List KeyEvent) → characters (es ++ ks) ≡ characters es ++ characters ks
@@ -57,7 +58,7 @@ says-then : {a b c : Past ℕ} {s t : Bool} {x y : List ℕ} → Says a s x b �
 says-then {a} {b} {c} {s} {t} {x} {y} h g =
     record {
       at = g .at;
-      is-text = g .is-text ∙ ap (λ (l : List ℕ). l ++ y) (h .is-text) ∙ append-assoc (characters (eventsGiven a)) x y;
+      is-text = g .is-text ∙ ap (λ (l : List ℕ). l ++ y) (h .is-text) ∙ append-assoc (characters (eventsGiven Profile.Any a)) x y;
       locks = λ n. g .locks (h .locks n);
     }
 
@@ -67,14 +68,14 @@ says-byte : {past : Past ℕ} {s t : Bool} {b : ℕ} {text : List ℕ} → At s 
     → characters (eventOf b (held t) ∷ []) ≡ text → Says past t text (past ▸ b)
 unfolding prefixSaid eventsGiven
 says-byte {past} {s} {t} {b} {text} a x e =
-    let flags : flagsSaid (past ▸ b) ≡ held t =
-    flags-more past b ∙ ap₂ (λ (p : Bool) (w : ℕ). flagsAfter flagTable (stroke b p) w) (a .prefix) (a .flags) ∙ x .flags in
-    let event : eventGiven past b ≡ eventOf b (held t) ∷ [] = given-one past b (x .gives-event) ∙ ap (λ (w : ℕ). eventOf b w ∷ []) flags in
+    let flags : flagsSaid Profile.Any (past ▸ b) ≡ held t =
+    flags-more Profile.Any past b ∙ ap₂ (λ (p : Bool) (w : ℕ). flagsAfter (followed Profile.Any) (stroke b p) w) (a .prefix) (a .flags) ∙ x .flags in
+    let event : eventGiven Profile.Any past b ≡ eventOf b (held t) ∷ [] = given-one Profile.Any past b (x .gives-event) ∙ ap (λ (w : ℕ). eventOf b w ∷ []) flags in
     record {
       at = record { flags = flags; prefix = x .no-prefix };
       is-text =
-          characters-append (eventsGiven past) (eventGiven past b)
-          ∙ ap (λ (l : List ℕ). characters (eventsGiven past) ++ l) (ap characters event ∙ e);
+          characters-append (eventsGiven Profile.Any past) (eventGiven Profile.Any past b)
+          ∙ ap (λ (l : List ℕ). characters (eventsGiven Profile.Any past) ++ l) (ap characters event ∙ e);
       locks = λ n. one-more n (x .no-lock);
     }
 
@@ -110,7 +111,7 @@ onto-append past (b ∷ l) m = onto-append (past ▸ b) l m
 
 pub says-text : {text : List ℕ} {ks : List Key} {past : Past ℕ} → Keyed text ks → At false past → Says past false text (onto past (scancodes ks))
 unfolding scancodes onto
-says-text {past = past} no-text a = record { at = a; is-text = sym (append-nil (characters (eventsGiven past))); locks = λ n. n }
+says-text {past = past} no-text a = record { at = a; is-text = sym (append-nil (characters (eventsGiven Profile.Any past))); locks = λ n. n }
 says-text {past = past} (one-key {c = c} {k = k} {text = text} {ks = ks} e h) a =
     let one = says-key c a e in
     subst⁻¹ (Says past false (c ∷ text)) (onto-append past (strokesOf k) (scancodes ks)) (says-then one (says-text h (one .at)))

@@ -15,18 +15,21 @@ use Rattle.ps2_answers.specs.Refusals.{success}
 use Rattle.exchange.proofs.Kept.{used-le, pairs-le, log-length}
 use Rattle.exchange.proofs.Longer.{play-longer}
 use Rattle.keycodes_ascii.specs.declared.KeyEvent.{KeyEvent}
-use Rattle.keyboard_scancodes.specs.FlagTable.{isLockPress}
+use Rattle.keycodes_ascii.specs.declared.Keycode.{Keycode}
+use Rattle.keyboard_scancodes.specs.declared.Profile.{Profile}
+use Rattle.keyboard_scancodes.specs.Profile.{allows, pressesFollowed}
 use Rattle.keyboard_scancodes.specs.Events.{eventOf, givesEvent}
 use Rattle.keyboard_scancodes.proofs.Tests.{which}
 use Rattle.keyboard_sides.specs.declared.Side.{Side}
 use Rattle.keyboard_sides.specs.Sides.{sameSide, countOf}
 use Rattle.keyboard_sides.specs.Named.{Sided, ofSide, sidesIn}
 use Rattle.keyboard_record.specs.declared.Keyboards.{Keyboards}
-use Rattle.keyboard_record.specs.Queue.{meets}
+use Rattle.keyboard_record.specs.Queue.{meets, admits}
 use Rattle.keyboard_record.specs.Record.{atTable}
 use Rattle.keyboard_record.specs.declared.HandlerState.{HandlerState}
 use Rattle.keyboard_record.specs.declared.KeyboardHandler.{KeyboardHandler}
 use Rattle.keyboard.specs.Answers.{ends2-3-21}
+use Rattle.keyboard.specs.Rules.{Rules, rulesOf}
 use Rattle.keyboard.specs.Scancode.{isSome, caught, scancode}
 use Rattle.keyboard.specs.Handler.{Outcome, handle, effects, handled, logLeft}
 use Rattle.keyboard.proofs.Counted.{answerEnd, lack-ends}
@@ -39,16 +42,16 @@ use Rattle.keyboard_history.proofs.History.{history}
 use Rattle.keyboard_history.proofs.Row.{given-none, given-one, less-none, less-room, less-append, events-append}
 use Rattle.keyboard_history.proofs.Own.{own-more, own-other}
 use Rattle.typing_played.specs.Fed.{Feeds, nothing-fed, one-fed}
-use Rattle.typing_played.specs.Played.{Quiet, no-call, quiet-call, quiet-taking}
+use Rattle.typing_played.specs.Played.{unrated, Quiet, no-call, quiet-call, quiet-taking}
 use Rattle.typing_played.proofs.Bytes.{NoLocks, one-more}
 
 -- ---- an empty row
 
 -- has room for an event of any side
-meets-free : (keyboards : Keyboards) (side : Side) → meets keyboards side [] ≡ gives success
-unfolding meets countOf
-meets-free Keyboards.One side = refl
-meets-free Keyboards.Two side = refl
+meets-free : (keyboards : Keyboards) (side : Side) (key : Keycode) → admits (unrated keyboards) side [] key ≡ gives success
+unfolding admits allows meets countOf
+meets-free Keyboards.One side key = refl
+meets-free Keyboards.Two side key = refl
 
 one-joins : (g : Given) (gs : List Given) → g .met ≡ gives success → lessMet gs ≡ events gs → lessMet (g ∷ gs) ≡ events (g ∷ gs)
 unfolding lessMet
@@ -56,40 +59,43 @@ one-joins g gs m e = rw m (ap (λ (l : List (Sided KeyEvent)). g .event ∷ l) e
 
 module _ (keyboards : Keyboards) (side : Side) where
   -- every event joins it
-  all-join : (es : List KeyEvent) → lessMet (givenTo keyboards side [] es) ≡ events (givenTo keyboards side [] es)
+  all-join : (es : List KeyEvent) → lessMet (givenTo (unrated keyboards) side [] es) ≡ events (givenTo (unrated keyboards) side [] es)
   unfolding lessMet givenTo sidesIn
   all-join [] = refl
-  all-join (e ∷ es) = one-joins (record { event = record { side = side; one = e }; met = meets keyboards side [] }) (givenTo keyboards side [] es) (meets-free keyboards side) (all-join es)
+  all-join (e ∷ es) = one-joins (record { event = record { side = side; one = e }; met = admits (unrated keyboards) side [] (e .keycode) }) (givenTo (unrated keyboards) side [] es) (meets-free keyboards side (e .keycode)) (all-join es)
 
   -- a byte gives one event at most, and the taking after it leaves none
-  rest-none : (past : Past ℕ) (b : ℕ) → rest (lessMet (givenTo keyboards side [] (eventGiven past b))) ≡ []
+  rest-none : (past : Past ℕ) (b : ℕ) → rest (lessMet (givenTo (unrated keyboards) side [] (eventGiven Profile.Any past b))) ≡ []
   unfolding sidesIn
   rest-none past b = by (which (givesEvent b))
     where
-      by : (givesEvent b ≡ true) ⊎ (givesEvent b ≡ false) → rest (lessMet (givenTo keyboards side [] (eventGiven past b))) ≡ []
-      by (inl e) = rw (given-one past b e, less-room keyboards side [] (eventOf b (flagsSaid (past ▸ b))) (meets-free keyboards side))
-      by (inr e) = rw (given-none past b e, less-none keyboards side [])
+      by : (givesEvent b ≡ true) ⊎ (givesEvent b ≡ false) → rest (lessMet (givenTo (unrated keyboards) side [] (eventGiven Profile.Any past b))) ≡ []
+      by (inl e) = rw (given-one Profile.Any past b e, less-room (unrated keyboards) side [] (eventOf b (flagsSaid Profile.Any (past ▸ b))) (meets-free keyboards side _))
+      by (inr e) = rw (given-none Profile.Any past b e, less-none (unrated keyboards) side [])
 
 module _ {A : Type 0} (lamps : ℕ → Exchange (Answer A)) where
+  abbrev rules : Rules A
+  rules = rulesOf Profile.Any lamps
+
   -- ---- one byte
 
   -- where none waits, a byte that presses no lock is counted, whatever script and log are, and none waits after it
-  counts-byte : (bytes : Past ℕ) (b : ℕ) (more log : List ℕ) → isLockPress b ≡ false → scancodeAfter lamps bytes [] (b ∷ more) log ≡ some b
+  counts-byte : (bytes : Past ℕ) (b : ℕ) (more log : List ℕ) → pressesFollowed Profile.Any b ≡ false → scancodeAfter rules bytes [] (b ∷ more) log ≡ some b
   unfolding scancodeAfter scancode
   counts-byte bytes b more log e = rw e
 
-  throws-none : (bytes : Past ℕ) (b : ℕ) (more log : List ℕ) → isLockPress b ≡ false → thrownAfter lamps bytes [] (b ∷ more) log ≡ []
+  throws-none : (bytes : Past ℕ) (b : ℕ) (more log : List ℕ) → pressesFollowed Profile.Any b ≡ false → thrownAfter rules bytes [] (b ∷ more) log ≡ []
   unfolding thrownAfter caught
   throws-none bytes b more log e = rw e
 
-  none-behind : (bytes : Past ℕ) (b : ℕ) (more log : List ℕ) → isLockPress b ≡ false → behindAfter lamps bytes [] (b ∷ more) log ≡ []
+  none-behind : (bytes : Past ℕ) (b : ℕ) (more log : List ℕ) → pressesFollowed Profile.Any b ≡ false → behindAfter rules bytes [] (b ∷ more) log ≡ []
   unfolding behindAfter
   none-behind bytes b more log e = rw (counts-byte bytes b more log e)
 
-  none-joins : (bytes : Past ℕ) (b : ℕ) (more log : List ℕ) → isLockPress b ≡ false → joinedAfter lamps bytes [] (b ∷ more) log ≡ []
+  none-joins : (bytes : Past ℕ) (b : ℕ) (more log : List ℕ) → pressesFollowed Profile.Any b ≡ false → joinedAfter rules bytes [] (b ∷ more) log ≡ []
   unfolding joinedAfter
   none-joins bytes b more log e =
-      let n = room (behindAfter lamps bytes [] (b ∷ more) log) in
+      let n = room (behindAfter rules bytes [] (b ∷ more) log) in
       ap (λ (l : List ℕ). take n l) (throws-none bytes b more log e) ∙ take-nil {A = ℕ} n
 
 module _ {A : Type 0} (keyboards : Keyboards) (lamps : Side → ℕ → Exchange (Answer A)) (side : Side) (at : atTable keyboards side ≡ true) where
@@ -99,71 +105,71 @@ module _ {A : Type 0} (keyboards : Keyboards) (lamps : Side → ℕ → Exchange
   unfolding own
   own-fed calls script log = own-more keyboards calls side script log at
 
-  pub fed-waits : {bytes : Past ℕ} {calls : Past Call} → Feeds side bytes calls → NoLocks bytes → waitsOf keyboards lamps side calls ≡ []
+  pub fed-waits : {bytes : Past ℕ} {calls : Past Call} → Feeds side bytes calls → NoLocks bytes → waitsOf (unrated keyboards) lamps side calls ≡ []
   unfolding waits own
   fed-waits nothing-fed n = refl
   fed-waits (one-fed {bytes = bytes} {calls = calls} b more log f) (one-more n e) =
-      let past = countedOf keyboards lamps side calls in
-      ap (waits (lamps side)) (own-fed calls (b ∷ more) log)
-      ∙ ap (λ (ws : List ℕ). behindAfter (lamps side) past ws (b ∷ more) log ++ joinedAfter (lamps side) past ws (b ∷ more) log) (fed-waits f n)
+      let past = countedOf (unrated keyboards) lamps side calls in
+      ap (waits (rulesOf Profile.Any (lamps side))) (own-fed calls (b ∷ more) log)
+      ∙ ap (λ (ws : List ℕ). behindAfter (rulesOf Profile.Any (lamps side)) past ws (b ∷ more) log ++ joinedAfter (rulesOf Profile.Any (lamps side)) past ws (b ∷ more) log) (fed-waits f n)
       ∙ ap₂ {C = List ℕ} (λ (x y : List ℕ). x ++ y) (none-behind (lamps side) past b more log e) (none-joins (lamps side) past b more log e)
 
   -- where none waits, a byte that presses no lock is counted
-  counts-fed : (calls : Past Call) (b : ℕ) (more log : List ℕ) → waitsOf keyboards lamps side calls ≡ [] → isLockPress b ≡ false
-      → scancodeOf keyboards lamps calls side (b ∷ more) log ≡ some b
+  counts-fed : (calls : Past Call) (b : ℕ) (more log : List ℕ) → waitsOf (unrated keyboards) lamps side calls ≡ [] → pressesFollowed Profile.Any b ≡ false
+      → scancodeOf (unrated keyboards) lamps calls side (b ∷ more) log ≡ some b
   unfolding scancodeOf
-  counts-fed calls b more log w e = rw (at, w) (counts-byte (lamps side) (countedOf keyboards lamps side calls) b more log e)
+  counts-fed calls b more log w e = rw (at, w) (counts-byte (lamps side) (countedOf (unrated keyboards) lamps side calls) b more log e)
 
-  pub fed-counted : {bytes : Past ℕ} {calls : Past Call} → Feeds side bytes calls → NoLocks bytes → countedOf keyboards lamps side calls ≡ bytes
+  pub fed-counted : {bytes : Past ℕ} {calls : Past Call} → Feeds side bytes calls → NoLocks bytes → countedOf (unrated keyboards) lamps side calls ≡ bytes
   unfolding counted own
   fed-counted nothing-fed n = refl
   fed-counted (one-fed {bytes = bytes} {calls = calls} b more log f) (one-more n e) =
-      let past = countedOf keyboards lamps side calls in
-      ap (counted (lamps side)) (own-fed calls (b ∷ more) log)
-      ∙ ap (λ (ws : List ℕ). count past (scancodeAfter (lamps side) past ws (b ∷ more) log)) (fed-waits f n)
+      let past = countedOf (unrated keyboards) lamps side calls in
+      ap (counted (rulesOf Profile.Any (lamps side))) (own-fed calls (b ∷ more) log)
+      ∙ ap (λ (ws : List ℕ). count past (scancodeAfter (rulesOf Profile.Any (lamps side)) past ws (b ∷ more) log)) (fed-waits f n)
       ∙ ap (count past) (counts-byte (lamps side) past b more log e)
       ∙ ap (λ (p : Past ℕ). p ▸ b) (fed-counted f n)
 
   -- another side has no bytes
-  pub fed-other : {bytes : Past ℕ} {calls : Past Call} (other : Side) → sameSide other side ≡ false → Feeds side bytes calls → countedOf keyboards lamps other calls ≡ nothing
+  pub fed-other : {bytes : Past ℕ} {calls : Past Call} (other : Side) → sameSide other side ≡ false → Feeds side bytes calls → countedOf (unrated keyboards) lamps other calls ≡ nothing
   unfolding counted own
   fed-other other d nothing-fed = refl
-  fed-other other d (one-fed {calls = calls} b more log f) = ap (counted (lamps other)) (own-other keyboards calls side (b ∷ more) log other d) ∙ fed-other other d f
+  fed-other other d (one-fed {calls = calls} b more log f) = ap (counted (rulesOf Profile.Any (lamps other))) (own-other keyboards calls side (b ∷ more) log other d) ∙ fed-other other d f
 
   -- what a call with the next byte gives
-  newly-fed : {bytes : Past ℕ} {calls : Past Call} (es : List (Sided KeyEvent)) (b : ℕ) (more log : List ℕ) → Feeds side bytes calls → NoLocks bytes → isLockPress b ≡ false
-      → newly keyboards lamps calls es side (b ∷ more) log ≡ givenTo keyboards side es (eventGiven (countedOf keyboards lamps side calls) b)
+  newly-fed : {bytes : Past ℕ} {calls : Past Call} (es : List (Sided KeyEvent)) (b : ℕ) (more log : List ℕ) → Feeds side bytes calls → NoLocks bytes → pressesFollowed Profile.Any b ≡ false
+      → newly (unrated keyboards) lamps calls es side (b ∷ more) log ≡ givenTo (unrated keyboards) side es (eventGiven Profile.Any (countedOf (unrated keyboards) lamps side calls) b)
   unfolding newly
   newly-fed {calls = calls} es b more log f n e =
-      ap (λ (sc : Option ℕ). givenTo keyboards side es (eventOfCall (countedOf keyboards lamps side calls) sc)) (counts-fed calls b more log (fed-waits f n) e)
+      ap (λ (sc : Option ℕ). givenTo (unrated keyboards) side es (eventOfCall Profile.Any (countedOf (unrated keyboards) lamps side calls) sc)) (counts-fed calls b more log (fed-waits f n) e)
 
-  pub fed-row : {bytes : Past ℕ} {calls : Past Call} → Feeds side bytes calls → NoLocks bytes → row keyboards lamps calls ≡ []
+  pub fed-row : {bytes : Past ℕ} {calls : Past Call} → Feeds side bytes calls → NoLocks bytes → row (unrated keyboards) lamps calls ≡ []
   unfolding row
   fed-row nothing-fed n = refl
   fed-row (one-fed {bytes = bytes} {calls = calls} b more log f) (one-more n e) =
-      ap (λ (es : List (Sided KeyEvent)). rest (es ++ lessMet (newly keyboards lamps calls es side (b ∷ more) log))) (fed-row f n)
+      ap (λ (es : List (Sided KeyEvent)). rest (es ++ lessMet (newly (unrated keyboards) lamps calls es side (b ∷ more) log))) (fed-row f n)
       ∙ ap (λ (gs : List Given). rest (lessMet gs)) (newly-fed [] b more log f n e)
-      ∙ rest-none keyboards side (countedOf keyboards lamps side calls) b
+      ∙ rest-none keyboards side (countedOf (unrated keyboards) lamps side calls) b
 
-  fed-joins : {bytes : Past ℕ} {calls : Past Call} → Feeds side bytes calls → NoLocks bytes → lessMet (given keyboards lamps calls) ≡ events (given keyboards lamps calls)
+  fed-joins : {bytes : Past ℕ} {calls : Past Call} → Feeds side bytes calls → NoLocks bytes → lessMet (given (unrated keyboards) lamps calls) ≡ events (given (unrated keyboards) lamps calls)
   unfolding given lessMet
   fed-joins nothing-fed n = refl
   fed-joins (one-fed {bytes = bytes} {calls = calls} b more log f) (one-more n e) =
-      let new-event = eventGiven (countedOf keyboards lamps side calls) b in
-      let new = newly keyboards lamps calls (row keyboards lamps calls) side (b ∷ more) log in
-      let is-new : new ≡ givenTo keyboards side [] new-event =
-      newly-fed (row keyboards lamps calls) b more log f n e ∙ ap (λ (es : List (Sided KeyEvent)). givenTo keyboards side es new-event) (fed-row f n) in
-      less-append (given keyboards lamps calls) new
+      let new-event = eventGiven Profile.Any (countedOf (unrated keyboards) lamps side calls) b in
+      let new = newly (unrated keyboards) lamps calls (row (unrated keyboards) lamps calls) side (b ∷ more) log in
+      let is-new : new ≡ givenTo (unrated keyboards) side [] new-event =
+      newly-fed (row (unrated keyboards) lamps calls) b more log f n e ∙ ap (λ (es : List (Sided KeyEvent)). givenTo (unrated keyboards) side es new-event) (fed-row f n) in
+      less-append (given (unrated keyboards) lamps calls) new
       ∙ ap₂ {C = List (Sided KeyEvent)} (λ (x y : List (Sided KeyEvent)). x ++ y) (fed-joins f n)
       (ap lessMet is-new ∙ all-join keyboards side new-event ∙ sym (ap events is-new))
-      ∙ sym (events-append (given keyboards lamps calls) new)
+      ∙ sym (events-append (given (unrated keyboards) lamps calls) new)
 
   -- the events taken are those that the bytes of each side give
   pub fed-taken : {bytes : Past ℕ} {calls : Past Call} → Feeds side bytes calls → NoLocks bytes → (t : Side)
-      → ofSide t (eventsTaken (takings keyboards lamps calls)) ≡ eventsGiven (countedOf keyboards lamps t calls)
+      → ofSide t (eventsTaken (takings (unrated keyboards) lamps calls)) ≡ eventsGiven Profile.Any (countedOf (unrated keyboards) lamps t calls)
   fed-taken {calls = calls} f n t =
-      let h = history keyboards lamps calls in
-      let taken = eventsTaken (takings keyboards lamps calls) in
+      let h = history (unrated keyboards) lamps calls in
+      let taken = eventsTaken (takings (unrated keyboards) lamps calls) in
       ap (ofSide t) (
       sym (append-nil taken)
       ∙ ap (λ (l : List (Sided KeyEvent)). taken ++ l) (sym (h .queue ∙ fed-row f n))
@@ -212,15 +218,15 @@ module _ {A : Type 0} (keyboards : Keyboards) (lamps : Side → ℕ → Exchange
   last d (past ▸ x) = x
 
   -- where none waits, a byte that presses no lock ends in none of 2, 3 and 21, with no more script and no log
-  ends-well : (past : Past Call) (b : ℕ) → waitsOf keyboards lamps side past ≡ [] → isLockPress b ≡ false
-      → ends2-3-21 (handled lamps side (after keyboards lamps past) (b ∷ []) [] .end) ≡ false
+  ends-well : (past : Past Call) (b : ℕ) → waitsOf (unrated keyboards) lamps side past ≡ [] → pressesFollowed Profile.Any b ≡ false
+      → ends2-3-21 (handled lamps side (after (unrated keyboards) lamps past) (b ∷ []) [] .end) ≡ false
   unfolding each answers counts
   ends-well past b w e =
-      ap (last true) (history keyboards lamps (past ▸ handling side (b ∷ []) []) .left-out)
+      ap (last true) (history (unrated keyboards) lamps (past ▸ handling side (b ∷ []) []) .left-out)
       ∙ ap (λ (sc : Option ℕ). not (isSome sc)) (counts-fed past b [] [] w e)
 
   pub fed-quiet : {bytes : Past ℕ} {calls : Past Call} → Feeds side bytes calls → NoLocks bytes → Quiet keyboards lamps calls
   fed-quiet nothing-fed n = no-call
   fed-quiet (one-fed {bytes = bytes} {calls = calls} b more log f) (one-more n e) =
-      let a = alone (after keyboards lamps calls) b more log (ends-well calls b (fed-waits f n) e) in
+      let a = alone (after (unrated keyboards) lamps calls) b more log (ends-well calls b (fed-waits f n) e) in
       quiet-taking (quiet-call (fed-quiet f n) (a .one-byte) (a .no-pairs) (a .same-log))

@@ -16,7 +16,9 @@ use Rattle.scancode_set1.specs.Set1.{releaseOf}
 use Rattle.typing.specs.Keys.{flagsHeld, givesIt}
 use Rattle.typing.proofs.Keys.{of-every, is-true, isAbsent, gives-character, gives-press}
 use Rattle.keyboard_scancodes.specs.Strokes.{stroke, isPrefix}
-use Rattle.keyboard_scancodes.specs.FlagTable.{flagTable, isOf, pressesLock, isLockPress}
+use Rattle.keyboard_scancodes.specs.declared.Profile.{Profile}
+use Rattle.keyboard_scancodes.specs.Profile.{followed, pressesFollowed}
+use Rattle.keyboard_scancodes.specs.FlagTable.{flagTable, isOf, pressesLock}
 use Rattle.keyboard_scancodes.specs.FlagsAfter.{flagsAfter}
 use Rattle.keyboard_scancodes.specs.Events.{keycodeAt, eventOf, givesEvent}
 use Rattle.typing_played.specs.Fed.{characters}
@@ -31,24 +33,24 @@ held shift = flagsHeld shift .bits
 pub record Strikes (b before after : ℕ) : Type 0 where
   pub gives-event : givesEvent b ≡ true
   pub no-prefix : isPrefix b ≡ false
-  pub no-lock : isLockPress b ≡ false
-  pub flags : flagsAfter flagTable (stroke b false) before ≡ after
+  pub no-lock : pressesFollowed Profile.Any b ≡ false
+  pub flags : flagsAfter (followed Profile.Any) (stroke b false) before ≡ after
 
 abbrev strikes : ℕ → ℕ → Bool
-strikes flags b = givesEvent b && (not (isPrefix b) && (not (isLockPress b) && eqb (flagsAfter flagTable (stroke b false) flags) flags))
+strikes flags b = givesEvent b && (not (isPrefix b) && (not (pressesFollowed Profile.Any b) && eqb (flagsAfter (followed Profile.Any) (stroke b false) flags) flags))
 
 is-strike : (flags b : ℕ) → strikes flags b ≡ true → Strikes b flags flags
 is-strike flags b t =
     let p = and-eq-true-iff (givesEvent b) _ .0 t in
     let q = and-eq-true-iff (not (isPrefix b)) _ .0 (p .1) in
-    let r = and-eq-true-iff (not (isLockPress b)) _ .0 (q .1) in
-    record { gives-event = p .0; no-prefix = not-true (isPrefix b) (q .0); no-lock = not-true (isLockPress b) (r .0); flags = eqb-true _ flags (r .1) }
+    let r = and-eq-true-iff (not (pressesFollowed Profile.Any b)) _ .0 (q .1) in
+    record { gives-event = p .0; no-prefix = not-true (isPrefix b) (q .0); no-lock = not-true (pressesFollowed Profile.Any b) (r .0); flags = eqb-true _ flags (r .1) }
 
 abbrev absentOrStrikes : Bool → Keycode → Bool
 absentOrStrikes shift k = isAbsent (characterOf k (flagsHeld shift)) || (strikes (held shift) (numberOf k) && strikes (held shift) (releaseOf (numberOf k)))
 
 all-strike : (shift : Bool) (k : Keycode) → T (absentOrStrikes shift k)
-unfolding characterOf keycodes flagsAfter flagTable isOf pressesLock bit odd putBit xor
+unfolding characterOf keycodes flagsAfter followed flagTable isOf pressesLock bit odd putBit xor
 all-strike true k = of-every (absentOrStrikes true) tt k
 all-strike false k = of-every (absentOrStrikes false) tt k
 
@@ -64,11 +66,11 @@ module _ (shift : Bool) (c : ℕ) (k : Keycode) (e : givesIt shift c k ≡ true)
 
 -- the left Shift
 pub shift-strikes : Strikes 0x2A (held false) (held true)
-unfolding flagsAfter flagTable isOf pressesLock bit putBit
+unfolding flagsAfter followed flagTable isOf pressesLock bit putBit
 shift-strikes = record { gives-event = refl; no-prefix = refl; no-lock = refl; flags = refl }
 
 pub shift-released-strikes : Strikes 0xAA (held true) (held false)
-unfolding flagsAfter flagTable isOf pressesLock bit putBit
+unfolding flagsAfter followed flagTable isOf pressesLock bit putBit
 shift-released-strikes = record { gives-event = refl; no-prefix = refl; no-lock = refl; flags = refl }
 
 -- ---- the character of each event

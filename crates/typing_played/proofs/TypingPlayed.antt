@@ -10,6 +10,7 @@ use Rattle.exchange.specs.Answer.{Answer, gives}
 use Rattle.typing.specs.Typing.{typed}
 use Rattle.typing.proofs.Texts.{keyed}
 use Rattle.typing.proofs.Answered.{typed-gives}
+use Rattle.keyboard_scancodes.specs.declared.Profile.{Profile}
 use Rattle.keyboard_sides.specs.declared.Side.{Side}
 use Rattle.keyboard_record.specs.declared.Keyboards.{Keyboards}
 use Rattle.keyboard_record.specs.Record.{atTable}
@@ -18,7 +19,7 @@ use Rattle.keyboard_history.specs.Said.{prefixSaid, flagsSaid, eventsGiven}
 use Rattle.keyboard_history.specs.Counted.{Call}
 use Rattle.keyboard_history.proofs.History.{history}
 use Rattle.typing_played.specs.Fed.{Feeds, characters}
-use Rattle.typing_played.specs.Played.{Played}
+use Rattle.typing_played.specs.Played.{unrated, Played}
 use Rattle.typing_played.proofs.Bytes.{no-bytes, at-first, Says, says-text}
 use Rattle.typing_played.proofs.Calls.{fed-counted, fed-other, fed-row, fed-taken, fed-quiet}
 
@@ -27,15 +28,15 @@ module _ {A : Type 0} (keyboards : Keyboards) (lamps : Side → ℕ → Exchange
   unfolding eventsGiven characters putBit
   by-says {calls = calls} s f =
       let n = s .locks no-bytes in
-      let h = history keyboards lamps calls in
+      let h = history (unrated keyboards) lamps calls in
       let c = fed-counted keyboards lamps side at f n in
       record {
-        is-text = ap characters (fed-taken keyboards lamps side at f n side ∙ ap eventsGiven c) ∙ s .is-text;
-        no-other = λ other d. fed-taken keyboards lamps side at f n other ∙ ap eventsGiven (fed-other keyboards lamps side at other d f);
+        is-text = ap characters (fed-taken keyboards lamps side at f n side ∙ ap (eventsGiven Profile.Any) c) ∙ s .is-text;
+        no-other = λ other d. fed-taken keyboards lamps side at f n other ∙ ap (eventsGiven Profile.Any) (fed-other keyboards lamps side at other d f);
         all-counted = c;
         quiet = fed-quiet keyboards lamps side at f n;
         none-waits = h .queue ∙ fed-row keyboards lamps side at f n;
-        no-flags = h .flags side ∙ ap flagsSaid c ∙ s .at .flags;
+        no-flags = h .flags side ∙ ap (flagsSaid Profile.Any) c ∙ s .at .flags;
         no-prefix = h .prefix side ∙ ap prefixSaid c ∙ s .at .prefix;
       }
 

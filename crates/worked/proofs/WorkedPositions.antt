@@ -18,6 +18,7 @@ use Rattle.ps2_keyboard.specs.Keyboard.{setLedBy, setPortLed}
 use Rattle.ps2_mouse.specs.Mouse.{commandToMouse}
 use Rattle.ps2_packet_reading.specs.Reading.{readMousePacket}
 use Rattle.keyboard_scancodes.specs.Events.{keycodeAt, eventOf}
+use Rattle.keyboard_scancodes.specs.Profile.{allows, followed}
 use Rattle.keyboard_scancodes.specs.FlagTable.{flagTable, flagLimit, isOf, pressesLock}
 use Rattle.keyboard_scancodes.specs.FlagsAfter.{flagsAfter, flagsThen}
 use Rattle.keyboard.specs.Byte.{keyEvent, lampExchange, onByte, keyCall}
@@ -26,7 +27,7 @@ use Rattle.keyboard_scancodes.specs.Lamps.{lampsLit}
 use Rattle.keyboard_scancodes.specs.Waiting.{bytesFrom}
 use Rattle.keyboard_sides.specs.Sides.{bitSides, withSide}
 use Rattle.keyboard_sides.specs.Named.{named}
-use Rattle.keyboard_record.specs.Queue.{round, meets}
+use Rattle.keyboard_record.specs.Queue.{round, admits, meets}
 use Rattle.keyboard_record.specs.Record.{keyboardFormed, wellFormed, callFormed}
 use Rattle.worked.specs.Holds.{All, all, _&_, RowHolds}
 use Rattle.worked.specs.Table.{table}
@@ -36,7 +37,7 @@ whatever : {A : Type 0} {a : A} (b1 b2 b3 : ℕ) → a ≡ a
 whatever b1 b2 b3 = refl
 
 pub worked-positions : All RowHolds table
-unfolding table handled effects bytesFrom keeping logLeft handle keyCall onByte keyEvent lampExchange round named bitSides withSide meets eventOf keycodeAt keycodeOf numbered keycodes flagsThen flagsAfter flagTable flagLimit isOf pressesLock lampsLit keyboardFormed wellFormed callFormed characterOf setPortLed setLedBy commandToMouse commandToPort2 readMousePacket writePort command attempt pollingSendReceive pollingSend sendTry pollingReceive poll play bind andThen refusingAs repeat decode bit odd putBit xor
+unfolding table handled effects bytesFrom keeping logLeft handle keyCall onByte keyEvent lampExchange round named bitSides withSide admits allows meets eventOf keycodeAt keycodeOf numbered keycodes flagsThen flagsAfter followed flagTable flagLimit isOf pressesLock lampsLit keyboardFormed wellFormed callFormed characterOf setPortLed setLedBy commandToMouse commandToPort2 readMousePacket writePort command attempt pollingSendReceive pollingSend sendTry pollingReceive poll play bind andThen refusingAs repeat decode bit odd putBit xor
 worked-positions =
     ((refl & refl & all) & all)
     & ((refl & refl & all) & all)

@@ -19,7 +19,9 @@ use Rattle.ps2_packet_reading.specs.Reading.{readMousePacket}
 use Rattle.keyboard_sides.specs.declared.Side.{Side}
 use Rattle.keyboard_sides.specs.Named.{Sided}
 use Rattle.keyboard_record.specs.declared.KeyboardHandler.{KeyboardHandler}
+use Rattle.keyboard_scancodes.specs.declared.Profile.{Profile}
 use Rattle.keyboard_record.specs.declared.Keyboards.{Keyboards}
+use Rattle.keyboard_record.specs.declared.Table.{Table}
 use Rattle.keyboard.specs.Handler.{Called, handled, logLeft}
 use Rattle.keyboard.specs.KeyboardLamps.{keyboardLamps}
 use Rattle.keyboard_record.specs.Queue.{waiting}
@@ -89,9 +91,13 @@ ReadAs P (yields (gives packet)) = P packet
 ReadAs P (yields (refuses n)) = ⊥
 ReadAs P (lacks x) = ⊥
 
+-- Document 01's table: one keyboard, and no profile.
+abbrev pub laid : Table
+laid = record { keyboards = Keyboards.One; profile = Profile.Any }
+
 abbrev pub Holds : Position → Type 0
 Holds (scripts [] seen) = ⊥
-Holds (scripts (first ∷ more) seen) = All (Sees (lastCall (fresh Keyboards.One) first more)) seen
+Holds (scripts (first ∷ more) seen) = All (Sees (lastCall (fresh laid) first more)) seen
 Holds (xIs bytes x) = ReadAs (λ packet. xMovement (common packet) ≡ x) (play (readMousePacket Zero) bytes [] .end)
 Holds (wheelIs id byte4 turns) =
     (b1 b2 b3 : ℕ) → ReadAs (λ packet. wheel packet ≡ turns) (play (readMousePacket id) (b1 ∷ b2 ∷ b3 ∷ byte4 ∷ []) [] .end)

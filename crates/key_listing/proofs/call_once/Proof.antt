@@ -3,6 +3,7 @@
 use borrow.Author.Needs.{needs}
 use mathlib.Core.Path.{sym, ap, _∙_}
 use mathlib.Core.Option.{Option}
+use native.Mathlib.Omega.{arith}
 use lib.ListN.{length-drop}
 use Rattle.exchange.specs.Answer.{numberEnded}
 use Rattle.exchange.specs.Left.{Left}
@@ -22,6 +23,10 @@ sub-bytes-left : tie.Need-sub-bytes-left
 sub-bytes-left c =
     let called = c .before .before .before .before .before .handle .ensures .0 in
     rw (ap (λ (r : Called). r .used) called) (call-used-le _ _)
+
+-- a script's length leaves room for as many as can wait
+add-bytes-left : tie.Need-add-bytes-left
+add-bytes-left c = omega (arith, c .before .before .before .before .before .before .before .before .before .good, c .struct-known .given)
 
 returns : tie.Need-returns
 unfolding recordAfter
@@ -48,7 +53,7 @@ call-once-spec =
     (λ c κs. search needs)
     (λ c. search needs)
     sub-bytes-left
-    (λ c. search needs)
+    add-bytes-left
     (λ c κs. search needs)
     (λ c κs. search needs)
     (λ c κs. search needs)

@@ -25,10 +25,14 @@ returns-5 c = rw (c .enum-told5 .given .1)
 returns-6 : tie.Need-returns-6
 returns-6 c = rw (c .enum-told6 .given .1)
 
+returns-7 : tie.Need-returns-7
+returns-7 c = rw (c .enum-told7 .given .1)
+
 pub is-last-spec : {M : Type 1} → statement M
 is-last-spec =
     tie.close
     (tie.spec
+    (λ c. search needs)
     (λ c. search needs)
     (λ c. search needs)
     (λ c. search needs)
@@ -40,4 +44,5 @@ is-last-spec =
     returns-3
     returns-4
     returns-5
-    returns-6)
+    returns-6
+    returns-7)

@@ -1,7 +1,7 @@
 -- `keyboard::effect_of` meets its contract: 21, or what the record makes of its keyboard's part.
 -- Assumes nothing.
 use borrow.Author.Needs.{needs}
-use mathlib.Core.Path.{_≡_, sym, ap, _∙_}
+use mathlib.Core.Path.{_≡_, refl, sym, ap, _∙_}
 use mathlib.Core.Bool.{true}
 use borrow.Author.Tests.{not-true, not-false}
 use Rattle.keyboard_record.specs.Record.{callFormed}
@@ -29,7 +29,7 @@ well c = sym (c .before .call-formed .ensures) ∙ not-false _ (c .if1 .left)
 key-call-requires : tie.Need-key-call-requires
 key-call-requires c κs =
     let k = c .before in
-    let f = k .before .before in
+    let f = k .before .before .before in
     let a = f .before .before .before .before .args in
     let q = call-is (a .side) (a .state) (well f) in
     rw (k .keyboard-at .ensures) (q .1 .at (a .side) (q .0) .waiting-in)
@@ -42,9 +42,9 @@ returns-2 c =
     let k = g .before .before in
     let e = k .before .before .before .before in
     let p = e .before .before in
-    let f = p .before .before in
+    let f = p .before .before .before in
     let a = f .before .before .before .before .args in
-    formed-call (a .side) (a .state) _ _ (well f) (p .before .port-of .ensures) (p .keyboard-at .ensures) (e .key-call .ensures)
+    formed-call (a .side) (a .state) _ _ (well f) refl (p .before .port-of .ensures) (p .keyboard-at .ensures) (e .key-call .ensures)
     (event-effects (a .side) (a .state) (saidKeyEffect (e .key-call .result)) (k .with-keyboard .ensures) (ap saidGiven (g .given .given .1)) (rw (c .enum-told .given .1) at (j .join .ensures)))
 
 returns-3 : tie.Need-returns-3
@@ -55,9 +55,9 @@ returns-3 c =
     let k = g .before .before in
     let e = k .before .before .before .before in
     let p = e .before .before in
-    let f = p .before .before in
+    let f = p .before .before .before in
     let a = f .before .before .before .before .args in
-    formed-call (a .side) (a .state) _ _ (well f) (p .before .port-of .ensures) (p .keyboard-at .ensures) (e .key-call .ensures)
+    formed-call (a .side) (a .state) _ _ (well f) refl (p .before .port-of .ensures) (p .keyboard-at .ensures) (e .key-call .ensures)
     (event-effects (a .side) (a .state) (saidKeyEffect (e .key-call .result)) (k .with-keyboard .ensures) (ap saidGiven (g .given .given .1)) (rw (c .enum-told2 .given .1) at (j .join .ensures)))
 
 returns-4 : tie.Need-returns-4
@@ -68,39 +68,52 @@ returns-4 c =
     let k = g .before .before in
     let e = k .before .before .before .before in
     let p = e .before .before in
-    let f = p .before .before in
+    let f = p .before .before .before in
     let a = f .before .before .before .before .args in
-    formed-call (a .side) (a .state) _ _ (well f) (p .before .port-of .ensures) (p .keyboard-at .ensures) (e .key-call .ensures)
+    formed-call (a .side) (a .state) _ _ (well f) refl (p .before .port-of .ensures) (p .keyboard-at .ensures) (e .key-call .ensures)
     (event-effects (a .side) (a .state) (saidKeyEffect (e .key-call .result)) (k .with-keyboard .ensures) (ap saidGiven (g .given .given .1)) (rw (c .enum-told3 .given .1) at (j .join .ensures)))
 
 returns-5 : tie.Need-returns-5
 returns-5 c =
-    let k = c .before .before in
+    let m = c .before .before in
+    let j = m .before in
+    let g = j .before .before in
+    let k = g .before .before in
     let e = k .before .before .before .before in
     let p = e .before .before in
-    let f = p .before .before in
+    let f = p .before .before .before in
     let a = f .before .before .before .before .args in
-    formed-call (a .side) (a .state) _ _ (well f) (p .before .port-of .ensures) (p .keyboard-at .ensures) (e .key-call .ensures)
-    (nothing-effects (a .side) (a .state) (saidKeyEffect (e .key-call .result)) (k .with-keyboard .ensures) (ap saidGiven (c .enum-told4 .given .1)))
+    formed-call (a .side) (a .state) _ _ (well f) refl (p .before .port-of .ensures) (p .keyboard-at .ensures) (e .key-call .ensures)
+    (event-effects (a .side) (a .state) (saidKeyEffect (e .key-call .result)) (k .with-keyboard .ensures) (ap saidGiven (g .given .given .1)) (rw (c .enum-told4 .given .1) at (j .join .ensures)))
 
 returns-6 : tie.Need-returns-6
 returns-6 c =
     let k = c .before .before in
     let e = k .before .before .before .before in
     let p = e .before .before in
-    let f = p .before .before in
+    let f = p .before .before .before in
     let a = f .before .before .before .before .args in
-    formed-call (a .side) (a .state) _ _ (well f) (p .before .port-of .ensures) (p .keyboard-at .ensures) (e .key-call .ensures)
-    (refused-effects (a .side) (a .state) (saidKeyEffect (e .key-call .result)) (k .with-keyboard .ensures) (ap saidGiven (c .enum-told5 .given .1)))
+    formed-call (a .side) (a .state) _ _ (well f) refl (p .before .port-of .ensures) (p .keyboard-at .ensures) (e .key-call .ensures)
+    (nothing-effects (a .side) (a .state) (saidKeyEffect (e .key-call .result)) (k .with-keyboard .ensures) (ap saidGiven (c .enum-told5 .given .1)))
 
 returns-7 : tie.Need-returns-7
 returns-7 c =
+    let k = c .before .before in
+    let e = k .before .before .before .before in
+    let p = e .before .before in
+    let f = p .before .before .before in
+    let a = f .before .before .before .before .args in
+    formed-call (a .side) (a .state) _ _ (well f) refl (p .before .port-of .ensures) (p .keyboard-at .ensures) (e .key-call .ensures)
+    (refused-effects (a .side) (a .state) (saidKeyEffect (e .key-call .result)) (k .with-keyboard .ensures) (ap saidGiven (c .enum-told6 .given .1)))
+
+returns-8 : tie.Need-returns-8
+returns-8 c =
     let k = c .before .before .before in
     let e = k .before .before .before .before in
     let p = e .before .before in
-    let f = p .before .before in
+    let f = p .before .before .before in
     let a = f .before .before .before .before .args in
-    formed-call (a .side) (a .state) _ _ (well f) (p .before .port-of .ensures) (p .keyboard-at .ensures) (e .key-call .ensures)
+    formed-call (a .side) (a .state) _ _ (well f) refl (p .before .port-of .ensures) (p .keyboard-at .ensures) (e .key-call .ensures)
     (lack-effects (a .side) (a .state) (saidKeyEffect (e .key-call .result)) (k .with-keyboard .ensures) (ap saidGiven (c .before .given2 .given .1)))
 
 pub effect-of-spec : {M : Type 1} → statement M
@@ -122,6 +135,7 @@ effect-of-spec =
     (λ c. search needs)
     (λ c. search needs)
     (λ c. search needs)
+    (λ c. search needs)
     returns-2
     (λ c. search needs)
     returns-3
@@ -132,4 +146,6 @@ effect-of-spec =
     (λ c. search needs)
     returns-6
     (λ c. search needs)
-    returns-7)
+    returns-7
+    (λ c. search needs)
+    returns-8)

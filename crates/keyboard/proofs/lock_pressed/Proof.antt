@@ -4,7 +4,8 @@ use borrow.Author.Needs.{needs}
 use native.Mathlib.Omega.{arith}
 use mathlib.Core.Path.{refl, ap, _∙_}
 use Rattle.ps2_answers.specs.Refusals.{refused, saidDone}
-use Rattle.keyboard.specs.KeyboardLamps.{portLamps}
+use Rattle.keyboard_scancodes.specs.declared.Profile.{Profile}
+use Rattle.keyboard.specs.KeyboardLamps.{portRules}
 use Rattle.keyboard.proofs.Bounds.{lamps-within}
 use Rattle.keyboard.proofs.Outcomes.{gives-back, lamps-answer, lamps-lack}
 use Rattle.keyboard.proofs.lock_pressed.Statement.{statement}
@@ -19,7 +20,7 @@ returns c =
     record {
       at = λ rest is few.
           gives-back (a .keyboard) _ _ _
-          (lamps-answer (portLamps (a .port)) (a .keyboard) (a .scan-code) (a .modifiers .bits) rest _ _ (x .pre) (w .before .leds .ensures)
+          (lamps-answer (portRules Profile.Any (a .port)) (a .keyboard) (a .scan-code) (a .modifiers .bits) rest _ _ (x .pre) (w .before .leds .ensures)
           (lamps-within (a .port) _) (omega (arith, few)) is (w .set-port-led-onto .ensures)
           (ap saidDone (m .enum-told .given .1)))
           (c .after-lamps .ensures);
@@ -35,7 +36,7 @@ returns-2 c =
     record {
       at = λ rest is few.
           gives-back (a .keyboard) _ _ _
-          (lamps-lack (portLamps (a .port)) (a .keyboard) (a .scan-code) (a .modifiers .bits) rest _ _ (x .pre) (w .before .leds .ensures)
+          (lamps-lack (portRules Profile.Any (a .port)) (a .keyboard) (a .scan-code) (a .modifiers .bits) rest _ _ (x .pre) (w .before .leds .ensures)
           (lamps-within (a .port) _) (omega (arith, few)) is (w .set-port-led-onto .ensures)
           (ap saidDone (m .answer .given .1) ∙ ap refused (f .e .given .1)))
           refl;
@@ -51,7 +52,7 @@ returns-3 c =
     record {
       at = λ rest is few.
           gives-back (a .keyboard) _ _ _
-          (lamps-answer (portLamps (a .port)) (a .keyboard) (a .scan-code) (a .modifiers .bits) rest _ _ (x .pre) (w .before .leds .ensures)
+          (lamps-answer (portRules Profile.Any (a .port)) (a .keyboard) (a .scan-code) (a .modifiers .bits) rest _ _ (x .pre) (w .before .leds .ensures)
           (lamps-within (a .port) _) (omega (arith, few)) is (w .set-port-led-onto .ensures)
           (ap saidDone (m .answer .given .1) ∙ ap refused (f .enum-told2 .given .1)))
           (c .after-lamps2 .ensures);

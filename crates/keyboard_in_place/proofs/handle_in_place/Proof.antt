@@ -62,7 +62,7 @@ use Rattle.keyboard.proofs.handle.Symbol.{name as #keyboard·handle}
 use Rattle.keyboard.proofs.handle.Met as handle-thm
 use Rattle.keyboard_in_place.specs.declared.HandledInPlace.{HandledInPlace}
 use Rattle.keyboard.specs.Outcomes.{saidHandled}
-use Rattle.keyboard_in_place.proofs.FieldOf.{field-of, fields-of}
+use Rattle.keyboard_in_place.proofs.FieldOf.{field-of, all-but-fifth}
 use Rattle.keyboard_in_place.proofs.HandledInPlace as P
 use Rattle.keyboard_in_place.proofs.HandledInPlace.Laws as P′
 use Rattle.keyboard_in_place.proofs.handle_in_place.Key.{name as #keyboard-in-place·handle-in-place}
@@ -145,7 +145,7 @@ module _ {M : Type 1} {𝓤 : URA M} {H : Heap 𝓤} {A : Atoms 𝓤} {K : Type 
     record-of = field-of t n local at₄ cell
 
     rest-of : Rv K W Γ E (aggregate (copy (place i (field 0 ∷ [])) ∷ copy (place i (field 1 ∷ [])) ∷ copy (place i (field 2 ∷ [])) ∷ copy (place i (field 3 ∷ [])) ∷ copy (place i (field 5 ∷ [])) ∷ [])) (vstruct (ofList (v₀ ∷ v₁ ∷ v₂ ∷ v₃ ∷ v₅ ∷ [])))
-    rest-of = fields-of t n local at₀ at₁ at₂ at₃ at₅ cell
+    rest-of = all-but-fifth t n v₀ v₁ v₂ v₃ v₄ v₅ local at₀ at₁ at₂ at₃ at₅ cell
 
   module _ (t : K) (n : ℕ) (r : Handled) {i b : ℕ} (local : spotOf 𝓤 H E i ≡ (S′.mir, b, zero)) (cell : nth 𝓤 H A n Γ ≡ ‵ (fat fullShare S′.mir b zero (valS r))) where
     the-record : Opd K W Γ E (copy (place i (field 4 ∷ []))) (valT (r .handler))

@@ -41,7 +41,7 @@ answered h side sides =
           record {
             first = h .state .first;
             second = h .state .second;
-            keyboards = h .state .keyboards;
+            table = h .state .table;
             start = next (h .state .start);
             count = h .state .count - 1;
             sides = sides;
@@ -52,13 +52,13 @@ answered h side sides =
 returns-3 : tie.Need-returns-3
 unfolding answered
 returns-3 c =
-    let n = c .before .before .before .before .before .before .before in
+    let n = c .before .before .before .before .before .before .before .before in
     ap₂ (answered (n .before .before .before .before .args .handler)) (c .oldest .ensures) (c .before .before .before .without-oldest .ensures)
     ∙ sym (taken-one _ (well (n .before)) (ne-eqb _ 0 (n .if2 .left)))
 
 -- the oldest event lies in one of the places
 array-copy-out-event : tie.Need-array-copy-out-event
-array-copy-out-event c = well-is _ (well (c .before .before .before .before .before .before)) .start-in
+array-copy-out-event c = well-is _ (well (c .before .before .before .before .before .before .before)) .start-in
 
 mul-event : tie.Need-mul-event
 mul-event c = omega (arith, array-copy-out-event c)

@@ -1,28 +1,29 @@
--- `keyboard_scancodes::is_lock_press` meets its contract: three bytes press a lock, and no other does.
+-- `keyboard_scancodes::is_lock_press` meets its contract: the locks of the table, or none.
 -- Assumes nothing.
-use mathlib.Core.Path.{sym}
-use native.Mathlib.Omega.{arith}
+use borrow.Author.Needs.{needs}
+use mathlib.Core.Path.{_≡_, refl, _∙_}
+use mathlib.Core.Bool.{false}
+use Prim.Native.Nat.{ℕ}
+use Rattle.keyboard_scancodes.specs.declared.Profile.{Profile}
+use Rattle.keyboard_scancodes.specs.Strokes.{stroke}
 use Rattle.keyboard_scancodes.specs.FlagTable.{flagTable, isOf, pressesLock}
-use Rattle.keyboard_scancodes.proofs.Untouched.{no-lock}
+use Rattle.keyboard_scancodes.specs.Profile.{followed, pressesFollowed}
 use Rattle.keyboard_scancodes.proofs.is_lock_press.Statement.{statement}
 use Rattle.keyboard_scancodes.proofs.is_lock_press.Tie as tie
 
+any-press : {profile : Profile} → profile ≡ Profile.Any → (b : ℕ) → pressesLock flagTable (stroke b false) ≡ pressesFollowed profile b
+unfolding followed
+any-press e b = rw e
+
+no-press : {profile : Profile} → profile ≡ Profile.Tournament → (b : ℕ) → false ≡ pressesFollowed profile b
+unfolding followed flagTable isOf pressesLock
+no-press e b = rw e
+
 returns : tie.Need-returns
-unfolding flagTable isOf pressesLock
-returns c = rw (c .match .keys1)
+returns c = c .presses-lock .ensures ∙ any-press (c .before .enum-told .given .1) _
 
 returns-2 : tie.Need-returns-2
-unfolding flagTable isOf pressesLock
-returns-2 c = rw (c .match .keys2)
-
-returns-3 : tie.Need-returns-3
-unfolding flagTable isOf pressesLock
-returns-3 c = rw (c .match .keys3)
-
-returns-4 : tie.Need-returns-4
-returns-4 c =
-    let n = c .match .rest in
-    sym (no-lock _ (omega arith) (n .0 .0 .1) (n .0 .1) (n .1))
+returns-2 c = no-press (c .enum-told2 .given .1) _
 
 pub is-lock-press-spec : {M : Type 1} → statement M
-is-lock-press-spec = tie.close (tie.spec returns returns-2 returns-3 returns-4)
+is-lock-press-spec = tie.close (tie.spec (λ c. search needs) (λ c κs. search needs) (λ c. search needs) returns returns-2)

@@ -9,12 +9,12 @@ use Rattle.keyboard_record.proofs.HandlerState.with_keyboard.Tie as tie
 
 returns : tie.Need-returns
 returns c =
-    let a = c .before .before .before .before .before .args in
+    let a = c .before .before .before .before .before .before .args in
     ap (λ (t : Side). withKeyboard t (a .keyboard) (a .self)) (sym (c .enum-told .given .1))
 
 returns-2 : tie.Need-returns-2
 returns-2 c =
-    let a = c .before .before .before .before .before .args in
+    let a = c .before .before .before .before .before .before .args in
     ap (λ (t : Side). withKeyboard t (a .keyboard) (a .self)) (sym (c .enum-told2 .given .1))
 
 pub with-keyboard-spec : {M : Type 1} → statement M
