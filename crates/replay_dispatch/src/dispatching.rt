@@ -3,6 +3,7 @@ use crate::packets::packet_number;
 use crate::records::record_after;
 use crate::records::record_end;
 use crate::records::record_told;
+use crate::records::table_of;
 use crate::records::taken_outcome;
 use dispatcher::CallAnswer;
 use dispatcher::Dispatched;
@@ -11,7 +12,6 @@ use dispatcher::LastServed;
 use dispatcher::Served;
 use dispatcher::Source;
 use keyboard_record::KeyboardHandler;
-use keyboard_record::Keyboards;
 use keyboard_record::Taken;
 use keyboard_record::take_event;
 use keyboard_sides::Side;
@@ -60,7 +60,7 @@ fn silent(state: Dispatcher, parts: Parts) -> Turn {
 
 // A dispatcher that has served nobody, with a record for one keyboard; all of the script is the first side's.
 pub fn at_first() -> Turn {
-    let handler = KeyboardHandler::fresh(Keyboards::One);
+    let handler = KeyboardHandler::fresh(table_of(0));
     silent(
         Dispatcher::new(handler, PS2Mouse { id: MouseId::Zero }),
         Parts {

@@ -4,8 +4,10 @@ use keyboard_record::HandlerState;
 use keyboard_record::KeyboardHandler;
 use keyboard_record::Keyboards;
 use keyboard_record::SideEvent;
+use keyboard_record::Table;
 use keyboard_record::TakenEvent;
 use keyboard_scancodes::KeyboardState;
+use keyboard_scancodes::Profile;
 use keyboard_scancodes::WaitingBytes;
 use keyboard_sides::Side;
 use keyboard_sides::Sides;
@@ -44,10 +46,33 @@ fn keyboards_of(number: u8) -> Keyboards {
     }
 }
 
+fn profile_of(number: u8) -> Profile {
+    if number == 0 {
+        Profile::Any
+    } else {
+        Profile::Tournament
+    }
+}
+
+// A table by a number: 1 is added for two keyboards, 2 for the tournament profile.
+pub fn table_of(number: u8) -> Table {
+    Table {
+        keyboards: keyboards_of(number % 2),
+        profile: profile_of(number / 2),
+    }
+}
+
 fn keyboards_number(keyboards: Keyboards) -> u64 {
     match keyboards {
         Keyboards::One => 0,
         Keyboards::Two => 1,
+    }
+}
+
+fn profile_number(profile: Profile) -> u64 {
+    match profile {
+        Profile::Any => 0,
+        Profile::Tournament => 1,
     }
 }
 
@@ -83,9 +108,9 @@ fn with_flags(
     with_keyboard(handler, side, keyboard)
 }
 
-// A record for one keyboard or two with the first side's prefix and flags, no byte that waits and an empty queue.
+// A record for a table with the first side's prefix and flags, no byte that waits and an empty queue.
 fn begun(i: Instruction) -> KeyboardHandler {
-    let fresh = KeyboardHandler::fresh(keyboards_of(i.argument / 2));
+    let fresh = KeyboardHandler::fresh(table_of(i.argument / 2));
     with_flags(fresh, Side::First, i.argument % 2, flags_of(i.state))
 }
 
@@ -184,11 +209,11 @@ fn action_of(number: usize) -> KeyAction {
 fn with_queue(state: HandlerState, start: usize, count: usize, sides: Sides) -> HandlerState {
     let first = state.first;
     let second = state.second;
-    let keyboards = state.keyboards;
+    let table = state.table;
     HandlerState {
         first,
         second,
-        keyboards,
+        table,
         start,
         count,
         sides,
@@ -293,13 +318,16 @@ fn start_told(start: usize) -> u64 {
     }
 }
 
-// The first side's keyboard as a number, with the number of waiting events, whether there are two keyboards, and a start that is no place.
+// The first side's keyboard as a number, with the number of waiting events, whether there are two keyboards, a start that is no place, and whether there is the profile.
 fn record_number(state: HandlerState) -> u64 {
-    let keyboards = state.keyboards;
+    let table = state.table;
+    let keyboards = table.keyboards;
+    let profile = table.profile;
     keyboard_number(state.first)
         | ((state.count % 65536) as u64) << 17
         | keyboards_number(keyboards) << 41
         | start_told(state.start) << 42
+        | profile_number(profile) << 58
 }
 
 // The record's number by the argument 0; by another the second side's keyboard.

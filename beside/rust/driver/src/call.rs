@@ -35,9 +35,10 @@ pub enum Op {
     Keyboard(KeyboardOp),
     /// A mouse operation, with the mouse's identity where the line gives one.
     Mouse(MouseOp, Option<u8>),
-    /// Keyboard initialisation; its record is for two keyboards, or for one.
+    /// Keyboard initialisation; its record is for two keyboards, or for one, and for rated games, or for others.
     KeyboardInit {
         two: bool,
+        rated: bool,
     },
     Handle(Handler, Vec<Step>),
     ToAscii(u8, u16),
@@ -115,6 +116,8 @@ pub struct Handler {
     pub second: Remembered,
     /// Whether there are two keyboards.
     pub two: bool,
+    /// Whether it has the tournament profile.
+    pub rated: bool,
     pub queue: Vec<KeyEvent>,
     /// The place of the oldest event: of a record that is told, 0 or one that makes it malformed.
     pub start: u16,
@@ -181,13 +184,14 @@ pub fn parse(line: &str) -> Result<Call, String> {
     }
     let (mut script, mut log, mut state, mut plan, mut repeat, mut show) = (None, None, None, None, None, None);
     let (mut input, mut output) = (None, None);
-    let (mut script2, mut table) = (None, None);
+    let (mut script2, mut table, mut profile) = (None, None, None);
     for word in words {
         let (key, value) = word.split_once('=').ok_or_else(|| format!("'{word}' is not key=value"))?;
         let field = match key {
             "script" => &mut script,
             "script2" => &mut script2,
             "table" => &mut table,
+            "profile" => &mut profile,
             "log" => &mut log,
             "in" => &mut input,
             "room" => &mut output,
@@ -201,7 +205,7 @@ pub fn parse(line: &str) -> Result<Call, String> {
             return Err(format!("the field '{key}=' comes twice"));
         }
     }
-    let op = match (parse_op(name, &args, state, plan, table)?, show) {
+    let op = match (parse_op(name, &args, state, plan, [table, profile])?, show) {
         (op, None) => op,
         (op, Some("kept")) if kept::keeps(&op) => Op::Kept(Box::new(op)),
         (_, Some(value)) => return Err(format!("{name} has no '{value}' to show")),
@@ -237,7 +241,7 @@ fn parse_op(
     args: &[&str],
     state: Option<&str>,
     plan: Option<&str>,
-    table: Option<&str>,
+    [table, profile]: [Option<&str>; 2],
 ) -> Result<Op, String> {
     let count = |n: usize| match args.len() == n {
         true => Ok(()),
@@ -295,7 +299,9 @@ fn parse_op(
         "set_mouse_id" => count(0).and_then(|()| mouse(M::SetId)),
         "read_mouse_packet" => count(0).and_then(|()| mouse(M::ReadPacket)),
         "read_signed_packet" => count(0).and_then(|()| mouse(M::ReadSignedPacket)),
-        "keyboard_init" => none(Op::KeyboardInit { two: table.map_or(Ok(false), are_two)? }),
+        "keyboard_init" => {
+            none(Op::KeyboardInit { two: table.map_or(Ok(false), are_two)?, rated: profile.map_or(Ok(false), bit)? })
+        }
         // The Rust has one handler; the port has also an entry that changes the record in place.
         "handle" => none(Op::Handle(parse_handler(state)?, parse_plan(plan.unwrap_or("auto"))?)),
         "to_ascii" => {
@@ -323,8 +329,10 @@ fn parse_op(
     if plan.is_some() && !matches!(op, Op::Handle(..)) {
         return Err(format!("{name} takes no plan"));
     }
-    if table.is_some() && !matches!(op, Op::KeyboardInit { .. }) {
-        return Err(format!("{name} takes no table"));
+    for (key, value) in [("table", table), ("profile", profile)] {
+        if value.is_some() && !matches!(op, Op::KeyboardInit { .. }) {
+            return Err(format!("{name} takes no {key}"));
+        }
     }
     if state.is_some() && !matches!(op, Op::Handle(..) | Op::Mouse(..) | Op::Init(..)) {
         return Err(format!("{name} takes no state"));
@@ -434,6 +442,7 @@ pub fn parse_handler(state: Option<&str>) -> Result<Handler, String> {
                 }
             }
             ("table", v) => handler.two = are_two(v)?,
+            ("profile", v) => handler.rated = bit(v)?,
             ("start", v) => handler.start = u16::try_from(decimal(v)?).map_err(|_| format!("'{v}' is no start"))?,
             ("count", v) => handler.count = said("events", v, QUEUE_PLACES, &mut handler.queue)?,
             // The fields of side 2 have a 2 behind their names.
@@ -632,6 +641,9 @@ impl Handler {
         if !second.kept.is_empty() {
             write!(f, ",kept2:{}", Hex(&second.kept))?;
         }
+        if self.rated {
+            write!(f, ",profile:1")?;
+        }
         if self.start != 0 {
             write!(f, ",start:{}", self.start)?;
         }
@@ -676,6 +688,9 @@ impl Handler {
         if self.two || has_second || self.second != Remembered::default() {
             return Some("the Rust's record has one keyboard");
         }
+        if self.rated {
+            return Some("the Rust's record has no profile");
+        }
         if self.start != 0 || self.count.is_some() {
             return Some("the Rust's queue is not told its start or its count");
         }
@@ -688,7 +703,7 @@ impl Handler {
         for event in &mut self.queue {
             event.flags &= ALL_FLAGS;
         }
-        Handler { first: Remembered { kept: Vec::new(), waits: None, ..self.first }, two: false, ..self }
+        Handler { first: Remembered { kept: Vec::new(), waits: None, ..self.first }, two: false, rated: false, ..self }
     }
 }
 
@@ -697,7 +712,8 @@ impl Op {
     pub fn beyond_rust(&self) -> Option<&'static str> {
         let has_other_flags = match self {
             Op::Mouse(MouseOp::ReadSignedPacket, _) => return Some("the Rust reads no packet with a signed wheel"),
-            Op::KeyboardInit { two: true } => return Some("the Rust's record has one keyboard"),
+            Op::KeyboardInit { two: true, .. } => return Some("the Rust's record has one keyboard"),
+            Op::KeyboardInit { rated: true, .. } => return Some("the Rust's record has no profile"),
             Op::Handle(_, plan) if plan.iter().any(|step| matches!(step, Step::Handle(Side::Second, _))) => {
                 return Some("the Rust has no handler of a second side")
             }
@@ -822,7 +838,10 @@ impl Op {
                 write!(out, " {n}").unwrap()
             }
             Op::ToAscii(keycode, flags) => write!(out, " {keycode:02X} {flags:03X}").unwrap(),
-            Op::KeyboardInit { two: true } => *out += " table=2",
+            Op::KeyboardInit { two, rated } => {
+                *out += if two { " table=2" } else { "" };
+                *out += if rated { " profile=1" } else { "" };
+            }
             _ => {}
         }
     }

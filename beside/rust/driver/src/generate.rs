@@ -60,7 +60,7 @@ pub fn operation(kind: usize, rng: &mut Rng) -> Op {
         24 => mouse(M::Id),
         25 => mouse(M::SetId),
         26 => mouse(M::ReadPacket),
-        27 => Op::KeyboardInit { two: false },
+        27 => Op::KeyboardInit { two: false, rated: false },
         28 => Op::ToAscii(rng.below(LAST_KEYCODE as usize + 1) as u8, rng.below(ALL_FLAGS as usize + 1) as u16),
         // The handler twice: its states and plans are the most.
         _ => Op::Handle(handler(rng), plan(rng)),

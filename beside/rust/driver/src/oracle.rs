@@ -462,7 +462,7 @@ impl Oracle {
     pub fn set(&mut self, handler: &Handler) {
         if !self.registered {
             wire().script = GOOD_KEYBOARD.to_vec();
-            let (end, ..) = self.port_operation(&Op::KeyboardInit { two: false }, 64);
+            let (end, ..) = self.port_operation(&Op::KeyboardInit { two: false, rated: false }, 64);
             assert!(end == 0);
         }
         self.feed(if handler.first.ext { 0xE0 } else { 0x00 });

@@ -125,7 +125,7 @@ pub fn operation(op: &Op) -> (u8, u8, u16) {
         Op::Mouse(M::SetId, id) => (26, id.unwrap_or(0), 0),
         Op::Mouse(M::ReadPacket, id) => (27, id.unwrap_or(0), 0),
         Op::Mouse(M::ReadSignedPacket, id) => (38, id.unwrap_or(0), 0),
-        Op::KeyboardInit { two } => (28, two as u8, 0),
+        Op::KeyboardInit { two, rated } => (28, two as u8 | (rated as u8) << 1, 0),
         Op::ToAscii(keycode, flags) => (TO_ASCII, keycode, flags),
         Op::ConvertSet2 => (CONVERT_SET2, 0, 0),
         Op::TypeText => (TYPE_TEXT, 0, 0),
@@ -207,9 +207,9 @@ pub fn put_script(script: &[u8], out: &mut Vec<u8>) {
 
 /// Puts the instructions that make a record, with the log's room.
 pub fn put_record(handler: &Handler, room: usize, out: &mut Vec<u8>) {
-    let Handler { first, second, two, queue, start, count } = handler;
+    let Handler { first, second, two, rated, queue, start, count } = handler;
     let mut put = |op, argument, state, room, times| Instruction { op, argument, state, room, times }.put(out);
-    put(RECORD, first.ext as u8 | (*two as u8) << 1, first.flags, room, 1);
+    put(RECORD, first.ext as u8 | (*two as u8) << 1 | (*rated as u8) << 2, first.flags, room, 1);
     if second.ext || second.flags != 0 {
         put(SECOND, second.ext as u8, second.flags, 0, 1);
     }
@@ -336,11 +336,12 @@ fn keyboard_number(keyboard: &Remembered) -> u64 {
     keyboard.ext as u64 | (keyboard.flags as u64) << 1 | (keyboard.waiting() as u64) << 33
 }
 
-/// A record's numbers: that of side 1's keyboard, with the number of waiting events, whether there are two keyboards and a start that
-/// is no place; and that of side 2's.
+/// A record's numbers: that of side 1's keyboard, with the number of waiting events, whether there are two keyboards, a start that is
+/// no place and whether there is the profile; and that of side 2's.
 fn record_numbers(handler: &Handler) -> [u64; 2] {
     let queue = (handler.events() as u64) << 17 | (handler.start_told() as u64) << 42;
-    [keyboard_number(&handler.first) | queue | (handler.two as u64) << 41, keyboard_number(&handler.second)]
+    let table = (handler.two as u64) << 41 | (handler.rated as u64) << 58;
+    [keyboard_number(&handler.first) | queue | table, keyboard_number(&handler.second)]
 }
 
 /// The bytes that wait as two numbers for each side, low byte first; 0 stands where none waits.
@@ -372,7 +373,8 @@ fn handler_of(numbers: [u64; 2], queue: Vec<KeyEvent>, bytes: [u64; 4]) -> Resul
     let first = remembered_of(numbers[0], [bytes[0], bytes[1]]);
     let second = remembered_of(numbers[1], [bytes[2], bytes[3]]);
     let two = numbers[0] >> 41 & 1 == 1;
-    let handler = Handler { first, second, two, queue, start: (numbers[0] >> 42) as u16, count };
+    let rated = numbers[0] >> 58 & 1 == 1;
+    let handler = Handler { first, second, two, rated, queue, start: (numbers[0] >> 42) as u16, count };
     match record_numbers(&handler) == numbers && byte_numbers(&handler) == bytes {
         true => Ok(handler),
         false => Err(format!("{numbers:?} are no record's numbers, or a byte was told that does not wait")),
