@@ -39,11 +39,12 @@ pub struct Table {
 
 // All of the record but the places: what the handler remembers of each side's keyboard, what the table is laid with, and where in the places the events wait.
 // They stand in a ring: the oldest is at `start`, and `count` of them follow each other round the end. `sides` has the side of each, the oldest first.
+// In this order the waiting bytes of either keyboard begin at a multiple of 16, where a copy of the state, 16 bytes at a time, takes them whole.
 pub struct HandlerState {
     pub first: KeyboardState,
-    pub second: KeyboardState,
     pub table: Table,
     pub start: usize,
+    pub second: KeyboardState,
     pub count: usize,
     pub sides: Sides,
 }
@@ -69,10 +70,10 @@ pub enum Room {
     QueueFull,
 }
 
-// What asking for a place gives back: whether there is one, and the state with one more event that waits, or as it was.
+// What asking for a place gives back: the state with one more event that waits, or as it was, and whether there is a place.
 pub struct Joined {
-    pub room: Room,
     pub state: HandlerState,
+    pub room: Room,
 }
 
 // What a taking from the queue answers: the oldest event, none, or the refusal that document 01 numbers 21.

@@ -79,11 +79,12 @@ pub struct WaitingBytes {
     pub count: u8,
 }
 
-// What the handler remembers of one keyboard: whether the last byte was a prefix, the keys that are held and the locks that are on, and the bytes that wait.
+// What the handler remembers of one keyboard: the bytes that wait, whether the last byte was a prefix, and the keys that are held and the locks that are on.
+// In this order no padding lies between the fields, and a copy is not made around it.
 pub struct KeyboardState {
+    pub waiting: WaitingBytes,
     pub prefix: bool,
     pub modifiers: KeyboardModifiers,
-    pub waiting: WaitingBytes,
 }
 
 impl WaitingBytes {
