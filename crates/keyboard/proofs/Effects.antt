@@ -7,7 +7,7 @@ use mathlib.Core.Logic.{⊎-elim}
 use mathlib.Core.Option.{Option, none, some}
 use Prim.Native.Nat.{ℕ}
 use native.Mathlib.Omega.{arith}
-use Rattle.exchange.specs.Exchange.{Exchange, Lack, End, yields, lacks, toldEnd, Played, played, play}
+use Rattle.exchange.specs.Exchange.{Exchange, End, yields, lacks, toldEnd, Played, played, play}
 use Rattle.exchange.specs.Answer.{Answer, gives, refuses}
 use Rattle.ps2_answers.specs.Refusals.{Success, success}
 use Rattle.ps2_ports.specs.declared.DevicePort.{DevicePort}
@@ -24,7 +24,7 @@ use Rattle.keyboard_sides.specs.declared.Side.{Side}
 use Rattle.keyboard_record.proofs.WellFormed.{WellFormed, call-is}
 use Rattle.keyboard.specs.declared.Effect.{Effect}
 use Rattle.keyboard.specs.declared.NewEvent.{NewEvent}
-use Rattle.keyboard.specs.Answers.{saidCall, saidLamps}
+use Rattle.keyboard.specs.Answers.{noEvent}
 use Rattle.keyboard.specs.KeyboardLamps.{portOf, portRules, keyboardLamps}
 use Rattle.keyboard.specs.Byte.{Keyed, KeyEffects, keyEffectsBy, keyCall, keyEffects}
 use Rattle.keyboard.specs.Handler.{Outcome, queued, afterByte, Effects, effectsBy, Called, calledWith, effects, logLeft, handled}
@@ -52,17 +52,11 @@ module _ (side : Side) (s : HandlerState) where
     event-effects q j = rw (q, j .1, j .0, is)
 
     -- the byte gave no event, or 19, or nothing at all
-    pub nothing-effects : x .end ≡ yields (gives none)
-        → record { end = yields (gives success); lamps = x .lamps; used = x .used; pairs = x .pairs; state = left; event = none; dropped = x .dropped } ≡ recordEffects x
-    nothing-effects q = rw (q, is)
-
-    pub refused-effects : {n : ℕ} → x .end ≡ yields (refuses n)
-        → record { end = yields (refuses n); lamps = x .lamps; used = x .used; pairs = x .pairs; state = left; event = none; dropped = x .dropped } ≡ recordEffects x
-    refused-effects q = rw (q, is)
-
-    pub lack-effects : {l : Lack} → x .end ≡ lacks l
-        → record { end = lacks l; lamps = x .lamps; used = x .used; pairs = x .pairs; state = left; event = none; dropped = x .dropped } ≡ recordEffects x
-    lack-effects q = rw (q, is)
+    pub no-event-effects : (a : End (Answer Success)) → x .end ≡ toldEnd noEvent a
+        → record { end = a; lamps = x .lamps; used = x .used; pairs = x .pairs; state = left; event = none; dropped = x .dropped } ≡ recordEffects x
+    no-event-effects (yields (gives success)) q = rw (q, is)
+    no-event-effects (yields (refuses n)) q = rw (q, is)
+    no-event-effects (lacks l) q = rw (q, is)
 
   -- and it is what the play of the whole call gives
   ended : (o : Played Keyed) (e : End Keyed) → o .end ≡ e

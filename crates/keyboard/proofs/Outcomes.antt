@@ -3,10 +3,11 @@
 use mathlib.Core.Path.{_≡_, refl, sym, ap, _∙_}
 use mathlib.Core.Bool.{true, false}
 use mathlib.Core.List.{List, [], _∷_, _++_, append-nil}
-use mathlib.Core.Logic.{_≢_, _⊎_, inl, inr, ⊎-elim}
+use mathlib.Core.Logic.{_≢_}
 use mathlib.Core.Option.{none}
 use Prim.Native.Nat.{ℕ, suc, _+_, _-_, _≤_}
 use lib.ListN.{length, getD}
+use native.Mathlib.Nat.{zero-add}
 use native.Mathlib.Omega.{arith}
 use Rattle.exchange.specs.Exchange.{p60, noScript, Lack, Exchange, done, read, bind, End, yields, lacks, Played, played, play, Reads}
 use Rattle.exchange.specs.Answer.{Answer, gives, refuses}
@@ -16,7 +17,8 @@ use Rattle.exchange.specs.Parts.{part}
 use Rattle.exchange.proofs.Keeping.{keeping-bind}
 use Rattle.exchange.proofs.Sequence.{bind-assoc}
 use Rattle.exchange.proofs.Position.{call-used-le}
-use Rattle.exchange.proofs.Calls.{bind-done, bind-lacks, reads-then, reads-then-lacks}
+use Rattle.exchange.proofs.Parts.{part-drop}
+use Rattle.exchange.proofs.Calls.{bind-done, bind-lacks}
 use Rattle.ps2_answers.specs.declared.Refusal.{Refusal}
 use Rattle.ps2_answers.specs.Refusals.{Success, success, refused}
 use Rattle.ps2_kept.specs.declared.KeptBytes.{KeptBytes}
@@ -36,8 +38,9 @@ use Rattle.keyboard_scancodes.specs.declared.KeyboardState.{KeyboardState}
 use Rattle.keyboard_scancodes.specs.Remembered.{keyboardOf}
 use Rattle.keyboard.specs.Rules.{Rules}
 use Rattle.keyboard.specs.Byte.{Keyed, keyed, afterLamps, shown, KeyEffects, keyEffectsBy, takeByte, lampExchange, onByte, keyCall, keyEffects}
-use Rattle.keyboard.specs.Outcomes.{onKey}
-use Rattle.keyboard.proofs.Courses.{call-taken, no-bytes, none-taken}
+use Rattle.keyboard.specs.Scancode.{takes}
+use Rattle.keyboard.specs.Outcomes.{onKey, Takes, takenEnd, takenUsed, stillWaiting}
+use Rattle.keyboard.proofs.Courses.{call-taken}
 
 -- ---- what is given back, and the log that is left, by the play
 
@@ -48,6 +51,66 @@ module _ (h : KeyboardState) (t : Exchange Keyed) (s l : List ℕ) {e : End Keye
 -- what is given back where u more script bytes were used before
 abbrev further : ℕ → KeyEffects → KeyEffects
 further u x = record { end = x .end; lamps = x .lamps; used = u + x .used; pairs = x .pairs; keyboard = x .keyboard; dropped = x .dropped }
+
+-- ---- the byte that a call takes
+
+not-refused : (b : ℕ) (x : Refusal) → yields (gives b) ≡ refused x → ⊥
+not-refused b (Refusal.Lacking y) q = let z : _≡_ {A = ℕ} 0 1 = cc in omega arith
+not-refused b (Refusal.Failed f) q = let z : _≡_ {A = ℕ} 0 1 = cc in omega arith
+
+not-lacking : {b : ℕ} {x : Lack} → _≡_ {A = End (Answer ℕ)} (lacks x) (yields (gives b)) → ⊥
+not-lacking q = let z : _≡_ {A = ℕ} 0 1 = cc in omega arith
+
+same-byte : {b c : ℕ} → _≡_ {A = End (Answer ℕ)} (yields (gives c)) (yields (gives b)) → c ≡ b
+same-byte q = cc
+
+module _ {A : Type 0} (next : List ℕ → ℕ → Exchange A) where
+  -- what follows it has the rest of the script
+  takes-then : (w s l : List ℕ) (b : ℕ) → takenEnd (takes w s) ≡ yields (gives b)
+      → let o = play (next (stillWaiting w) b) (part (takenUsed w s) s) l in played (o .end) (takenUsed w s + o .used) (o .pairs) (o .log) ≡ play (takeByte w next) s l
+  unfolding play
+  takes-then [] [] l b q = absurd (not-lacking q)
+  takes-then [] (c ∷ s) l b q =
+      rw (same-byte q, part-drop 1 (c ∷ s))
+      (let o = play (next [] b) s l in ap (λ (n : ℕ). played (o .end) n (o .pairs) (o .log)) (omega arith))
+  takes-then (c ∷ w) s l b q =
+      rw (same-byte q, part-drop 0 s)
+      (let o = play (next w b) s l in ap (λ (n : ℕ). played (o .end) n (o .pairs) (o .log)) (zero-add (o .used)))
+
+  takes-none : (w s l : List ℕ) (x : Refusal) → takenEnd (takes w s) ≡ refused x → played (lacks (noScript p60)) (takenUsed w s) 0 l ≡ play (takeByte w next) s l
+  unfolding play
+  takes-none [] [] l x q = refl
+  takes-none [] (c ∷ s) l x q = absurd (not-refused c x q)
+  takes-none (c ∷ w) s l x q = absurd (not-refused c x q)
+
+pub takes-le : (w s : List ℕ) {e : End (Answer ℕ)} {u : ℕ} {kept : KeptBytes} → Takes w s e u kept → u ≤ length s
+takes-le [] [] t = rw (t .uses) (omega arith)
+takes-le [] (b ∷ s) t = rw (t .uses) (omega arith)
+takes-le (b ∷ w) s t = rw (t .uses) (omega arith)
+
+pub still-few : (w : List ℕ) {n : ℕ} → length w ≤ n → length (stillWaiting w) ≤ n
+still-few [] h = omega arith
+still-few (b ∷ w) h = omega arith
+
+-- it is the oldest that waits
+module _ (places : List ℕ) (count : ℕ) (some-wait : count ≢ 0) where
+  pub oldest-first : bytesFrom places 0 count ≡ getD places 0 0 ∷ bytesFrom places 1 (count - 1)
+  unfolding bytesFrom
+  oldest-first =
+      let e : count ≡ suc (count - 1) = omega (arith, some-wait) in
+      ap (bytesFrom places 0) e
+
+  pub takes-oldest : (s : List ℕ) {b : ℕ} {kept : KeptBytes} → (b ≡ getD places 0 0) × (kept ≡ keptOf (bytesFrom places 1 (count - 1)))
+      → Takes (bytesFrom places 0 count) s (yields (gives b)) 0 kept
+  takes-oldest s q = rw (oldest-first, q .0, q .1) (record { ends = refl; uses = refl; keeps = refl })
+
+-- or the script's first
+module _ (places : List ℕ) {count : ℕ} (none-waits : count ≡ 0) where
+  pub takes-read : (s : List ℕ) {e : End (Answer ℕ)} {u v : ℕ} → Reads readScancode s e u v → {kept : KeptBytes} → kept ≡ keptOf []
+      → Takes (bytesFrom places 0 count) s e u kept
+  unfolding bytesFrom readScancode readPort play
+  takes-read [] r q = rw (none-waits, q) (record { ends = ap (λ (o : Played (Answer ℕ)). o .end) (r .with-any []); uses = ap (λ (o : Played (Answer ℕ)). o .used) (r .with-any []); keeps = refl })
+  takes-read (b ∷ s) r q = rw (none-waits, q) (record { ends = ap (λ (o : Played (Answer ℕ)). o .end) (r .with-any []); uses = ap (λ (o : Played (Answer ℕ)). o .used) (r .with-any []); keeps = refl })
 
 module _ {A : Type 0} (rules : Rules A) (h : KeyboardState) where
   pub call-back : (s l : List ℕ) {e : End Keyed} {u w : ℕ} {l′ : List ℕ} → played e u w l′ ≡ play (keyCall rules h) s l
@@ -117,70 +180,27 @@ module _ {A : Type 0} (rules : Rules A) (h : KeyboardState) where
 
   -- ---- the call
 
-  -- a byte waits: it is the call's
-  module _ (some-wait : h .waiting .count ≢ 0) (s l : List ℕ) where
-    abbrev oldest : ℕ
-    oldest = getD (h .waiting .bytes) 0 0
+  -- a byte is taken, then followed
+  module _ (s l : List ℕ) {e : End (Answer ℕ)} {u : ℕ} {kept : KeptBytes} (t : Takes (waitingBytes (h .waiting)) s e u kept) where
+    abbrev waiting : List ℕ
+    waiting = waitingBytes (h .waiting)
 
-    abbrev others : List ℕ
-    others = bytesFrom (h .waiting .bytes) 1 (h .waiting .count - 1)
+    module _ (b : ℕ) (q : e ≡ yields (gives b)) where
+      followed-play : let o = play (onByte rules h (stillWaiting waiting) b) (part u s) l in played (o .end) (u + o .used) (o .pairs) (o .log) ≡ play (keyCall rules h) s l
+      followed-play = rw (t .uses, call-taken rules h) (takes-then (onByte rules h) waiting s l b (sym (t .ends) ∙ q))
 
-    waits : waitingBytes (h .waiting) ≡ oldest ∷ others
-    unfolding bytesFrom
-    waits =
-        let e : h .waiting .count ≡ suc (h .waiting .count - 1) = omega (arith, some-wait) in
-        ap (bytesFrom (h .waiting .bytes) 0) e
-
-    pub waiting-call : {x : KeyEffects} {m : List ℕ} → let o = play (onByte rules h others oldest) s l in (x ≡ keyEffectsBy h o) × (m ≡ o .log)
-        → (x ≡ keyEffects rules h s l) × (m ≡ play (keyCall rules h) s l .log)
-    unfolding keyEffects
-    waiting-call p =
-        let t : onByte rules h others oldest ≡ keyCall rules h = sym (call-taken rules h ∙ ap (λ (y : List ℕ). takeByte y (onByte rules h)) waits) in
-        (p .0 ∙ ap (λ (y : Exchange Keyed). keyEffectsBy h (play y s l)) t, p .1 ∙ ap (λ (y : Exchange Keyed). play y s l .log) t)
-
-  -- none waits: it is read
-  module _ (none-waits : h .waiting .count ≡ 0) where
-    -- what is left of a call by the answer of its read; the read alone refuses nothing
-    abbrev onRead : Answer ℕ → Exchange Keyed
-    onRead (gives b) = onByte rules h [] b
-    onRead (refuses n) = done (keyed (refuses n) (gives success) h 0)
-
-    read-tree : keyCall rules h ≡ bind readScancode onRead
-    unfolding bind readScancode readPort
-    read-tree = none-taken rules h (no-bytes rules h none-waits)
-
-    module _ (s l : List ℕ) {e : End (Answer ℕ)} {u v : ℕ} (r : Reads readScancode s e u v) where
-      read-byte : (b : ℕ) → e ≡ yields (gives b) → let o = play (onByte rules h [] b) (part u s) l in
-          played (o .end) (u + o .used) (o .pairs) (o .log) ≡ play (keyCall rules h) s l
-      read-byte b q = rw read-tree (reads-then readScancode onRead s r l q refl)
-
-      -- the rest of the call, after the byte
-      module _ (b : ℕ) (q : e ≡ yields (gives b)) {after : KeyEffects} (x : after ≡ keyEffectsBy h (play (onByte rules h [] b) (part u s) l)) where
+      module _ {after : KeyEffects} (x : after ≡ keyEffectsBy h (play (onByte rules h (stillWaiting waiting) b) (part u s) l)) where
         pub byte-used : u + after .used ≤ length s
-        byte-used = rw x (call-used-le (keyCall rules h) s l (read-byte b q))
+        byte-used = rw x (call-used-le (keyCall rules h) s l followed-play)
 
-        pub byte-call : {m : List ℕ} → m ≡ play (onByte rules h [] b) (part u s) l .log
+        pub byte-call : {m : List ℕ} → m ≡ play (onByte rules h (stillWaiting waiting) b) (part u s) l .log
             → (further u after ≡ keyEffects rules h s l) × (m ≡ play (keyCall rules h) s l .log)
-        byte-call y = rw (x, y) (call-back s l (read-byte b q))
+        byte-call y = rw (x, y) (call-back s l followed-play)
 
-      -- a read of data gives a byte, or lacks one
-      read-ends : (s : List ℕ) → (play readScancode s [] .end ≡ lacks (noScript p60)) ⊎ ((b : ℕ) × (play readScancode s [] .end ≡ yields (gives b)))
-      unfolding readScancode readPort play
-      read-ends [] = inl refl
-      read-ends (b ∷ s) = inr (b, refl)
-
-      byte-not-refused : (b : ℕ) (x : Refusal) → yields (gives b) ≡ refused x → ⊥
-      byte-not-refused b (Refusal.Lacking y) q = let z : _≡_ {A = ℕ} 0 1 = cc in omega arith
-      byte-not-refused b (Refusal.Failed f) q = let z : _≡_ {A = ℕ} 0 1 = cc in omega arith
-
-      only-lack : (x : Refusal) → e ≡ refused x → e ≡ lacks (noScript p60)
-      only-lack x q =
-          let p : e ≡ play readScancode s [] .end = ap (λ (o : Played (Answer ℕ)). o .end) (r .with-any []) in
-          ⊎-elim (λ k. p ∙ k) (λ k. absurd (byte-not-refused (k .0) x (sym (p ∙ k .1) ∙ q))) (read-ends s)
-
-      -- where no byte was read, the call lacks one from port 60
-      pub no-byte : (x : Refusal) → e ≡ refused x
-          → (keyEffectsBy h (played (lacks (noScript p60)) u 0 l) ≡ keyEffects rules h s l) × (l ≡ play (keyCall rules h) s l .log)
-      no-byte x q =
-          let p : played (lacks (noScript p60)) u 0 l ≡ play (keyCall rules h) s l = rw read-tree (reads-then-lacks readScancode onRead s r l (only-lack x q)) in
-          call-back s l p
+    -- where there is none, the call lacks one from port 60
+    pub no-byte : (x : Refusal) → e ≡ refused x
+        → (keyEffectsBy h (played (lacks (noScript p60)) u 0 l) ≡ keyEffects rules h s l) × (l ≡ play (keyCall rules h) s l .log)
+    no-byte x q =
+        let p : played (lacks (noScript p60)) u 0 l ≡ play (keyCall rules h) s l =
+        rw (t .uses, call-taken rules h) (takes-none (onByte rules h) waiting s l x (sym (t .ends) ∙ q)) in
+        call-back s l p

@@ -4,12 +4,12 @@ use mathlib.Core.Bool.{Bool, true, false, _||_}
 use mathlib.Core.Option.{Option, none, some}
 use Prim.Native.Nat.{ℕ}
 use lib.Dec.{eqb}
-use Rattle.exchange.specs.Exchange.{End, yields, lacks}
+use Rattle.exchange.specs.Exchange.{End, yields, lacks, toldEnd}
 use Rattle.exchange.specs.Answer.{Answer, gives, refuses, numberEnded}
 use Rattle.ps2_answers.specs.Refusals.{Success, success, lackOf}
 use Rattle.keycodes_ascii.specs.declared.KeyEvent.{KeyEvent}
-use Rattle.keyboard.specs.declared.GivenEvent.{GivenEvent}
 use Rattle.keyboard.specs.declared.HandlerAnswer.{HandlerAnswer}
+use Rattle.keyboard.specs.declared.NewEvent.{NewEvent}
 
 -- Of a handler call: how it ended.
 abbrev pub saidCall : HandlerAnswer → End (Answer Success)
@@ -26,12 +26,14 @@ abbrev pub saidLamps : Bool → Answer Success
 saidLamps false = gives success
 saidLamps true = refuses 14
 
--- Of the byte that it took: the event that it gives, if it gives one.
-abbrev pub saidGiven : GivenEvent → End (Answer (Option KeyEvent))
-saidGiven (GivenEvent.Event e) = yields (gives (some e))
-saidGiven GivenEvent.Nothing = yields (gives none)
-saidGiven GivenEvent.UnknownScancode = yields (refuses 19)
-saidGiven (GivenEvent.Lacking l) = lacks (lackOf l)
+-- Of the byte that it took: the event that it gives; where it gives none, the answer.
+abbrev pub noEvent : Answer Success → Answer (Option KeyEvent)
+noEvent (gives a) = gives none
+noEvent (refuses n) = refuses n
+
+abbrev pub saidGiven : HandlerAnswer → NewEvent → End (Answer (Option KeyEvent))
+saidGiven a (NewEvent.Event e) = yields (gives (some e))
+saidGiven a NewEvent.Nothing = toldEnd noEvent (saidCall a)
 
 -- The answers after which "records are as passed in".
 abbrev pub ends2-3-21 : End (Answer Success) → Bool

@@ -1,6 +1,8 @@
 // The handler call, for either side of a table: Theseus's `keyboard`.
 ghost use mathlib.Core.Bool.{true};
 ghost use mathlib.Core.Path.{_≡_};
+ghost use mathlib.Core.Logic.{_≢_};
+ghost use lib.ListN.{getD};
 ghost use Prim.Native.Nat.{_-_, _≤_};
 ghost use Rattle.exchange.specs.Exchange.{play};
 ghost use Rattle.ps2_kept.specs.Kept.{keptLimit, keptOf};
@@ -8,13 +10,14 @@ ghost use Rattle.keyboard_scancodes.specs.Strokes.{lowPart};
 ghost use Rattle.keyboard_scancodes.specs.declared.Profile.{Profile};
 ghost use Rattle.keyboard_scancodes.specs.Profile.{pressesFollowed};
 ghost use Rattle.keyboard_scancodes.specs.Events.{keycodeAt, eventOf};
-ghost use Rattle.keyboard_scancodes.specs.Waiting.{bytesFrom};
+ghost use Rattle.keyboard_scancodes.specs.Waiting.{bytesFrom, waitingBytes};
 ghost use Rattle.keyboard.specs.Byte.{afterLamps, onByte, keyCall, keyEffects};
 ghost use Rattle.exchange.specs.Answer.{numberEnded};
+ghost use Rattle.ps2_answers.specs.Answers.{saidByte};
 ghost use Rattle.keyboard.specs.Answers.{saidCall, saidLamps};
 ghost use Rattle.keyboard.specs.KeyboardLamps.{portOf, portRules, keyboardLamps};
 ghost use Rattle.keyboard.specs.Handler.{effects, logLeft, handled};
-ghost use Rattle.keyboard.specs.Outcomes.{saidKeyEffect, saidEffect, saidHandled, keyEffectsOf, onKey, PlaysOn};
+ghost use Rattle.keyboard.specs.Outcomes.{saidKeyEffect, saidEffect, saidHandled, keyEffectsOf, onKey, PlaysOn, Takes};
 use keyboard_modifiers::KeyboardModifiers;
 use keyboard_record::HandlerState;
 use keyboard_record::KeyboardHandler;
@@ -39,8 +42,8 @@ use ps2_answers::Completion;
 use ps2_answers::Lack;
 use ps2_answers::ReadPort;
 use ps2_answers::Refusal;
+use ps2_kept::KEPT_LIMIT;
 use ps2_kept::KeptBytes;
-use ps2_kept::add_byte;
 use ps2_kept::none_kept;
 use ps2_keyboard::read_scancode;
 use ps2_keyboard::set_port_led_onto;
@@ -57,17 +60,23 @@ pub enum HandlerAnswer {
     OutsideProfile,
 }
 
-// What a byte gives: an event, nothing, the refusal that document 01 numbers 19, or nothing for lack of a byte or room.
-enum GivenEvent {
-    Event(KeyEvent),
-    Nothing,
-    UnknownScancode,
-    Lacking(Lack),
+// The oldest byte that waits, and those behind it.
+struct OldestTaken {
+    behind: KeptBytes,
+    oldest: u8,
 }
 
-// What a call gives back for its keyboard. A lamp exchange that failed, document 01's 14, is shown beside the answer, and so is the number of the bytes that it threw away and that found no place to wait.
+// The byte that a call takes, or that there is none; the script bytes used for it; and the bytes that still wait.
+struct TakenByte {
+    kept: KeptBytes,
+    used: usize,
+    answer: ByteAnswer,
+}
+
+// What a call gives back for its keyboard: the event that its byte gives; where it gives none, the answer. A lamp exchange that failed, document 01's 14, is shown beside the answer, and so is the number of the bytes that it threw away and that found no place to wait.
 struct KeyEffect {
-    given: GivenEvent,
+    answer: HandlerAnswer,
+    event: NewEvent,
     lamps_failed: bool,
     used: usize,
     pairs: usize,
@@ -85,7 +94,7 @@ pub struct Handled {
     pub dropped: u32,
 }
 
-// The event that a call puts into the queue, if any.
+// The event that a byte gives, or that a call puts into the queue, if any.
 pub enum NewEvent {
     Event(KeyEvent),
     Nothing,
@@ -136,20 +145,52 @@ fn event_of(keycode: Keycode, scan_code: u8, modifiers: KeyboardModifiers) -> Ke
     }
 }
 
-// The bytes that wait behind the oldest.
-fn behind_oldest(waiting: WaitingBytes) -> KeptBytes
-    requires { ⌜ waiting .count ≤ keptLimit ⌝ }
-    ensures { λ r. ⌜ r ≡ keptOf (bytesFrom (waiting .bytes) 1 (waiting .count - 1)) ⌝ }
+// Takes the oldest byte that waits: each byte behind it moves up by one place.
+fn take_oldest(waiting: WaitingBytes) -> OldestTaken
+    requires { ⌜ (waiting .count ≤ keptLimit) × (waiting .count ≢ 0) ⌝ }
+    ensures { λ r. ⌜ (r .oldest ≡ getD (waiting .bytes) 0 0) × (r .behind ≡ keptOf (bytesFrom (waiting .bytes) 1 (waiting .count - 1))) ⌝ }
 {
     let bytes = waiting.bytes;
-    let count = waiting.count as usize;
-    let mut kept = none_kept();
-    let mut place: usize = 1;
-    while place < count {
-        kept = add_byte(kept, bytes[place]);
-        place += 1;
+    let count = waiting.count;
+    let mut behind: [u8; KEPT_LIMIT] = [0; KEPT_LIMIT];
+    let mut oldest: u8 = 0;
+    let mut place = count as usize;
+    while 0 < place {
+        place -= 1;
+        behind[place] = oldest;
+        oldest = bytes[place];
     }
-    kept
+    OldestTaken {
+        behind: KeptBytes {
+            bytes: behind,
+            count: count - 1,
+            others: 0,
+        },
+        oldest,
+    }
+}
+
+// The byte that a call takes: the oldest that waits; where none waits, one is read without asking the status.
+fn take_byte(waiting: WaitingBytes, script: &[u8]) -> TakenByte
+    requires { ⌜ waiting .count ≤ keptLimit ⌝ }
+    ensures { λ r. ⌜ Takes (waitingBytes waiting) (now (script .entry)) (saidByte (r .answer)) (r .used) (r .kept) ⌝ }
+{
+    if waiting.count != 0 {
+        let taken = take_oldest(waiting);
+        let kept = taken.behind;
+        return TakenByte {
+            kept,
+            used: 0,
+            answer: ByteAnswer::Byte(taken.oldest),
+        };
+    }
+    let read = read_scancode(script);
+    let answer = read.answer;
+    TakenByte {
+        kept: none_kept(),
+        used: read.used,
+        answer,
+    }
 }
 
 // What follows a scancode's lamp exchange, which used and wrote this much, with the bytes that come to wait.
@@ -173,7 +214,8 @@ fn after_lamps(
         FoundKeycode::Found(keycode) => {
             let event = event_of(keycode, scan_code, modifiers);
             KeyEffect {
-                given: GivenEvent::Event(event),
+                answer: HandlerAnswer::Done,
+                event: NewEvent::Event(event),
                 lamps_failed,
                 used,
                 pairs,
@@ -182,7 +224,8 @@ fn after_lamps(
             }
         }
         FoundKeycode::Unknown => KeyEffect {
-            given: GivenEvent::UnknownScancode,
+            answer: HandlerAnswer::UnknownScancode,
+            event: NewEvent::Nothing,
             lamps_failed,
             used,
             pairs,
@@ -214,7 +257,8 @@ fn lock_pressed(
         Completion::Done => after_lamps(waiting, scan_code, modifiers, false, used, pairs),
         Completion::Refused(e) => match e {
             Refusal::Lacking(lack) => KeyEffect {
-                given: GivenEvent::Lacking(lack),
+                answer: HandlerAnswer::Lacking(lack),
+                event: NewEvent::Nothing,
                 lamps_failed: false,
                 used,
                 pairs,
@@ -243,7 +287,8 @@ fn on_byte(
         let prefix = is_prefix(scan_code);
         let waiting = WaitingBytes::from_kept(kept);
         return KeyEffect {
-            given: GivenEvent::Nothing,
+            answer: HandlerAnswer::Done,
+            event: NewEvent::Nothing,
             lamps_failed: false,
             used: 0,
             pairs: 0,
@@ -262,7 +307,7 @@ fn on_byte(
     after_lamps(kept, scan_code, modifiers, false, 0, 0)
 }
 
-// A keyboard's part of a handler call: one scancode is taken and followed. It is the oldest byte that waits; where none waits, one is read without asking the status.
+// A keyboard's part of a handler call: one scancode is taken and followed.
 fn key_call(
     profile: Profile,
     port: DevicePort,
@@ -273,37 +318,27 @@ fn key_call(
     requires { ⌜ keyboard .waiting .count ≤ keptLimit ⌝ }
     ensures { λ r. ⌜ (saidKeyEffect r ≡ keyEffects (portRules profile port) keyboard (now (script .entry)) (now (log .entry))) × (now (log .exit) ≡ play (keyCall (portRules profile port) keyboard) (now (script .entry)) (now (log .entry)) .log) ⌝ }
 {
-    let waiting = keyboard.waiting;
-    if waiting.count != 0 {
-        let oldest = waiting.bytes[0];
-        return on_byte(
-            profile,
-            port,
-            keyboard,
-            behind_oldest(waiting),
-            oldest,
-            script,
-            log,
-        );
-    }
-    let read = read_scancode(script);
-    let used = read.used;
-    let answer = read.answer;
+    let taken = take_byte(keyboard.waiting, script);
+    let used = taken.used;
+    let kept = taken.kept;
+    let answer = taken.answer;
     match answer {
         ByteAnswer::Byte(scan_code) => {
             let after = on_byte(
                 profile,
                 port,
                 keyboard,
-                none_kept(),
+                kept,
                 scan_code,
                 &script[used..],
                 log,
             );
-            let given = after.given;
+            let answer = after.answer;
+            let event = after.event;
             let left = after.keyboard;
             KeyEffect {
-                given,
+                answer,
+                event,
                 lamps_failed: after.lamps_failed,
                 used: used + after.used,
                 pairs: after.pairs,
@@ -312,7 +347,8 @@ fn key_call(
             }
         }
         ByteAnswer::Refused(_) => KeyEffect {
-            given: GivenEvent::Lacking(Lack::Script(ReadPort::Data)),
+            answer: HandlerAnswer::Lacking(Lack::Script(ReadPort::Data)),
+            event: NewEvent::Nothing,
             lamps_failed: false,
             used,
             pairs: 0,
@@ -355,10 +391,11 @@ pub fn effect_of(state: HandlerState, side: Side, script: &[u8], log: &mut [u8])
     let pairs = key.pairs;
     let keyboard = key.keyboard;
     let dropped = key.dropped;
-    let given = key.given;
+    let answer = key.answer;
+    let given = key.event;
     let left = state.with_keyboard(side, keyboard);
     match given {
-        GivenEvent::Event(event) => {
+        NewEvent::Event(event) => {
             let keycode = event.keycode;
             let joined = left.join(side, keycode);
             let state = joined.state;
@@ -402,26 +439,8 @@ pub fn effect_of(state: HandlerState, side: Side, script: &[u8], log: &mut [u8])
                 },
             }
         }
-        GivenEvent::Nothing => Effect {
-            answer: HandlerAnswer::Done,
-            lamps_failed,
-            used,
-            pairs,
-            state: left,
-            event: NewEvent::Nothing,
-            dropped,
-        },
-        GivenEvent::UnknownScancode => Effect {
-            answer: HandlerAnswer::UnknownScancode,
-            lamps_failed,
-            used,
-            pairs,
-            state: left,
-            event: NewEvent::Nothing,
-            dropped,
-        },
-        GivenEvent::Lacking(lack) => Effect {
-            answer: HandlerAnswer::Lacking(lack),
+        NewEvent::Nothing => Effect {
+            answer,
             lamps_failed,
             used,
             pairs,

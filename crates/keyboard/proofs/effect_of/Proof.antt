@@ -6,11 +6,11 @@ use mathlib.Core.Bool.{true}
 use borrow.Author.Tests.{not-true, not-false}
 use Rattle.keyboard_record.specs.Record.{callFormed}
 use Rattle.keyboard_record.proofs.WellFormed.{call-is}
-use Rattle.keyboard.specs.Answers.{saidGiven}
+use Rattle.keyboard.specs.Answers.{saidCall, saidGiven}
 use Rattle.keyboard.specs.KeyboardLamps.{keyboardLamps}
 use Rattle.keyboard.specs.Outcomes.{saidKeyEffect}
 use Rattle.keyboard.proofs.Refused.{malformed-effects, malformed-log}
-use Rattle.keyboard.proofs.Effects.{formed-call, event-effects, nothing-effects, refused-effects, lack-effects}
+use Rattle.keyboard.proofs.Effects.{formed-call, event-effects, no-event-effects}
 use Rattle.keyboard.proofs.effect_of.Statement.{statement}
 use Rattle.keyboard.proofs.effect_of.Tie as tie
 
@@ -45,7 +45,7 @@ returns-2 c =
     let f = p .before .before .before in
     let a = f .before .before .before .before .args in
     formed-call (a .side) (a .state) _ _ (well f) refl (p .before .port-of .ensures) (p .keyboard-at .ensures) (e .key-call .ensures)
-    (event-effects (a .side) (a .state) (saidKeyEffect (e .key-call .result)) (k .with-keyboard .ensures) (ap saidGiven (g .given .given .1)) (rw (c .enum-told .given .1) at (j .join .ensures)))
+    (event-effects (a .side) (a .state) (saidKeyEffect (e .key-call .result)) (k .with-keyboard .ensures) (ap (saidGiven (e .key-call .result .answer)) (g .given .given .1)) (rw (c .enum-told .given .1) at (j .join .ensures)))
 
 returns-3 : tie.Need-returns-3
 returns-3 c =
@@ -58,7 +58,7 @@ returns-3 c =
     let f = p .before .before .before in
     let a = f .before .before .before .before .args in
     formed-call (a .side) (a .state) _ _ (well f) refl (p .before .port-of .ensures) (p .keyboard-at .ensures) (e .key-call .ensures)
-    (event-effects (a .side) (a .state) (saidKeyEffect (e .key-call .result)) (k .with-keyboard .ensures) (ap saidGiven (g .given .given .1)) (rw (c .enum-told2 .given .1) at (j .join .ensures)))
+    (event-effects (a .side) (a .state) (saidKeyEffect (e .key-call .result)) (k .with-keyboard .ensures) (ap (saidGiven (e .key-call .result .answer)) (g .given .given .1)) (rw (c .enum-told2 .given .1) at (j .join .ensures)))
 
 returns-4 : tie.Need-returns-4
 returns-4 c =
@@ -71,7 +71,7 @@ returns-4 c =
     let f = p .before .before .before in
     let a = f .before .before .before .before .args in
     formed-call (a .side) (a .state) _ _ (well f) refl (p .before .port-of .ensures) (p .keyboard-at .ensures) (e .key-call .ensures)
-    (event-effects (a .side) (a .state) (saidKeyEffect (e .key-call .result)) (k .with-keyboard .ensures) (ap saidGiven (g .given .given .1)) (rw (c .enum-told3 .given .1) at (j .join .ensures)))
+    (event-effects (a .side) (a .state) (saidKeyEffect (e .key-call .result)) (k .with-keyboard .ensures) (ap (saidGiven (e .key-call .result .answer)) (g .given .given .1)) (rw (c .enum-told3 .given .1) at (j .join .ensures)))
 
 returns-5 : tie.Need-returns-5
 returns-5 c =
@@ -84,7 +84,7 @@ returns-5 c =
     let f = p .before .before .before in
     let a = f .before .before .before .before .args in
     formed-call (a .side) (a .state) _ _ (well f) refl (p .before .port-of .ensures) (p .keyboard-at .ensures) (e .key-call .ensures)
-    (event-effects (a .side) (a .state) (saidKeyEffect (e .key-call .result)) (k .with-keyboard .ensures) (ap saidGiven (g .given .given .1)) (rw (c .enum-told4 .given .1) at (j .join .ensures)))
+    (event-effects (a .side) (a .state) (saidKeyEffect (e .key-call .result)) (k .with-keyboard .ensures) (ap (saidGiven (e .key-call .result .answer)) (g .given .given .1)) (rw (c .enum-told4 .given .1) at (j .join .ensures)))
 
 returns-6 : tie.Need-returns-6
 returns-6 c =
@@ -94,27 +94,7 @@ returns-6 c =
     let f = p .before .before .before in
     let a = f .before .before .before .before .args in
     formed-call (a .side) (a .state) _ _ (well f) refl (p .before .port-of .ensures) (p .keyboard-at .ensures) (e .key-call .ensures)
-    (nothing-effects (a .side) (a .state) (saidKeyEffect (e .key-call .result)) (k .with-keyboard .ensures) (ap saidGiven (c .enum-told5 .given .1)))
-
-returns-7 : tie.Need-returns-7
-returns-7 c =
-    let k = c .before .before in
-    let e = k .before .before .before .before in
-    let p = e .before .before in
-    let f = p .before .before .before in
-    let a = f .before .before .before .before .args in
-    formed-call (a .side) (a .state) _ _ (well f) refl (p .before .port-of .ensures) (p .keyboard-at .ensures) (e .key-call .ensures)
-    (refused-effects (a .side) (a .state) (saidKeyEffect (e .key-call .result)) (k .with-keyboard .ensures) (ap saidGiven (c .enum-told6 .given .1)))
-
-returns-8 : tie.Need-returns-8
-returns-8 c =
-    let k = c .before .before .before in
-    let e = k .before .before .before .before in
-    let p = e .before .before in
-    let f = p .before .before .before in
-    let a = f .before .before .before .before .args in
-    formed-call (a .side) (a .state) _ _ (well f) refl (p .before .port-of .ensures) (p .keyboard-at .ensures) (e .key-call .ensures)
-    (lack-effects (a .side) (a .state) (saidKeyEffect (e .key-call .result)) (k .with-keyboard .ensures) (ap saidGiven (c .before .given2 .given .1)))
+    (no-event-effects (a .side) (a .state) (saidKeyEffect (e .key-call .result)) (k .with-keyboard .ensures) (saidCall (e .key-call .result .answer)) (ap (saidGiven (e .key-call .result .answer)) (c .enum-told5 .given .1)))
 
 pub effect-of-spec : {M : Type 1} → statement M
 effect-of-spec =
@@ -134,8 +114,6 @@ effect-of-spec =
     (λ c. search needs)
     (λ c. search needs)
     (λ c. search needs)
-    (λ c. search needs)
-    (λ c. search needs)
     returns-2
     (λ c. search needs)
     returns-3
@@ -144,8 +122,4 @@ effect-of-spec =
     (λ c. search needs)
     returns-5
     (λ c. search needs)
-    returns-6
-    (λ c. search needs)
-    returns-7
-    (λ c. search needs)
-    returns-8)
+    returns-6)
