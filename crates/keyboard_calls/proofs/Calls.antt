@@ -1,4 +1,4 @@
--- Handler calls in a row, one more at a time: what holds in a loop of them, by value or in place.
+-- Handler calls in a row, one more at a time: what holds in a loop of them, by value, in place or on the state alone.
 -- Assumes nothing.
 use mathlib.Core.Path.{_≡_, refl, ap, _∙_}
 use mathlib.Core.List.{List}
@@ -7,9 +7,10 @@ use native.Mathlib.Omega.{arith}
 use Prim.Native.Nat.{ℕ, _+_, _≤_, _<_}
 use lib.ListN.{length}
 use Rattle.keyboard_sides.specs.declared.Side.{Side}
+use Rattle.keyboard_record.specs.declared.HandlerState.{HandlerState}
 use Rattle.keyboard_record.specs.declared.KeyboardHandler.{KeyboardHandler}
 use Rattle.keyboard.specs.KeyboardLamps.{keyboardLamps}
-use Rattle.keyboard.specs.Handler.{handled, logLeft}
+use Rattle.keyboard.specs.Handler.{effects, handled, logLeft}
 use Rattle.keyboard_calls.specs.Calls.{Left, left, oneMore, called}
 
 -- from a record and a log on, calls for a side with one script
@@ -34,3 +35,26 @@ module _ (side : Side) (script : List ℕ) (h₀ : KeyboardHandler) (log₀ : Li
       let all : i ≡ times = omega (arith, so-far .0, ge) in
       let done : left _ _ ≡ called side times script (left h₀ log₀) = so-far .2 ∙ ap (λ (k : ℕ). called side k script (left h₀ log₀)) all in
       (ap (λ (y : Left). y .handler .state .count) done, ap (λ (y : Left). y .log) done)
+
+  -- ---- on the state alone: it is that of the record, whatever the places hold
+
+  abbrev pub StateReached : HandlerState → List ℕ → ℕ → Type 0
+  StateReached s log i =
+      let x = called side i script (left h₀ log₀) in
+      (i ≤ times) × (length log ≡ length log₀) × (s ≡ x .handler .state) × (log ≡ x .log)
+
+  pub none-called-on : {s : HandlerState} → s ≡ h₀ .state → StateReached s log₀ 0
+  unfolding called
+  none-called-on e = (omega arith, refl, e, refl)
+
+  pub one-more-called-on : {s s′ : HandlerState} {l l′ : List ℕ} {i : ℕ} {side′ : Side} → StateReached s l i → i < times → side′ ≡ side
+      → s′ ≡ effects keyboardLamps side′ s script l .state → l′ ≡ logLeft keyboardLamps side′ s script l → length l′ ≡ length l → StateReached s′ l′ (i + 1)
+  unfolding called handled
+  one-more-called-on {i = i} so-far below same a b long =
+      (omega (arith, below), long ∙ so-far .1, rw (add-one i, a, same, so-far .2, so-far .3), rw (add-one i, b, same, so-far .2, so-far .3))
+
+  pub all-called-on : {s : HandlerState} {l : List ℕ} {i : ℕ} → StateReached s l i → times ≤ i
+      → (s .count ≡ called side times script (left h₀ log₀) .handler .state .count) × (l ≡ called side times script (left h₀ log₀) .log)
+  all-called-on {i = i} so-far ge =
+      let all : i ≡ times = omega (arith, so-far .0, ge) in
+      rw (← all) (ap (λ (x : HandlerState). x .count) (so-far .2), so-far .3)

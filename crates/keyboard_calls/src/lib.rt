@@ -1,12 +1,14 @@
-// Handler calls by value or in place, one after another, for a program in Rust to link: `beside/bench` measures them.
+// Handler calls by value, in place or on the state alone, one after another, for a program in Rust to link: `beside/bench` measures them.
 ghost use mathlib.Core.Path.{_≡_};
 ghost use Rattle.keyboard_sides.specs.Sides.{sideOf};
 ghost use Rattle.keyboard_record.specs.Record.{fresh};
 ghost use Rattle.keyboard.specs.KeyboardLamps.{keyboardLamps};
-ghost use Rattle.keyboard.specs.Handler.{handled, logLeft};
+ghost use Rattle.keyboard.specs.Handler.{effects, handled, logLeft};
 ghost use Rattle.keyboard_calls.specs.Calls.{tableOf, left, called};
+use keyboard::effect_of;
 use keyboard::handle;
 use keyboard_in_place::handle_in_place;
+use keyboard_record::HandlerState;
 use keyboard_record::KeyboardHandler;
 use keyboard_record::Keyboards;
 use keyboard_record::Table;
@@ -63,6 +65,15 @@ fn call_by_value(
     left
 }
 
+// A handler call on the state alone: whoever holds the places stores the event.
+fn call_on_state(state: HandlerState, side: Side, script: &[u8], log: &mut [u8]) -> HandlerState
+    ensures { λ r. ⌜ (r ≡ effects keyboardLamps side state (now (script .entry)) (now (log .entry)) .state) × (now (log .exit) ≡ logLeft keyboardLamps side state (now (script .entry)) (now (log .entry))) ⌝ }
+{
+    let done = effect_of(state, side, script, log);
+    let after = done.state;
+    after
+}
+
 // So many handler calls by value for a side, from a fresh record on for one keyboard or two; answers how many events then wait.
 #[no_mangle]
 pub extern "C" fn keyboard_calls_by_value(
@@ -105,4 +116,27 @@ pub extern "C" fn keyboard_calls_in_place(
         i += 1;
     }
     handler.state.count
+}
+
+// So many handler calls for a side on the state alone, from that of a fresh record on for one keyboard or two; answers how many events then wait.
+#[no_mangle]
+pub extern "C" fn keyboard_calls_on_state(
+    script: &[u8],
+    log: &mut [u8],
+    times: usize,
+    two: bool,
+    second: bool,
+) -> usize
+    ensures { λ r. ⌜ (r ≡ called (sideOf second) times (now (script .entry)) (left (fresh (tableOf two)) (now (log .entry))) .handler .state .count) × (now (log .exit) ≡ called (sideOf second) times (now (script .entry)) (left (fresh (tableOf two)) (now (log .entry))) .log) ⌝ }
+{
+    let side = side_of(second);
+    let handler = KeyboardHandler::fresh(table_of(two));
+    let mut state = handler.state;
+    let mut i: usize = 0;
+    while i < times {
+        let next = call_on_state(state, side, script, log);
+        state = next;
+        i += 1;
+    }
+    state.count
 }

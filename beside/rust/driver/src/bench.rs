@@ -315,6 +315,13 @@ pub fn bench(port: Paths, tablekeys: &str, rounds: usize) -> io::Result<ExitCode
         );
         table.row(&format!("handler call, {call}, by value"), Ok((rust, port("value")?)), &contents);
         table.row(&format!("handler call, {call}, in place"), Ok((rust, port("place")?)), "the same calls");
+        let contents = "the same calls, on the record's state: whoever holds the places stores the event";
+        table.row(&format!("handler call, {call}, without the places"), Ok((rust, port("state")?)), contents);
+        for (side, number) in [("first", 1), ("second", 2)] {
+            let row = format!("handler call, {call}, by value, side {number} of two keyboards");
+            let contents = "96 calls in a row; in the Rust's place the port's own call at a table with one keyboard";
+            table.row(&row, Ok((port("value")?, port(side)?)), contents);
+        }
     }
     // The Rust has no dispatcher: a step stands beside the port's own handler call, which it makes.
     let ready = measured("step-ready")?;
