@@ -10,7 +10,7 @@ use lib.ListN.{length, getD}
 use native.Mathlib.Nat.{zero-add}
 use native.Mathlib.Omega.{arith}
 use Rattle.exchange.specs.Exchange.{p60, noScript, Lack, Exchange, done, read, bind, End, yields, lacks, Played, played, play, Reads}
-use Rattle.exchange.specs.Answer.{Answer, gives, refuses}
+use Rattle.exchange.specs.Answer.{Answer, gives}
 use Rattle.exchange.specs.Bounds.{Within}
 use Rattle.exchange.specs.Keeping.{Kept, keeping, retold, keptEnd}
 use Rattle.exchange.specs.Parts.{part}
