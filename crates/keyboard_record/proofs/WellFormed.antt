@@ -13,6 +13,7 @@ use Rattle.ps2_answers.specs.Refusals.{success}
 use Rattle.keycodes_ascii.specs.declared.Keycode.{Keycode}
 use Rattle.keyboard_scancodes.specs.declared.KeyboardState.{KeyboardState}
 use Rattle.keyboard_scancodes.specs.FlagTable.{flagTable, flagLimit}
+use Rattle.keyboard_scancodes.specs.Remembered.{freshKeyboard}
 use Rattle.keyboard_scancodes.proofs.Tests.{which}
 use Rattle.keyboard_sides.specs.declared.Side.{Side}
 use Rattle.keyboard_sides.specs.Sides.{bitSides, countOf, noSides, sidesOf}
@@ -22,7 +23,7 @@ use Rattle.keyboard_record.specs.declared.KeyboardHandler.{KeyboardHandl
 use Rattle.keyboard_record.specs.declared.Keyboards.{Keyboards}
 use Rattle.keyboard_record.specs.declared.Table.{Table}
 use Rattle.keyboard_record.specs.Queue.{areTwo, room, place, joined, oneMore, waitingSides, withoutOldest}
-use Rattle.keyboard_record.specs.Record.{atTable, keyboardAt, withKeyboard, freshKeyboard, fresh, keyboardFormed, queueFormed, fair, sidesFormed, wellFormed, callFormed}
+use Rattle.keyboard_record.specs.Record.{atTable, keyboardAt, withKeyboard, fresh, keyboardFormed, queueFormed, fair, sidesFormed, wellFormed, callFormed}
 use Rattle.keyboard_record.specs.Taking.{taken}
 use Rattle.keyboard_record.proofs.AtSides.{keyboard-at-more}
 use Rattle.keyboard_record.proofs.Meeting.{Free, Admits, not-admitted, admitted, admits-cases, place-says, room-free, joined-free, joined-full}

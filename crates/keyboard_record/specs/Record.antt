@@ -1,15 +1,13 @@
 -- The handler record: a fresh one, its two sides, and what question 21 asks.
 -- Assumes nothing.
 use mathlib.Core.Bool.{Bool, true, false, _&&_}
-use mathlib.Core.List.{[]}
 use Prim.Native.Nat.{ℕ}
 use lib.Dec.{leb, ltb}
 use lib.ListN.{replicate}
 use Rattle.ps2_kept.specs.Kept.{keptLimit}
 use Rattle.keyboard_scancodes.specs.declared.KeyboardState.{KeyboardState}
-use Rattle.keyboard_scancodes.specs.declared.WaitingBytes.{WaitingBytes}
 use Rattle.keyboard_scancodes.specs.FlagTable.{flagLimit}
-use Rattle.keyboard_scancodes.specs.Waiting.{waitingOf}
+use Rattle.keyboard_scancodes.specs.Remembered.{freshKeyboard}
 use Rattle.keyboard_sides.specs.declared.Side.{Side}
 use Rattle.keyboard_sides.specs.declared.Sides.{Sides}
 use Rattle.keyboard_sides.specs.Sides.{noSides, sidesOf, countOf}
@@ -37,15 +35,7 @@ abbrev pub withKeyboard : Side → KeyboardState → HandlerState → HandlerSta
 withKeyboard Side.First k s = record { first = k; second = s .second; table = s .table; start = s .start; count = s .count; sides = s .sides }
 withKeyboard Side.Second k s = record { first = s .first; second = k; table = s .table; start = s .start; count = s .count; sides = s .sides }
 
--- What is remembered of a keyboard with this prefix, these flags and these waiting bytes.
-abbrev pub keyboardOf : Bool → ℕ → WaitingBytes → KeyboardState
-keyboardOf prefix flags waiting = record { prefix = prefix; modifiers = record { bits = flags }; waiting = waiting }
-
 -- ---- a fresh record
-
--- "No prefix, no flag"; of waiting bytes "a fresh record has none".
-abbrev pub freshKeyboard : KeyboardState
-freshKeyboard = keyboardOf false 0 (waitingOf [])
 
 -- "A fresh handler record: no prefix, no flag, an empty queue", "128 places, all empty at the start". "Whoever asks for a fresh record says one keyboard or two"; "the profile is chosen by the call that makes a fresh handler".
 abbrev pub fresh : Table → KeyboardHandler
