@@ -1,0 +1,9 @@
+-- Scripts that are cut short.
+pub mod CutShort
+pub mod Forms
+pub mod SoFar
+pub mod Numbers
+pub mod Coded
+pub mod Answers
+pub mod Entries
+pub mod Worked

@@ -1,0 +1,5 @@
+-- Scripts that are cut short.
+pub mod CutShort
+pub mod Forms
+pub mod SoFar
+pub mod Coded

@@ -1,0 +1,1 @@
+// A script that is cut short, for every entry on the ports. No code.

@@ -1,0 +1,4 @@
+-- Same hands, same flags.
+pub mod SameHands
+pub mod Witness
+pub mod Dropped

@@ -1,0 +1,3 @@
+-- Same hands, same flags.
+pub mod SameHands
+pub mod Examples
