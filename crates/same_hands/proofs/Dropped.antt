@@ -9,10 +9,11 @@ use Rattle.exchange.specs.Answer.{Answer}
 use Rattle.keyboard_sides.specs.declared.Side.{Side}
 use Rattle.keyboard_record.specs.declared.Keyboards.{Keyboards}
 use Rattle.keyboard_record.specs.Queue.{waiting}
+use Rattle.keyboard.specs.Rules.{rulesAt}
 use Rattle.keyboard_history.specs.Past.{Past, nothing, _▸_}
 use Rattle.keyboard_history.specs.Counted.{Lent, lent, own, counted}
 use Rattle.keyboard_history.specs.Run.{after}
-use Rattle.keyboard_history.specs.Examples.{thenPresses}
+use Rattle.keyboard_history.specs.Examples.{one, two, thenPresses}
 use Rattle.keyboard_history.proofs.History.{history}
 use Rattle.keyboard_history.proofs.Witness.{row-full}
 use Rattle.same_hands.specs.SameHands.{SameHands}
@@ -25,11 +26,11 @@ own-same zero = refl
 own-same (suc n) = ap (λ (past : Past Lent). past ▸ lent (0x1E ∷ []) []) (own-same n)
 
 module _ {A : Type 0} (lamps : Side → ℕ → Exchange (Answer A)) where
-  pub dropped-same : SameHands Side.First (pressed Keyboards.One lamps) (pressed Keyboards.Two lamps)
-  dropped-same = same-hands Side.First (pressed Keyboards.One lamps) (pressed Keyboards.Two lamps) (ap (counted (lamps Side.First)) (own-same 130))
+  pub dropped-same : SameHands Side.First (pressed one lamps) (pressed two lamps)
+  dropped-same = same-hands Side.First (pressed one lamps) (pressed two lamps) refl (ap (counted (rulesAt one lamps Side.First)) (own-same 130))
 
-  pub waits-one : length (waiting (after Keyboards.One lamps (pressed Keyboards.One lamps .calls))) ≡ 128
-  waits-one = ap length (history Keyboards.One lamps (pressed Keyboards.One lamps .calls) .queue ∙ row-full Keyboards.One lamps Side.First refl 2)
+  pub waits-one : length (waiting (after one lamps (pressed one lamps .calls))) ≡ 128
+  waits-one = ap length (history one lamps (pressed one lamps .calls) .queue ∙ row-full one lamps Side.First refl 2)
 
-  pub waits-two : length (waiting (after Keyboards.Two lamps (pressed Keyboards.Two lamps .calls))) ≡ 96
-  waits-two = ap length (history Keyboards.Two lamps (pressed Keyboards.Two lamps .calls) .queue ∙ row-full Keyboards.Two lamps Side.First refl 34)
+  pub waits-two : length (waiting (after two lamps (pressed two lamps .calls))) ≡ 96
+  waits-two = ap length (history two lamps (pressed two lamps .calls) .queue ∙ row-full two lamps Side.First refl 34)

@@ -1,3 +1,4 @@
 -- Same hands, same flags.
 pub mod SameHands
+pub mod Through
 pub mod Examples
