@@ -1,0 +1,28 @@
+-- What the numbers of an argument stand for.
+-- Assumes nothing.
+use mathlib.Core.Bool.{cond}
+use mathlib.Core.Option.{Option, none, some}
+use Prim.Native.Nat.{ℕ}
+use lib.Dec.{eqb}
+use Rattle.keyboard_sides.specs.declared.Side.{Side}
+use Rattle.keyboard_record.specs.declared.Keyboards.{Keyboards}
+use Rattle.keyboard_scancodes.specs.declared.Profile.{Profile}
+
+-- What is answered where an argument stands for nothing. It is no number of documents 01 and 02.
+abbrev pub meansNothing : ℕ
+meansNothing = 255
+
+-- "Events name the side, 1 or 2."
+abbrev pub sideAt : ℕ → Option Side
+sideAt n = cond (eqb n 1) (some Side.First) (cond (eqb n 2) (some Side.Second) none)
+
+abbrev pub sideNumber : Side → ℕ
+sideNumber Side.First = 1
+sideNumber Side.Second = 2
+
+-- "Whoever asks for a fresh record says one keyboard or two", and chooses the profile: 0 for none, 1 for the tournament's.
+abbrev pub keyboardsAsked : ℕ → Option Keyboards
+keyboardsAsked n = cond (eqb n 1) (some Keyboards.One) (cond (eqb n 2) (some Keyboards.Two) none)
+
+abbrev pub profileAsked : ℕ → Option Profile
+profileAsked n = cond (eqb n 0) (some Profile.Any) (cond (eqb n 1) (some Profile.Tournament) none)

@@ -1,0 +1,427 @@
+// The keyboard handler's record lent as numbers, and changed where it lies: a call reads the state's numbers and writes those that change, and of the places one at most.
+ghost use mathlib.Core.Bool.{not, _||_};
+ghost use mathlib.Core.Option.{some};
+ghost use mathlib.Core.Path.{_≡_};
+ghost use mathlib.Core.List.{_++_};
+ghost use lib.Dec.{eqb};
+ghost use lib.ListN.{length};
+ghost use Prim.Native.Nat.{_+_, _*_, _%_, _/_, _<_, _≤_, _^_};
+ghost use Rattle.bits.specs.Bits.{weigh};
+ghost use Rattle.keyboard_scancodes.specs.Waiting.{bytesFrom};
+ghost use Rattle.keyboard.specs.Answers.{saidCall, saidLamps};
+ghost use Rattle.keyboard.specs.Outcomes.{saidEvent};
+ghost use Rattle.exchange.specs.Answer.{numberAnswered};
+ghost use Rattle.handler_words.specs.Layout.{keyboardFrom, wordsLength};
+ghost use Rattle.handler_words.specs.Words.{bytesIn, numberOfBytes, actionNumber, eventAt, wordOf, keyboardsOf, profileOf, keyboardOfWords, keyboardIn, stateOf};
+ghost use Rattle.handler_words.specs.Arguments.{sideAt};
+ghost use Rattle.handler_words.specs.Calls.{portLacked, refusing, withKeyboardAt, withEvent, SideHandled, WordsHandled};
+ghost use Rattle.handler_words.specs.Parts.{saidSide, Narrow, Placed, reread};
+use keyboard::HandlerAnswer;
+use keyboard::NewEvent;
+use keyboard::effect_of;
+use keyboard_modifiers::KeyboardModifiers;
+use keyboard_record::HandlerState;
+use keyboard_record::Keyboards;
+use keyboard_record::QUEUE_LENGTH;
+use keyboard_record::Table;
+use keyboard_scancodes::KeyboardState;
+use keyboard_scancodes::Profile;
+use keyboard_scancodes::WaitingBytes;
+use keyboard_sides::Side;
+use keyboard_sides::Sides;
+use keycodes_ascii::KeyAction;
+use keycodes_ascii::KeyEvent;
+use ps2_answers::Lack;
+
+// Where the numbers of either keyboard begin: the prefix, the flags, how many bytes wait, and the 16 waiting bytes in two numbers.
+const FIRST_AT: usize = 0;
+
+const SECOND_AT: usize = 5;
+
+// How many keyboards the table has, and the profile.
+const KEYBOARDS_AT: usize = 10;
+
+const PROFILE_AT: usize = 11;
+
+// The queue's start and count, and the sides of the events that wait in two numbers.
+const START_AT: usize = 12;
+
+const COUNT_AT: usize = 13;
+
+const LOW_SIDES_AT: usize = 14;
+
+const HIGH_SIDES_AT: usize = 15;
+
+// The places, a number each.
+const PLACES_FROM: usize = 16;
+
+// The numbers of a record.
+pub const HANDLER_WORDS: usize = PLACES_FROM + QUEUE_LENGTH;
+
+// What is answered where an argument stands for nothing; documents 01 and 02 have no such number.
+pub const MEANS_NOTHING: u32 = 255;
+
+// What a handler call answers, as numbers: the refusal and that of the lamp exchange, 0 where there is none; script bytes used, pairs written and bytes dropped; and the port of the read that the script was too short for, or 0.
+pub struct HandledWords {
+    pub refusal: u32,
+    pub lamps: u32,
+    pub used: usize,
+    pub pairs: usize,
+    pub dropped: u32,
+    pub port: u32,
+}
+
+// The side that a number stands for, if any.
+enum FoundSide {
+    Side(Side),
+    Nothing,
+}
+
+// The lowest byte of a number, and its lowest 16 bits.
+fn low_byte(word: u64) -> u8
+    ensures { λ r. ⌜ r ≡ word % 256 ⌝ }
+{
+    (word % 256) as u8
+}
+
+fn low_flags(word: u64) -> u16
+    ensures { λ r. ⌜ r ≡ word % 65536 ⌝ }
+{
+    (word % 65536) as u16
+}
+
+fn wide_byte(x: u8) -> u64
+    ensures { λ r. ⌜ r ≡ x ⌝ }
+{
+    x as u64
+}
+
+fn wide_number(x: u8) -> u32
+    ensures { λ r. ⌜ r ≡ x ⌝ }
+{
+    x as u32
+}
+
+fn wide_flags(x: u16) -> u64
+    ensures { λ r. ⌜ r ≡ x ⌝ }
+{
+    x as u64
+}
+
+// The 16 bytes in two numbers, with how many of them wait.
+fn waiting_in(low: u64, high: u64, count: u64) -> WaitingBytes
+    ensures { λ r. ⌜ r ≡ record { bytes = bytesIn 8 low ++ bytesIn 8 high; count = count % 256 } ⌝ }
+{
+    let low1 = low / 256;
+    let low2 = low1 / 256;
+    let low3 = low2 / 256;
+    let low4 = low3 / 256;
+    let low5 = low4 / 256;
+    let low6 = low5 / 256;
+    let low7 = low6 / 256;
+    let high1 = high / 256;
+    let high2 = high1 / 256;
+    let high3 = high2 / 256;
+    let high4 = high3 / 256;
+    let high5 = high4 / 256;
+    let high6 = high5 / 256;
+    let high7 = high6 / 256;
+    WaitingBytes {
+        bytes: [
+            low_byte(low),
+            low_byte(low1),
+            low_byte(low2),
+            low_byte(low3),
+            low_byte(low4),
+            low_byte(low5),
+            low_byte(low6),
+            low_byte(low7),
+            low_byte(high),
+            low_byte(high1),
+            low_byte(high2),
+            low_byte(high3),
+            low_byte(high4),
+            low_byte(high5),
+            low_byte(high6),
+            low_byte(high7),
+        ],
+        count: low_byte(count),
+    }
+}
+
+// A byte below others in a number.
+fn below(byte: u8, others: u64) -> u64
+    requires { ⌜ others < 2 ^ 56 ⌝ }
+    ensures { λ r. ⌜ (r ≡ byte + 256 * others) × (byte < 256) ⌝ }
+{
+    wide_byte(byte) + 256 * others
+}
+
+// The number of eight bytes from a place on.
+fn eight_from(waiting: WaitingBytes, at: usize) -> u64
+    requires { ⌜ at ≤ 8 ⌝ }
+    ensures { λ r. ⌜ (r ≡ numberOfBytes (bytesFrom (waiting .bytes) at 8)) × (bytesIn 8 r ≡ bytesFrom (waiting .bytes) at 8) ⌝ }
+{
+    let bytes = waiting.bytes;
+    let mut word = below(bytes[at + 7], 0);
+    word = below(bytes[at + 6], word);
+    word = below(bytes[at + 5], word);
+    word = below(bytes[at + 4], word);
+    word = below(bytes[at + 3], word);
+    word = below(bytes[at + 2], word);
+    word = below(bytes[at + 1], word);
+    below(bytes[at], word)
+}
+
+// Whether a number is not 0.
+fn is_set(word: u64) -> bool
+    ensures { λ r. ⌜ r ≡ not (eqb word 0) ⌝ }
+{
+    word != 0
+}
+
+fn bit_word(bit: bool) -> u64
+    ensures { λ r. ⌜ r ≡ weigh bit ⌝ }
+{
+    if bit { 1 } else { 0 }
+}
+
+// How many keyboards a record's number says: 2 is two, and any other one.
+fn keyboards_of(word: u64) -> Keyboards
+    ensures { λ r. ⌜ r ≡ keyboardsOf word ⌝ }
+{
+    if word == 2 {
+        Keyboards::Two
+    } else {
+        Keyboards::One
+    }
+}
+
+// The profile that a record's number says: 0 is none, and any other the tournament's.
+fn profile_of(word: u64) -> Profile
+    ensures { λ r. ⌜ r ≡ profileOf word ⌝ }
+{
+    if word == 0 {
+        Profile::Any
+    } else {
+        Profile::Tournament
+    }
+}
+
+// What is remembered of the keyboard whose numbers begin at a place.
+fn keyboard_in(words: &[u64], at: usize) -> KeyboardState
+    requires { ⌜ (length (now words) ≡ wordsLength) × (at ≤ 5) ⌝ }
+    ensures { λ r. ⌜ r ≡ keyboardIn (now (words .entry)) at ⌝ }
+{
+    let prefix = is_set(words[at]);
+    let bits = low_flags(words[at + 1]);
+    let waiting = waiting_in(words[at + 3], words[at + 4], words[at + 2]);
+    KeyboardState {
+        waiting,
+        prefix,
+        modifiers: KeyboardModifiers { bits },
+    }
+}
+
+// The state that a record's numbers stand for.
+fn state_in(words: &[u64]) -> HandlerState
+    requires { ⌜ length (now words) ≡ wordsLength ⌝ }
+    ensures { λ r. ⌜ r ≡ stateOf (now (words .entry)) ⌝ }
+{
+    let first = keyboard_in(words, FIRST_AT);
+    let second = keyboard_in(words, SECOND_AT);
+    let keyboards = keyboards_of(words[KEYBOARDS_AT]);
+    let profile = profile_of(words[PROFILE_AT]);
+    HandlerState {
+        first,
+        table: Table { keyboards, profile },
+        start: words[START_AT] as usize,
+        second,
+        count: words[COUNT_AT] as usize,
+        sides: Sides {
+            low: words[LOW_SIDES_AT],
+            high: words[HIGH_SIDES_AT],
+        },
+    }
+}
+
+fn action_word(action: KeyAction) -> u64
+    ensures { λ r. ⌜ r ≡ actionNumber action ⌝ }
+{
+    match action {
+        KeyAction::Pressed => 0,
+        KeyAction::Released => 1,
+    }
+}
+
+// The number of a place that holds this event.
+fn event_word(event: KeyEvent) -> u64
+    ensures { λ r. ⌜ (r ≡ wordOf event) × (eventAt r ≡ event) ⌝ }
+{
+    let keycode = event.keycode;
+    let action = event.action;
+    let modifiers = event.modifiers;
+    let key = wide_byte(keycode.to_byte());
+    let act = action_word(action);
+    let flags = wide_flags(modifiers.bits);
+    key + 256 * act + 65536 * flags
+}
+
+// Where the numbers of a side's keyboard begin.
+fn keyboard_at(side: Side) -> usize
+    ensures { λ r. ⌜ (r ≡ keyboardFrom side) × (r ≤ 5) ⌝ }
+{
+    match side {
+        Side::First => FIRST_AT,
+        Side::Second => SECOND_AT,
+    }
+}
+
+// Stores what is remembered of a keyboard, whose numbers begin at a place.
+fn put_keyboard(words: &mut [u64], at: usize, keyboard: KeyboardState)
+    requires { ⌜ (length (now words) ≡ wordsLength) × (at ≤ 5) ⌝ }
+    ensures { λ _. ⌜ (now (words .exit) ≡ withKeyboardAt at keyboard (now (words .entry))) × Narrow keyboard ⌝ }
+{
+    let waiting = keyboard.waiting;
+    let modifiers = keyboard.modifiers;
+    words[at] = bit_word(keyboard.prefix);
+    words[at + 1] = wide_flags(modifiers.bits);
+    words[at + 2] = wide_byte(waiting.count);
+    words[at + 3] = eight_from(waiting, 0);
+    words[at + 4] = eight_from(waiting, 8);
+}
+
+// Stores an event in a place, with the count and the sides that it makes.
+fn put_event(words: &mut [u64], place: usize, left: HandlerState, event: KeyEvent)
+    requires { ⌜ (length (now words) ≡ wordsLength) × (place < 128) ⌝ }
+    ensures { λ _. ⌜ (now (words .exit) ≡ withEvent place left (some event) (now (words .entry))) × (eventAt (wordOf event) ≡ event) ⌝ }
+{
+    let sides = left.sides;
+    words[PLACES_FROM + place] = event_word(event);
+    words[COUNT_AT] = left.count as u64;
+    words[LOW_SIDES_AT] = sides.low;
+    words[HIGH_SIDES_AT] = sides.high;
+}
+
+// Stores the new event, if there is one, in the first place behind those that waited.
+fn put_new(words: &mut [u64], start: usize, count: usize, left: HandlerState, event: NewEvent)
+    requires { ⌜ (length (now words) ≡ wordsLength) × Placed start count event ⌝ }
+    ensures { λ _. ⌜ (now (words .exit) ≡ withEvent ((start + count) % 128) left (saidEvent event) (now (words .entry))) × (reread (saidEvent event) ≡ saidEvent event) ⌝ }
+{
+    if let NewEvent::Event(new) = event {
+        let place = (start + count) % QUEUE_LENGTH;
+        put_event(words, place, left, new);
+    }
+}
+
+// The numbers after which a record is as it was passed.
+fn is_as_passed(refusal: u32) -> bool
+    ensures { λ r. ⌜ r ≡ eqb refusal 2 || (eqb refusal 3 || eqb refusal 21) ⌝ }
+{
+    if refusal == 2 {
+        return true;
+    }
+    if refusal == 3 {
+        return true;
+    }
+    refusal == 21
+}
+
+// The number of a lamp exchange that failed, and 0 where none did.
+fn lamps_number(lamps_failed: bool) -> u32
+    ensures { λ r. ⌜ r ≡ numberAnswered (saidLamps «lamps_failed») ⌝ }
+{
+    if lamps_failed { 14 } else { 0 }
+}
+
+// The port of the read that the script was too short for, and 0 where there was none.
+fn port_lacked(answer: HandlerAnswer) -> u32
+    ensures { λ r. ⌜ r ≡ portLacked (saidCall answer) ⌝ }
+{
+    match answer {
+        HandlerAnswer::Lacking(lack) => match lack {
+            Lack::Script(port) => wide_number(port.number()),
+            Lack::Log => 0,
+        },
+        HandlerAnswer::Done => 0,
+        HandlerAnswer::UnknownScancode => 0,
+        HandlerAnswer::QueueFull => 0,
+        HandlerAnswer::MalformedRecord => 0,
+        HandlerAnswer::SideFull => 0,
+        HandlerAnswer::OutsideProfile => 0,
+    }
+}
+
+// A handler call for a side, on the numbers of a record.
+fn handle_side(words: &mut [u64], side: Side, script: &[u8], log: &mut [u8]) -> HandledWords
+    requires { ⌜ length (now words) ≡ wordsLength ⌝ }
+    ensures { λ r. ⌜ SideHandled side (now (words .entry)) (now (script .entry)) (now (log .entry)) r (now (words .exit)) (now (log .exit)) ⌝ }
+{
+    let state = state_in(words);
+    let start = state.start;
+    let count = state.count;
+    let effect = effect_of(state, side, script, log);
+    let answer = effect.answer;
+    let left = effect.state;
+    let event = effect.event;
+    let refusal = wide_number(answer.number());
+    let lamps = lamps_number(effect.lamps_failed);
+    let port = port_lacked(answer);
+    let handled = HandledWords {
+        refusal,
+        lamps,
+        used: effect.used,
+        pairs: effect.pairs,
+        dropped: effect.dropped,
+        port,
+    };
+    if is_as_passed(refusal) {
+        return handled;
+    }
+    put_keyboard(words, keyboard_at(side), left.keyboard_at(side));
+    put_new(words, start, count, left, event);
+    handled
+}
+
+// The side that a number stands for.
+fn side_of(side: u32) -> FoundSide
+    ensures { λ r. ⌜ saidSide r ≡ sideAt side ⌝ }
+{
+    if side == 1 {
+        return FoundSide::Side(Side::First);
+    }
+    if side == 2 {
+        return FoundSide::Side(Side::Second);
+    }
+    FoundSide::Nothing
+}
+
+// A call that is refused before anything is read.
+fn refused(refusal: u32) -> HandledWords
+    ensures { λ r. ⌜ r ≡ refusing refusal ⌝ }
+{
+    HandledWords {
+        refusal,
+        lamps: 0,
+        used: 0,
+        pairs: 0,
+        dropped: 0,
+        port: 0,
+    }
+}
+
+// A handler call on a lent record: for side 1 or 2, and 21 where it has not 144 numbers.
+pub fn handle_words(words: &mut [u64], side: u32, script: &[u8], log: &mut [u8]) -> HandledWords
+    ensures { λ r. ⌜ WordsHandled (now (words .entry)) side (now (script .entry)) (now (log .entry)) r (now (words .exit)) (now (log .exit)) ⌝ }
+{
+    let found = side_of(side);
+    match found {
+        FoundSide::Side(known) => {
+            if words.len() != HANDLER_WORDS {
+                return refused(21);
+            }
+            handle_side(words, known, script, log)
+        }
+        FoundSide::Nothing => refused(MEANS_NOTHING),
+    }
+}
