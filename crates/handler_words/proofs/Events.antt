@@ -1,15 +1,16 @@
 -- The number of an event stands for it.
 -- Assumes nothing.
-use mathlib.Core.Path.{_≡_, refl}
+use mathlib.Core.Path.{_≡_, refl, sym, ap, _∙_}
 use Prim.Native.Nat.{ℕ, _+_, _*_, _/_, _%_, _<_}
 use native.Mathlib.Omega.{arith}
 use lib.Dec.{ltb, ltb→lt}
+use Rattle.keycodes_ascii.specs.declared.FoundKeycode.{FoundKeycode}
 use Rattle.keycodes_ascii.specs.declared.Keycode.{Keycode}
 use Rattle.keycodes_ascii.specs.declared.KeyAction.{KeyAction}
 use Rattle.keycodes_ascii.specs.declared.KeyEvent.{KeyEvent}
-use Rattle.keycodes_ascii.specs.Keycode.{numberOf, keycodes}
+use Rattle.keycodes_ascii.specs.Keycode.{numberOf, keycodes, keycodeOf}
 use Rattle.keycodes_ascii.proofs.Codes.{every-keycode, keycode-number}
-use Rattle.keyboard_scancodes.specs.Events.{keycodeAt}
+use Rattle.keyboard_scancodes.specs.Events.{theKeycode, keycodeAt}
 use Rattle.handler_words.specs.Words.{flagsLimit, actionOf, actionNumber, eventAt, wordOf}
 
 pub number-in : (k : Keycode) → numberOf k < 256
@@ -39,3 +40,14 @@ event-at v h =
     let g : w / 65536 ≡ m = omega arith in
     let b : m % 65536 ≡ m = omega arith in
     rw (e, d, f, g, b, keycode-number k, action-back a)
+
+-- ---- a keycode by its number
+
+module _ (w : ℕ) {f : FoundKeycode} {b : ℕ} (q : f ≡ keycodeOf b) (r : b ≡ w % 256) where
+  pub found-in : {k : Keycode} → f ≡ FoundKeycode.Found k → k ≡ eventAt w .keycode
+  unfolding eventAt keycodeAt
+  found-in e = ap theKeycode (sym e ∙ q ∙ ap keycodeOf r)
+
+  pub none-in : f ≡ FoundKeycode.Unknown → 0 ≡ numberOf (eventAt w .keycode)
+  unfolding eventAt keycodeAt
+  none-in e = ap (λ (g : FoundKeycode). numberOf (theKeycode g)) (sym e ∙ q ∙ ap keycodeOf r)

@@ -4,3 +4,6 @@ pub mod Events
 pub mod Words
 pub mod Left
 pub mod Calls
+pub mod Taken
+pub mod Cleared
+pub mod Fresh

@@ -6,6 +6,7 @@ use Prim.Native.Nat.{ℕ}
 use lib.Dec.{eqb}
 use Rattle.keyboard_sides.specs.declared.Side.{Side}
 use Rattle.keyboard_record.specs.declared.Keyboards.{Keyboards}
+use Rattle.keyboard_record.specs.declared.Table.{Table}
 use Rattle.keyboard_scancodes.specs.declared.Profile.{Profile}
 
 -- What is answered where an argument stands for nothing. It is no number of documents 01 and 02.
@@ -21,8 +22,9 @@ sideNumber Side.First = 1
 sideNumber Side.Second = 2
 
 -- "Whoever asks for a fresh record says one keyboard or two", and chooses the profile: 0 for none, 1 for the tournament's.
-abbrev pub keyboardsAsked : ℕ → Option Keyboards
-keyboardsAsked n = cond (eqb n 1) (some Keyboards.One) (cond (eqb n 2) (some Keyboards.Two) none)
+abbrev pub laidWith : Keyboards → ℕ → Option Table
+laidWith keyboards n =
+    cond (eqb n 0) (some (record { keyboards = keyboards; profile = Profile.Any })) (cond (eqb n 1) (some (record { keyboards = keyboards; profile = Profile.Tournament })) none)
 
-abbrev pub profileAsked : ℕ → Option Profile
-profileAsked n = cond (eqb n 0) (some Profile.Any) (cond (eqb n 1) (some Profile.Tournament) none)
+abbrev pub tableAt : ℕ → ℕ → Option Table
+tableAt keyboards profile = cond (eqb keyboards 1) (laidWith Keyboards.One profile) (cond (eqb keyboards 2) (laidWith Keyboards.Two profile) none)

@@ -5,22 +5,17 @@ use mathlib.Core.List.{List}
 use mathlib.Core.Option.{Option, none, some}
 use mathlib.Core.Path.{_≡_}
 use Prim.Native.Nat.{ℕ, _+_}
-use lib.Dec.{eqb}
-use lib.ListN.{length, set, replicate}
+use lib.ListN.{length, set}
 use Rattle.bits.specs.Bits.{weigh}
 use Rattle.exchange.specs.Exchange.{noScript, noLog, End, yields, lacks, number}
 use Rattle.exchange.specs.Answer.{Answer, gives, refuses, numberAnswered, numberEnded}
-use Rattle.exchange.specs.Left.{Left, left}
-use Rattle.ps2_answers.specs.Refusals.{Success}
 use Rattle.keycodes_ascii.specs.declared.KeyEvent.{KeyEvent}
 use Rattle.keycodes_ascii.specs.Keycode.{numberOf}
 use Rattle.keyboard_scancodes.specs.declared.KeyboardState.{KeyboardState}
-use Rattle.keyboard_scancodes.specs.declared.Profile.{Profile}
 use Rattle.keyboard_sides.specs.declared.Side.{Side}
 use Rattle.keyboard_sides.specs.declared.Sides.{Sides}
 use Rattle.keyboard_sides.specs.Named.{Sided}
 use Rattle.keyboard_record.specs.declared.HandlerState.{HandlerState}
-use Rattle.keyboard_record.specs.declared.Keyboards.{Keyboards}
 use Rattle.keyboard_record.specs.declared.Table.{Table}
 use Rattle.keyboard_record.specs.Queue.{freePlace}
 use Rattle.keyboard_record.specs.Record.{keyboardAt, fresh}
@@ -29,9 +24,10 @@ use Rattle.keyboard.specs.Answers.{ends2-3-21}
 use Rattle.keyboard.specs.Handler.{Effects, Called, effects, logLeft, handled}
 use Rattle.keyboard.specs.KeyboardLamps.{keyboardLamps}
 use Rattle.handler_words.specs.declared.HandledWords.{HandledWords}
-use Rattle.handler_words.specs.Layout.{keyboardFrom, countAt, lowSidesAt, highSidesAt, placesFrom, wordsLength}
-use Rattle.handler_words.specs.Words.{lowBytes, highBytes, wordOf, stateOf, recordOf}
-use Rattle.handler_words.specs.Arguments.{meansNothing, sideAt}
+use Rattle.handler_words.specs.declared.TakenWords.{TakenWords}
+use Rattle.handler_words.specs.Layout.{keyboardFrom, startAt, countAt, lowSidesAt, highSidesAt, placesFrom, wordsLength}
+use Rattle.handler_words.specs.Words.{actionNumber, lowBytes, highBytes, wordOf, stateOf, recordOf, wordsOf}
+use Rattle.handler_words.specs.Arguments.{meansNothing, sideAt, sideNumber, tableAt}
 
 -- ---- the handler call
 
@@ -95,3 +91,49 @@ AtSide (some side) ws script log answer ws′ log′ =
 
 pub record WordsHandled (ws : List ℕ) (side : ℕ) (script log : List ℕ) (answer : HandledWords) (ws′ log′ : List ℕ) : Type 0 where
   pub is : AtSide (sideAt side) ws script log answer ws′ log′
+
+-- ---- the taking
+
+-- What a taking answers, as numbers: the refusal's, 0 where there is none; the side of the event taken, 0 where there is none; its keycode, action and flags.
+abbrev pub takenNumbers : Answer (Option (Sided KeyEvent)) → TakenWords
+takenNumbers (gives none) = record { refusal = 0; side = 0; keycode = 0; action = 0; flags = 0 }
+takenNumbers (gives (some e)) =
+    record {
+      refusal = 0;
+      side = sideNumber (e .side);
+      keycode = numberOf (e .one .keycode);
+      action = actionNumber (e .one .action);
+      flags = e .one .modifiers .bits;
+    }
+takenNumbers (refuses n) = record { refusal = n; side = 0; keycode = 0; action = 0; flags = 0 }
+
+-- The numbers with another start, count and sides.
+abbrev pub withQueueAt : ℕ → ℕ → Sides → List ℕ → List ℕ
+withQueueAt start count sides ws = withSides sides (set (set ws startAt start) countAt count)
+
+-- The numbers that a taking leaves: where an event was taken, start, count and sides are written; no place is.
+abbrev pub afterTaking : Answer (Option (Sided KeyEvent)) → HandlerState → List ℕ → List ℕ
+afterTaking (gives none) s ws = ws
+afterTaking (gives (some e)) s ws = withQueueAt (s .start) (s .count) (s .sides) ws
+afterTaking (refuses n) s ws = ws
+
+-- What a taking from a record's 144 numbers comes to; from another length it is refused with 21.
+pub record EventTaken (ws : List ℕ) (answer : TakenWords) (ws′ : List ℕ) : Type 0 where
+  pub answered : answer ≡ takenNumbers (taken (recordOf ws) .answer)
+  pub leaves : recordOf ws′ ≡ taken (recordOf ws) .now
+  pub writes : ws′ ≡ afterTaking (taken (recordOf ws) .answer) (taken (recordOf ws) .now .state) ws
+
+pub record WordsTaken (ws : List ℕ) (answer : TakenWords) (ws′ : List ℕ) : Type 0 where
+  pub long : length ws ≡ wordsLength → EventTaken ws answer ws′
+  pub other : (length ws ≡ wordsLength → ⊥) → (answer ≡ takenNumbers (refuses 21)) × (ws′ ≡ ws)
+
+-- ---- a fresh record
+
+-- The numbers of a fresh record for a table; a table that stands for nothing is asked first, then a length of 144.
+abbrev pub AtTable : Option Table → List ℕ → ℕ → List ℕ → Type 0
+AtTable none ws answer ws′ = (answer ≡ meansNothing) × (ws′ ≡ ws)
+AtTable (some table) ws answer ws′ =
+    (length ws ≡ wordsLength → (answer ≡ 0) × (ws′ ≡ wordsOf (fresh table)) × (recordOf ws′ ≡ fresh table)) × ((length ws ≡ wordsLength → ⊥) → (answer ≡ 21) × (ws′ ≡ ws))
+
+pub record WordsFresh (ws : List ℕ) (keyboards profile answer : ℕ) (ws′ : List ℕ) : Type 0 where
+  pub is : AtTable (tableAt keyboards profile) ws answer ws′

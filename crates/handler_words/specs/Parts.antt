@@ -7,15 +7,22 @@ use Rattle.keycodes_ascii.specs.declared.KeyEvent.{KeyEvent}
 use Rattle.keyboard_scancodes.specs.declared.KeyboardState.{KeyboardState}
 use Rattle.keyboard_scancodes.specs.Waiting.{bytesFrom}
 use Rattle.keyboard_sides.specs.declared.Side.{Side}
+use Rattle.keyboard_record.specs.declared.Table.{Table}
 use Rattle.keyboard_record.specs.Limits.{queueLength}
 use Rattle.keyboard.specs.declared.NewEvent.{NewEvent}
 use Rattle.handler_words.specs.declared.FoundSide.{FoundSide}
+use Rattle.handler_words.specs.declared.FoundTable.{FoundTable}
 use Rattle.handler_words.specs.Words.{byteLimit, flagsLimit, bytesIn, eventAt, wordOf, lowBytes, highBytes}
 
 -- The side that was found.
 abbrev pub saidSide : FoundSide → Option Side
 saidSide (FoundSide.Side side) = some side
 saidSide FoundSide.Nothing = none
+
+-- The table that was found.
+abbrev pub saidTable : FoundTable → Option Table
+saidTable (FoundTable.Table table) = some table
+saidTable FoundTable.Nothing = none
 
 -- A keyboard of the code: its numbers have their widths, so that they are found again in the record's.
 pub record Narrow (k : KeyboardState) : Type 0 where

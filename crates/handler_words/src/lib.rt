@@ -4,18 +4,20 @@ ghost use mathlib.Core.Option.{some};
 ghost use mathlib.Core.Path.{_≡_};
 ghost use mathlib.Core.List.{_++_};
 ghost use lib.Dec.{eqb};
-ghost use lib.ListN.{length};
+ghost use lib.ListN.{length, replicate};
 ghost use Prim.Native.Nat.{_+_, _*_, _%_, _/_, _<_, _≤_, _^_};
 ghost use Rattle.bits.specs.Bits.{weigh};
 ghost use Rattle.keyboard_scancodes.specs.Waiting.{bytesFrom};
 ghost use Rattle.keyboard.specs.Answers.{saidCall, saidLamps};
 ghost use Rattle.keyboard.specs.Outcomes.{saidEvent};
-ghost use Rattle.exchange.specs.Answer.{numberAnswered};
+ghost use Rattle.exchange.specs.Answer.{gives, numberAnswered};
+ghost use Rattle.keycodes_ascii.specs.Keycode.{numberOf};
+ghost use Rattle.keyboard_record.specs.Record.{fresh};
 ghost use Rattle.handler_words.specs.Layout.{keyboardFrom, wordsLength};
-ghost use Rattle.handler_words.specs.Words.{bytesIn, numberOfBytes, actionNumber, eventAt, wordOf, keyboardsOf, profileOf, keyboardOfWords, keyboardIn, stateOf};
-ghost use Rattle.handler_words.specs.Arguments.{sideAt};
-ghost use Rattle.handler_words.specs.Calls.{portLacked, refusing, withKeyboardAt, withEvent, SideHandled, WordsHandled};
-ghost use Rattle.handler_words.specs.Parts.{saidSide, Narrow, Placed, reread};
+ghost use Rattle.handler_words.specs.Words.{bytesIn, numberOfBytes, actionNumber, eventAt, wordOf, keyboardsOf, keyboardsNumber, profileOf, profileNumber, keyboardIn, stateOf, wordsOf};
+ghost use Rattle.handler_words.specs.Arguments.{sideAt, sideNumber, laidWith, tableAt};
+ghost use Rattle.handler_words.specs.Calls.{portLacked, refusing, withKeyboardAt, withEvent, SideHandled, WordsHandled, takenNumbers, withQueueAt, WordsTaken, WordsFresh};
+ghost use Rattle.handler_words.specs.Parts.{saidSide, saidTable, Narrow, Placed, reread};
 use keyboard::HandlerAnswer;
 use keyboard::NewEvent;
 use keyboard::effect_of;
@@ -29,8 +31,10 @@ use keyboard_scancodes::Profile;
 use keyboard_scancodes::WaitingBytes;
 use keyboard_sides::Side;
 use keyboard_sides::Sides;
+use keycodes_ascii::FoundKeycode;
 use keycodes_ascii::KeyAction;
 use keycodes_ascii::KeyEvent;
+use keycodes_ascii::Keycode;
 use ps2_answers::Lack;
 
 // Where the numbers of either keyboard begin: the prefix, the flags, how many bytes wait, and the 16 waiting bytes in two numbers.
@@ -74,6 +78,21 @@ pub struct HandledWords {
 // The side that a number stands for, if any.
 enum FoundSide {
     Side(Side),
+    Nothing,
+}
+
+// What a taking answers, as numbers: the refusal, 0 where there is none; the side of the event taken, 0 where there is none; its keycode, action and flags.
+pub struct TakenWords {
+    pub refusal: u32,
+    pub side: u32,
+    pub keycode: u32,
+    pub action: u32,
+    pub flags: u32,
+}
+
+// The table that two numbers stand for, if any.
+enum FoundTable {
+    Table(Table),
     Nothing,
 }
 
@@ -423,5 +442,191 @@ pub fn handle_words(words: &mut [u64], side: u32, script: &[u8], log: &mut [u8])
             handle_side(words, known, script, log)
         }
         FoundSide::Nothing => refused(MEANS_NOTHING),
+    }
+}
+
+// A taking that gives no event.
+fn no_event(refusal: u32) -> TakenWords
+    ensures { λ r. ⌜ r ≡ record { refusal = refusal; side = 0; keycode = 0; action = 0; flags = 0 } ⌝ }
+{
+    TakenWords {
+        refusal,
+        side: 0,
+        keycode: 0,
+        action: 0,
+        flags: 0,
+    }
+}
+
+fn side_number(side: Side) -> u32
+    ensures { λ r. ⌜ r ≡ sideNumber side ⌝ }
+{
+    match side {
+        Side::First => 1,
+        Side::Second => 2,
+    }
+}
+
+// The keycode, the action and the flags of the event that a place's number stands for.
+fn keycode_in(word: u64) -> u32
+    ensures { λ r. ⌜ r ≡ numberOf (eventAt word .keycode) ⌝ }
+{
+    let found = Keycode::from_byte(low_byte(word));
+    match found {
+        FoundKeycode::Found(keycode) => wide_number(keycode.to_byte()),
+        FoundKeycode::Unknown => 0,
+    }
+}
+
+fn action_in(word: u64) -> u32
+    ensures { λ r. ⌜ r ≡ actionNumber (eventAt word .action) ⌝ }
+{
+    if word / 256 % 256 == 0 { 0 } else { 1 }
+}
+
+fn flags_in(word: u64) -> u32
+    ensures { λ r. ⌜ r ≡ eventAt word .modifiers .bits ⌝ }
+{
+    (word / 65536 % 65536) as u32
+}
+
+// The oldest event, by its side and by the number of its place.
+fn event_taken(side: Side, word: u64) -> TakenWords
+    ensures { λ r. ⌜ r ≡ takenNumbers (gives (some (record { side = side; one = eventAt word }))) ⌝ }
+{
+    TakenWords {
+        refusal: 0,
+        side: side_number(side),
+        keycode: keycode_in(word),
+        action: action_in(word),
+        flags: flags_in(word),
+    }
+}
+
+// Stores where the events wait, and their sides.
+fn put_queue(words: &mut [u64], start: usize, count: usize, sides: Sides)
+    requires { ⌜ length (now words) ≡ wordsLength ⌝ }
+    ensures { λ _. ⌜ now (words .exit) ≡ withQueueAt start count sides (now (words .entry)) ⌝ }
+{
+    words[START_AT] = start as u64;
+    words[COUNT_AT] = count as u64;
+    words[LOW_SIDES_AT] = sides.low;
+    words[HIGH_SIDES_AT] = sides.high;
+}
+
+// A taking from a lent record: 21 where it has not 144 numbers.
+pub fn take_words(words: &mut [u64]) -> TakenWords
+    ensures { λ r. ⌜ WordsTaken (now (words .entry)) r (now (words .exit)) ⌝ }
+{
+    if words.len() != HANDLER_WORDS {
+        return no_event(21);
+    }
+    let state = state_in(words);
+    if !state.well_formed() {
+        return no_event(21);
+    }
+    let start = state.start;
+    let count = state.count;
+    if count == 0 {
+        return no_event(0);
+    }
+    let sides = state.sides;
+    let taken = event_taken(sides.oldest(), words[PLACES_FROM + start]);
+    put_queue(
+        words,
+        (start + 1) % QUEUE_LENGTH,
+        count - 1,
+        sides.without_oldest(),
+    );
+    taken
+}
+
+// The table with these keyboards that a profile's number makes, and the table that two numbers stand for.
+fn laid_with(keyboards: Keyboards, profile: u32) -> FoundTable
+    ensures { λ r. ⌜ saidTable r ≡ laidWith keyboards profile ⌝ }
+{
+    if profile == 0 {
+        return FoundTable::Table(Table {
+            keyboards,
+            profile: Profile::Any,
+        });
+    }
+    if profile == 1 {
+        return FoundTable::Table(Table {
+            keyboards,
+            profile: Profile::Tournament,
+        });
+    }
+    FoundTable::Nothing
+}
+
+fn table_of(keyboards: u32, profile: u32) -> FoundTable
+    ensures { λ r. ⌜ saidTable r ≡ tableAt keyboards profile ⌝ }
+{
+    if keyboards == 1 {
+        return laid_with(Keyboards::One, profile);
+    }
+    if keyboards == 2 {
+        return laid_with(Keyboards::Two, profile);
+    }
+    FoundTable::Nothing
+}
+
+fn keyboards_word(keyboards: Keyboards) -> u64
+    ensures { λ r. ⌜ r ≡ keyboardsNumber keyboards ⌝ }
+{
+    match keyboards {
+        Keyboards::One => 1,
+        Keyboards::Two => 2,
+    }
+}
+
+fn profile_word(profile: Profile) -> u64
+    ensures { λ r. ⌜ r ≡ profileNumber profile ⌝ }
+{
+    match profile {
+        Profile::Any => 0,
+        Profile::Tournament => 1,
+    }
+}
+
+// Makes every number 0.
+fn clear(words: &mut [u64])
+    requires { ⌜ length (now words) ≡ wordsLength ⌝ }
+    ensures { λ _. ⌜ now (words .exit) ≡ replicate wordsLength 0 ⌝ }
+{
+    let mut at = 0;
+    while at < HANDLER_WORDS {
+        words[at] = 0;
+        at += 1;
+    }
+}
+
+// Stores a fresh record for a table.
+fn put_fresh(words: &mut [u64], table: Table)
+    requires { ⌜ length (now words) ≡ wordsLength ⌝ }
+    ensures { λ _. ⌜ now (words .exit) ≡ wordsOf (fresh table) ⌝ }
+{
+    clear(words);
+    let keyboards = table.keyboards;
+    let profile = table.profile;
+    words[KEYBOARDS_AT] = keyboards_word(keyboards);
+    words[PROFILE_AT] = profile_word(profile);
+}
+
+// Makes a lent record a fresh one, for a table with 1 keyboard or 2, under profile 0 (none) or 1 (the tournament's): 21 where it has not 144 numbers.
+pub fn fresh_words(words: &mut [u64], keyboards: u32, profile: u32) -> u32
+    ensures { λ r. ⌜ WordsFresh (now (words .entry)) keyboards profile r (now (words .exit)) ⌝ }
+{
+    let found = table_of(keyboards, profile);
+    match found {
+        FoundTable::Table(table) => {
+            if words.len() != HANDLER_WORDS {
+                return 21;
+            }
+            put_fresh(words, table);
+            0
+        }
+        FoundTable::Nothing => MEANS_NOTHING,
     }
 }
