@@ -7,3 +7,4 @@ pub mod Calls
 pub mod Taken
 pub mod Cleared
 pub mod Fresh
+pub mod Runs

@@ -4,3 +4,4 @@ pub mod Words
 pub mod Arguments
 pub mod Calls
 pub mod Parts
+pub mod Runs
