@@ -25,7 +25,7 @@ use Rattle.keyboard_record.proofs.AtSides.{with-keyboard-same}
 use Rattle.keyboard.specs.Rules.{rulesAt}
 use Rattle.keyboard.specs.Byte.{Keyed, keyed, afterLamps}
 use Rattle.keyboard.specs.Handler.{queued, afterByte, endOutcome, effects}
-use Rattle.keyboard.proofs.Ways.{waitsAfter, Course, lacking, at-silent, at-key}
+use Rattle.keyboard.proofs.Ways.{waitsAfter, lacking, at-silent, at-key}
 use Rattle.keyboard.proofs.Calls.{callEnd, CallCourse, malformed, formed, call-course}
 
 -- kept bytes have 16 places

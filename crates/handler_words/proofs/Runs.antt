@@ -5,7 +5,7 @@ use mathlib.Core.Bool.{Bool, true, false, cond}
 use mathlib.Core.List.{List}
 use mathlib.Core.Option.{Option, none, some}
 use Prim.Native.Nat.{ℕ}
-use lib.ListN.{length, set, length-set}
+use lib.ListN.{length, length-set}
 use Rattle.exchange.specs.Answer.{Answer, gives, refuses}
 use Rattle.keycodes_ascii.specs.declared.KeyEvent.{KeyEvent}
 use Rattle.keyboard_scancodes.specs.declared.KeyboardState.{KeyboardState}
@@ -25,11 +25,10 @@ use Rattle.keyboard_history.specs.Counted.{Call, handling, taking}
 use Rattle.keyboard_history.specs.Run.{leaves, after}
 use Rattle.keyboard_history.proofs.KeyboardHistory.{keyboard-history}
 use Rattle.handler_words.specs.declared.HandledWords.{HandledWords}
-use Rattle.handler_words.specs.declared.TakenWords.{TakenWords}
 use Rattle.handler_words.specs.Layout.{keyboardFrom, wordsLength}
-use Rattle.handler_words.specs.Words.{wordsOf, stateOf, recordOf}
+use Rattle.handler_words.specs.Words.{stateOf, recordOf}
 use Rattle.handler_words.specs.Arguments.{sideAt}
-use Rattle.handler_words.specs.Calls.{numbersOf, withKeyboardAt, withEvent, wordsLeft, takenNumbers, afterTaking, SideHandled, WordsHandled, EventTaken, WordsTaken}
+use Rattle.handler_words.specs.Calls.{numbersOf, withKeyboardAt, withEvent, wordsLeft, takenNumbers, afterTaking, SideHandled, WordsHandled}
 use Rattle.handler_words.specs.Runs.{Ran, begun, handles, takes, AsCalled}
 
 -- ---- no call changes how many numbers there are

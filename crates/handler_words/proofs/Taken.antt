@@ -2,7 +2,7 @@
 -- Assumes nothing.
 use mathlib.Core.Path.{_≡_, refl, sym, ap, _∙_}
 use mathlib.Core.Bool.{true, false}
-use mathlib.Core.List.{List, _∷_, map}
+use mathlib.Core.List.{List, _∷_}
 use mathlib.Core.Option.{Option, none, some}
 use Prim.Native.Nat.{ℕ, _+_, _-_, _%_}
 use native.Mathlib.Omega.{arith}
@@ -10,7 +10,7 @@ use lib.Dec.{eqb}
 use lib.ListN.{length, getD, drop, List·getD-map}
 use lib.Seq.{getD-drop}
 use Rattle.exchange.specs.Answer.{Answer, gives, refuses}
-use Rattle.exchange.specs.Left.{Left, left}
+use Rattle.exchange.specs.Left.{left}
 use Rattle.keycodes_ascii.specs.declared.KeyEvent.{KeyEvent}
 use Rattle.keyboard_sides.specs.declared.Side.{Side}
 use Rattle.keyboard_sides.specs.declared.Sides.{Sides}
@@ -18,14 +18,14 @@ use Rattle.keyboard_sides.specs.Sides.{oldestSide, withoutOldestSide}
 use Rattle.keyboard_sides.specs.Named.{Sided}
 use Rattle.keyboard_record.specs.declared.HandlerState.{HandlerState}
 use Rattle.keyboard_record.specs.declared.KeyboardHandler.{KeyboardHandler}
-use Rattle.keyboard_record.specs.Queue.{emptyEvent, oldest}
+use Rattle.keyboard_record.specs.Queue.{emptyEvent}
 use Rattle.keyboard_record.specs.Record.{wellFormed}
 use Rattle.keyboard_record.specs.Taking.{taken}
 use Rattle.keyboard_record.proofs.Taking.{taken-malformed, taken-none, taken-one}
 use Rattle.handler_words.specs.declared.TakenWords.{TakenWords}
 use Rattle.handler_words.specs.Layout.{wordsLength}
 use Rattle.handler_words.specs.Words.{eventAt, wordOf, keyboardIn, stateOf, recordOf}
-use Rattle.handler_words.specs.Calls.{takenNumbers, withQueueAt, afterTaking, EventTaken, WordsTaken}
+use Rattle.handler_words.specs.Calls.{takenNumbers, withQueueAt, afterTaking, WordsTaken}
 use Rattle.handler_words.proofs.Events.{event-at}
 use Rattle.handler_words.proofs.Words.{by-numbers}
 

@@ -1,6 +1,6 @@
 -- The handler record as 144 numbers of 64 bits: the record that they stand for, and the numbers of a record.
 -- Assumes nothing.
-use mathlib.Core.Bool.{Bool, not, cond}
+use mathlib.Core.Bool.{not, cond}
 use mathlib.Core.List.{List, [], _∷_, _++_, map}
 use mathlib.Core.Path.{_≡_}
 use Prim.Native.Nat.{ℕ, zero, suc, _+_, _*_, _/_, _%_, _<_}
@@ -19,7 +19,6 @@ use Rattle.keyboard_scancodes.specs.Waiting.{bytesFrom}
 use Rattle.keyboard_record.specs.declared.HandlerState.{HandlerState}
 use Rattle.keyboard_record.specs.declared.KeyboardHandler.{KeyboardHandler}
 use Rattle.keyboard_record.specs.declared.Keyboards.{Keyboards}
-use Rattle.keyboard_record.specs.Limits.{queueLength}
 use Rattle.handler_words.specs.Layout.{firstAt, secondAt, keyboardsAt, profileAt, startAt, countAt, lowSidesAt, highSidesAt, placesFrom}
 
 -- ---- the widths of a record's fields

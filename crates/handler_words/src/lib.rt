@@ -504,14 +504,14 @@ fn event_taken(side: Side, word: u64) -> TakenWords
 }
 
 // Stores where the events wait, and their sides.
-fn put_queue(words: &mut [u64], start: usize, count: usize, sides: Sides)
+fn put_queue(words: &mut [u64], start: usize, count: usize, others: Sides)
     requires { ⌜ length (now words) ≡ wordsLength ⌝ }
-    ensures { λ _. ⌜ now (words .exit) ≡ withQueueAt start count sides (now (words .entry)) ⌝ }
+    ensures { λ _. ⌜ now (words .exit) ≡ withQueueAt start count others (now (words .entry)) ⌝ }
 {
     words[START_AT] = start as u64;
     words[COUNT_AT] = count as u64;
-    words[LOW_SIDES_AT] = sides.low;
-    words[HIGH_SIDES_AT] = sides.high;
+    words[LOW_SIDES_AT] = others.low;
+    words[HIGH_SIDES_AT] = others.high;
 }
 
 // A taking from a lent record: 21 where it has not 144 numbers.
