@@ -6,4 +6,5 @@ pub mod Numbers
 pub mod Coded
 pub mod Answers
 pub mod Entries
+pub mod Words
 pub mod Worked

@@ -3,3 +3,4 @@ pub mod CutShort
 pub mod Forms
 pub mod SoFar
 pub mod Coded
+pub mod Words
