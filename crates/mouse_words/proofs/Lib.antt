@@ -1,0 +1,2 @@
+-- The laws of the mouse's operations by numbers.
+pub mod Arguments
