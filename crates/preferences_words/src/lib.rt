@@ -1,14 +1,22 @@
-// A club's preferences as six numbers: written into an output as bytes, and read from bytes by either reader.
+// A club's preferences as six numbers: written into an output as bytes, read from bytes by either reader, and applied to the devices.
 ghost use mathlib.Core.Path.{_≡_};
 ghost use Rattle.preferences_coding.specs.Reading.{read1, read2, refusalNumber};
 ghost use Rattle.exchange.specs.Answer.{refuses};
+ghost use Rattle.argument_words.specs.Arguments.{meansNothing};
+ghost use Rattle.preferences_application.specs.Application.{applyPreferences};
+ghost use Rattle.port_words.specs.Told.{refusing, noValue, told};
+ghost use Rattle.port_words.specs.Tells.{TellsAt};
 ghost use Rattle.preferences_words.specs.Record.{preferencesAt, wordsOf};
 ghost use Rattle.preferences_words.specs.Writing.{WordsWritten};
 ghost use Rattle.preferences_words.specs.Reading.{toldRead, asVersion1};
 ghost use Rattle.preferences_words.specs.Parts.{saidFound};
 use argument_words::MEANS_NOTHING;
+use port_words::PortWords;
+use port_words::completed_words;
+use port_words::refusing_words;
 use preferences::Fields;
 use preferences::Preferences;
+use preferences_application::apply_preferences;
 use preferences_coding::FieldsRead;
 use preferences_coding::PreferencesRead;
 use preferences_coding::ReadRefusal;
@@ -160,5 +168,18 @@ pub fn read_2(input: &[u8]) -> PreferencesReadWords
             preferences: words_of(preferences),
         },
         PreferencesRead::Refused(refusal) => refused(refusal),
+    }
+}
+
+// Applies a record's fields to the devices, in their order. Where one is outside its values nothing is read or written; after a refusal the fields before it stay applied.
+pub fn apply(preferences: PreferencesWords, script: &[u8], log: &mut [u8]) -> PortWords
+    ensures { λ r. ⌜ TellsAt (refusing meansNothing) (told noValue) applyPreferences (preferencesAt preferences) (now (script .entry)) (now (log .entry)) r (now (log .exit)) ⌝ }
+{
+    let found = preferences_of(preferences);
+    match found {
+        FoundPreferences::Preferences(known) => {
+            completed_words(apply_preferences(script, log, known))
+        }
+        FoundPreferences::Nothing => refusing_words(MEANS_NOTHING),
     }
 }
