@@ -7,4 +7,5 @@ pub mod Coded
 pub mod Answers
 pub mod Entries
 pub mod Words
+pub mod Told
 pub mod Worked

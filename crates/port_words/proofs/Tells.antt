@@ -22,7 +22,7 @@ module _ {A R : Type 0} {tell : End A → ℕ → ℕ → R} {t : Exchange A} {s
   tells-played p q = record { answered = q ∙ ap (λ (o : Played A). tell (o .end) (o .used) (o .pairs)) p; logged = ap (λ (o : Played A). o .log) p }
 
   pub tells-read : {w : ℕ} → Reads t script e u w → answer ≡ tell e u w → TellsReading tell t script answer
-  tells-read r q = record { with-any = λ log. tells-played (r .with-any log) (q ∙ ap (tell e u) (r .no-pairs)) }
+  tells-read r q = record { with-any = λ log. tells-played (r .with-any log) (q ∙ ap (tell e u) (r .no-pairs)); no-pairs = λ log. ap (λ (o : Played A). o .pairs) (sym (r .with-any log)) }
 
 -- ---- with the bytes that were thrown away
 
