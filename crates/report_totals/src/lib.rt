@@ -23,6 +23,7 @@ const KEYS: usize = 94;
 const TALLY_BYTES: usize = 18014398509481984;
 
 // Presses by keycode, packets, and sums of x and y.
+#[repr(C)]
 pub struct Totals {
     pub presses: [u64; 94],
     pub packets: u64,
