@@ -8,4 +8,5 @@ pub mod Answers
 pub mod Entries
 pub mod Words
 pub mod Told
+pub mod MouseLeft
 pub mod Worked
