@@ -1,0 +1,2 @@
+-- The laws of a lent dispatcher's numbers.
+pub mod Words

@@ -1,0 +1,3 @@
+-- The dispatcher's state as numbers, and what a step on the numbers means.
+pub mod Layout
+pub mod Words
