@@ -1,2 +1,3 @@
 -- The laws of a lent dispatcher's numbers.
 pub mod Words
+pub mod Waits

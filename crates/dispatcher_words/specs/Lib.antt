@@ -1,3 +1,5 @@
 -- The dispatcher's state as numbers, and what a step on the numbers means.
 pub mod Layout
 pub mod Words
+pub mod Packet
+pub mod Steps

@@ -1,1 +1,211 @@
 // A dispatcher's state lent as numbers, and changed where it lies: a step copies no place of the queue and writes only what changes.
+ghost use mathlib.Core.List.{List};
+ghost use mathlib.Core.Path.{_≡_};
+ghost use Prim.Native.Nat.{ℕ, _%_, _≤_, _<_};
+ghost use lib.ListN.{length};
+ghost use Rattle.keyboard.specs.KeyboardLamps.{keyboardLamps};
+ghost use Rattle.dispatcher.specs.Sources.{scripts, unused, keyboardWaits, mouseWaits, waitsNow};
+ghost use Rattle.dispatcher.specs.Step.{serveMouse, serveKeyboard};
+ghost use Rattle.dispatcher.specs.Said.{waitIn};
+ghost use Rattle.dispatcher_words.specs.Layout.{placeAt, dispatcherLength};
+ghost use Rattle.dispatcher_words.specs.Packet.{refusingPacket};
+ghost use Rattle.dispatcher_words.specs.Words.{identityOf, sourceNumber, lastOf, placeIn, dispatcherOf};
+ghost use Rattle.dispatcher_words.specs.Steps.{noCall, withTurn, SideServed, StepMade};
+use dispatcher::LastServed;
+use dispatcher::Source;
+use dispatcher::Turn;
+use dispatcher::Waits;
+use handler_words::HANDLER_WORDS;
+use handler_words::HandledWords;
+use handler_words::handle_words;
+use keyboard_sides::Side;
+use ps2_bytes::MouseId;
+use ps2_packet::packet_length;
+use ps2_packet_reading::read_signed_packet;
+
+// How many bytes of either side wait, in the handler's record.
+const FIRST_WAITING_AT: usize = 2;
+
+const SECOND_WAITING_AT: usize = 7;
+
+// Behind that record: the mouse's identity, the places in the three scripts, and who was served last.
+const MOUSE_AT: usize = HANDLER_WORDS;
+
+const FIRST_PLACE_AT: usize = HANDLER_WORDS + 1;
+
+const SECOND_PLACE_AT: usize = HANDLER_WORDS + 2;
+
+const MOUSE_PLACE_AT: usize = HANDLER_WORDS + 3;
+
+const LAST_AT: usize = HANDLER_WORDS + 4;
+
+// The numbers of a dispatcher.
+pub const DISPATCHER_WORDS: usize = HANDLER_WORDS + 5;
+
+#[repr(C)]
+pub struct PacketWords {
+    pub refusal: u32,
+    pub port: u32,
+    pub used: usize,
+    pub buttons: u32,
+    pub x: i32,
+    pub y: i32,
+    pub wheel: i32,
+}
+
+pub fn refusing_packet_words(refusal: u32) -> PacketWords
+    ensures { λ r. ⌜ r ≡ refusingPacket refusal ⌝ }
+{
+    PacketWords {
+        refusal,
+        port: 0,
+        used: 0,
+        buttons: 0,
+        x: 0,
+        y: 0,
+        wheel: 0,
+    }
+}
+
+// What a step answers, as numbers: the refusal of the call that it made, 0 where there is none; who was served, 0 where nobody waited, 1 or 2 the side, 3 the mouse; and that call's answer, with 0 everywhere in the other.
+#[repr(C)]
+pub struct StepWords {
+    pub refusal: u32,
+    pub source: u32,
+    pub call: HandledWords,
+    pub packet: PacketWords,
+}
+
+// The mouse's identity that a dispatcher's number says: 3 or 4, and any other 0.
+fn identity_in(word: u64) -> MouseId
+    ensures { λ r. ⌜ r ≡ identityOf word ⌝ }
+{
+    if word == 3 {
+        return MouseId::Three;
+    }
+    if word == 4 {
+        return MouseId::Four;
+    }
+    MouseId::Zero
+}
+
+// Who a dispatcher's number says was served last.
+fn last_in(word: u64) -> LastServed
+    ensures { λ r. ⌜ r ≡ lastOf word ⌝ }
+{
+    if word == 1 {
+        return LastServed::One(Source::Keyboard(Side::First));
+    }
+    if word == 2 {
+        return LastServed::One(Source::Keyboard(Side::Second));
+    }
+    if word == 3 {
+        return LastServed::One(Source::Mouse);
+    }
+    LastServed::Nobody
+}
+
+fn source_number(source: Source) -> u32
+    ensures { λ r. ⌜ r ≡ sourceNumber source ⌝ }
+{
+    match source {
+        Source::Keyboard(side) => match side {
+            Side::First => 1,
+            Side::Second => 2,
+        },
+        Source::Mouse => 3,
+    }
+}
+
+// Where the place of a source is.
+fn place_at(source: Source) -> usize
+    ensures { λ r. ⌜ (r ≡ placeAt source) × (r < dispatcherLength) ⌝ }
+{
+    match source {
+        Source::Keyboard(side) => match side {
+            Side::First => FIRST_PLACE_AT,
+            Side::Second => SECOND_PLACE_AT,
+        },
+        Source::Mouse => MOUSE_PLACE_AT,
+    }
+}
+
+fn place_in(words: &[u64], source: Source) -> usize
+    requires { ⌜ length (now words) ≡ dispatcherLength ⌝ }
+    ensures { λ r. ⌜ r ≡ placeIn source (now (words .entry)) ⌝ }
+{
+    words[place_at(source)] as usize
+}
+
+// The place, or the script's end where it is past it.
+fn start(place: usize, script: &[u8]) -> usize
+    ensures { λ r. ⌜ (r ≤ length (now (script .entry))) × (unused r (now (script .entry)) ≡ unused place (now (script .entry))) ⌝ }
+{
+    if place < script.len() {
+        place
+    } else {
+        script.len()
+    }
+}
+
+// Whether a keyboard waits, by its number of waiting bytes: it has an unused script byte or a waiting byte.
+fn keyboard_waits(place: usize, script: &[u8], waiting: u64) -> bool
+    ensures { λ r. ⌜ r ≡ keyboardWaits (unused place (now (script .entry))) (waiting % 256) ⌝ }
+{
+    if place < script.len() {
+        return true;
+    }
+    0 < waiting % 256
+}
+
+// Whether the mouse waits: a whole packet is unread.
+fn mouse_waits(place: usize, script: &[u8], id: MouseId) -> bool
+    ensures { λ r. ⌜ r ≡ mouseWaits (unused place (now (script .entry))) id ⌝ }
+{
+    let unread = script.len() - start(place, script);
+    packet_length(id) <= unread
+}
+
+// Which sources wait.
+fn waits_in(words: &[u64], first: &[u8], second: &[u8], third: &[u8]) -> Waits
+    requires { ⌜ length (now words) ≡ dispatcherLength ⌝ }
+    ensures { λ r. ⌜ ((source : Source) → waitIn r source ≡ waitsNow (dispatcherOf (now (words .entry))) (scripts (now (first .entry)) (now (second .entry)) (now (third .entry))) source) ⌝ }
+{
+    let one = place_in(words, Source::Keyboard(Side::First));
+    let two = place_in(words, Source::Keyboard(Side::Second));
+    let three = place_in(words, Source::Mouse);
+    let id = identity_in(words[MOUSE_AT]);
+    Waits {
+        first: keyboard_waits(one, first, words[FIRST_WAITING_AT]),
+        second: keyboard_waits(two, second, words[SECOND_WAITING_AT]),
+        mouse: mouse_waits(three, third, id),
+    }
+}
+
+// Stores that a source was served, and its place then.
+fn put_turn(words: &mut [u64], source: Source, place: usize)
+    requires { ⌜ length (now words) ≡ dispatcherLength ⌝ }
+    ensures { λ _. ⌜ now (words .exit) ≡ withTurn source place (now (words .entry)) ⌝ }
+{
+    words[place_at(source)] = place as u64;
+    words[LAST_AT] = source_number(source) as u64;
+}
+
+// A side's turn: one handler call on its unused bytes, on the handler's numbers. A refused call uses the turn too.
+fn serve_keyboard(words: &mut [u64], side: Side, script: &[u8], log: &mut [u8]) -> StepWords
+    requires { ⌜ length (now words) ≡ dispatcherLength ⌝ }
+    ensures { λ r. ⌜ SideServed side (now (words .entry)) (now (script .entry)) (now (log .entry)) r (now (words .exit)) (now (log .exit)) ⌝ }
+{
+    let source = Source::Keyboard(side);
+    let number = source_number(source);
+    let place = place_in(words, source);
+    let from = start(place, script);
+    let call = handle_words(&mut words[..HANDLER_WORDS], number, &script[from..], log);
+    put_turn(words, source, place + call.used);
+    StepWords {
+        refusal: call.refusal,
+        source: number,
+        call,
+        packet: refusing_packet_words(0),
+    }
+}
