@@ -1,3 +1,4 @@
 -- The laws of a lent dispatcher's numbers.
 pub mod Words
 pub mod Waits
+pub mod Turns

@@ -5,8 +5,8 @@ use mathlib.Core.List.{List, [], _∷_, _++_}
 use Prim.Native.Nat.{ℕ, _+_}
 use native.Mathlib.Nat.{suc-add, zero-add}
 use native.Mathlib.Omega.{arith}
-use lib.ListN.{length, getD, take, set, length-map}
-use lib.Seq.{take-at, getD-append-add}
+use lib.ListN.{length, getD, take, drop, set, length-map, take-append-drop, drop-of-length-le}
+use lib.Seq.{length-take-le, take-at, drop-cons, getD-append-add}
 use Rattle.ps2_bytes.specs.Responses.{mouseIdByte}
 use Rattle.ps2_bytes.specs.declared.response.MouseId.{MouseId}
 use Rattle.keyboard_sides.specs.declared.Side.{Side}
@@ -18,7 +18,11 @@ use Rattle.dispatcher.specs.declared.Dispatcher.{Dispatcher}
 use Rattle.dispatcher.specs.declared.LastServed.{LastServed}
 use Rattle.dispatcher.specs.declared.Places.{Places}
 use Rattle.dispatcher.specs.declared.Source.{Source}
-use Rattle.dispatcher_words.specs.Words.{identityOf, sourceNumber, lastOf, lastNumber, dispatcherOf, wordsOfDispatcher, DispatcherFits}
+use Rattle.dispatcher.specs.Sources.{withPlace}
+use Rattle.dispatcher.specs.Step.{turnOver}
+use Rattle.dispatcher_words.specs.Layout.{dispatcherLength}
+use Rattle.dispatcher_words.specs.Steps.{withTurn}
+use Rattle.dispatcher_words.specs.Words.{identityOf, sourceNumber, lastOf, handlerIn, lastNumber, dispatcherOf, wordsOfDispatcher, DispatcherFits}
 
 pub identity-back : (id : MouseId) → identityOf (mouseIdByte id) ≡ id
 identity-back MouseId.Zero = refl
@@ -62,8 +66,58 @@ module _ (us : List ℕ) (h : length us ≡ wordsLength) (rest : List ℕ) where
   unfolding dispatcherOf
   stands = rw (take-at us rest wordsLength h, word-at 0, word-at 1, word-at 2, word-at 3, word-at 4)
 
+  turn-set : (n v m w : ℕ) → set (set (us ++ rest) (wordsLength + n) v) (wordsLength + m) w ≡ us ++ set (set rest n v) m w
+  turn-set n v m w = ap (λ (l : List ℕ). set l (wordsLength + m) w) (word-set n v) ∙ ap (λ (k : ℕ). set (us ++ set rest n v) (k + m) w) (sym h) ∙ set-behind us (set rest n v) m w
+
 -- "its inverse": the numbers of a state, whose handler's record fits them, stand for this state
 pub dispatcher-words : (d : Dispatcher) → DispatcherFits d → dispatcherOf (wordsOfDispatcher d) ≡ d
 dispatcher-words d f =
     let h : length (wordsOf (d .handler)) ≡ wordsLength = omega (arith, length-map (d .handler .places) wordOf, f .places) in
     stands (wordsOf (d .handler)) h _ ∙ same-dispatcher (record-words (d .handler) (f .handler)) (identity-back (d .mouse .id)) refl (last-back (d .last))
+
+-- ---- the handler's numbers
+
+-- they are as many as a record's
+pub handler-length : (ws : List ℕ) → length ws ≡ dispatcherLength → length (handlerIn ws) ≡ wordsLength
+handler-length ws n = length-take-le wordsLength ws (omega (arith, n))
+
+pub handler-stands : (ws : List ℕ) → dispatcherOf ws .handler ≡ recordOf (handlerIn ws)
+unfolding dispatcherOf
+handler-stands ws = refl
+
+-- ---- a source's turn over
+
+five-behind : (ws : List ℕ) → length ws ≡ dispatcherLength → drop 144 ws ≡ getD ws 144 0 ∷ getD ws 145 0 ∷ getD ws 146 0 ∷ getD ws 147 0 ∷ getD ws 148 0 ∷ []
+five-behind ws n =
+    let at : ℕ → ℕ = λ j. getD ws j 0 in
+    drop-cons ws 144 0 (omega (arith, n)) ∙ ap (λ (r : List ℕ). at 144 ∷ r) (drop-cons ws 145 0 (omega (arith, n))
+    ∙ ap (λ (r : List ℕ). at 145 ∷ r) (drop-cons ws 146 0 (omega (arith, n)) ∙ ap (λ (r : List ℕ). at 146 ∷ r) (drop-cons ws 147 0 (omega (arith, n))
+    ∙ ap (λ (r : List ℕ). at 147 ∷ r) (drop-cons ws 148 0 (omega (arith, n)) ∙ ap (λ (r : List ℕ). at 148 ∷ r) (drop-of-length-le ws {i = 149} (omega (arith, n)))))))
+
+module _ (us : List ℕ) (h : length us ≡ wordsLength) where
+  turned : (source : Source) (place a b c d e : ℕ)
+      → dispatcherOf (withTurn source place (us ++ (a ∷ b ∷ c ∷ d ∷ e ∷ [])))
+      ≡ record {
+        handler = recordOf us;
+        mouse = record { id = identityOf a };
+        places = withPlace source place (record { first = b; second = c; mouse = d });
+        last = LastServed.One source;
+      }
+  turned (Source.Keyboard Side.First) place a b c d e = ap dispatcherOf (turn-set us h (a ∷ b ∷ c ∷ d ∷ e ∷ []) 1 place 4 1) ∙ stands us h _
+  turned (Source.Keyboard Side.Second) place a b c d e = ap dispatcherOf (turn-set us h (a ∷ b ∷ c ∷ d ∷ e ∷ []) 2 place 4 2) ∙ stands us h _
+  turned Source.Mouse place a b c d e = ap dispatcherOf (turn-set us h (a ∷ b ∷ c ∷ d ∷ e ∷ []) 3 place 4 3) ∙ stands us h _
+
+  -- another handler's numbers, and a source's turn over, in a dispatcher's numbers
+  pub turn-stands : (ws : List ℕ) → length ws ≡ dispatcherLength → (source : Source) (place : ℕ)
+      → dispatcherOf (withTurn source place (us ++ drop wordsLength ws)) ≡ turnOver source (withPlace source place (dispatcherOf ws .places)) (recordOf us) (dispatcherOf ws)
+  unfolding dispatcherOf
+  turn-stands ws n source place =
+      ap (λ (l : List ℕ). dispatcherOf (withTurn source place (us ++ l))) (five-behind ws n)
+      ∙ turned source place (getD ws 144 0) (getD ws 145 0) (getD ws 146 0) (getD ws 147 0) (getD ws 148 0)
+
+-- a source's turn over, with the handler's numbers as they were
+pub turn-alone : (ws : List ℕ) → length ws ≡ dispatcherLength → (source : Source) (place : ℕ)
+    → dispatcherOf (withTurn source place ws) ≡ turnOver source (withPlace source place (dispatcherOf ws .places)) (dispatcherOf ws .handler) (dispatcherOf ws)
+turn-alone ws n source place =
+    ap (λ (l : List ℕ). dispatcherOf (withTurn source place l)) (sym (take-append-drop wordsLength ws)) ∙ turn-stands (handlerIn ws) (handler-length ws n) ws n source place
+    ∙ rw (handler-stands ws)

@@ -1,5 +1,4 @@
 -- The dispatcher's state as numbers, and what a step on the numbers means.
 pub mod Layout
 pub mod Words
-pub mod Packet
 pub mod Steps

@@ -6,6 +6,7 @@ use mathlib.Core.Path.{_≡_}
 use Prim.Native.Nat.{ℕ}
 use lib.ListN.{length, drop, set}
 use Rattle.exchange.specs.Answer.{numberAnswered, numberEnded}
+use Rattle.port_words.specs.ToldPacket.{toldPacket, refusingPacket}
 use Rattle.keyboard_sides.specs.declared.Side.{Side}
 use Rattle.keyboard.specs.Handler.{effects}
 use Rattle.keyboard.specs.KeyboardLamps.{keyboardLamps}
@@ -15,11 +16,10 @@ use Rattle.handler_words.specs.Words.{stateOf}
 use Rattle.handler_words.specs.Calls.{portLacked, refusing, wordsLeft, Untouched}
 use Rattle.dispatcher.specs.declared.Source.{Source}
 use Rattle.dispatcher.specs.Sources.{Scripts, scripts, placeOf, unused, bytesOf}
-use Rattle.dispatcher.specs.Step.{CallAnswered, Service, keyed, packet, idle, Stepped, serveKeyboard, stepOf}
+use Rattle.dispatcher.specs.Step.{CallAnswered, Service, keyed, packet, idle, Stepped, serveMouse, serveKeyboard, stepOf}
 use Rattle.dispatcher.specs.Runs.{serviceOf}
 use Rattle.dispatcher_words.specs.declared.StepWords.{StepWords}
 use Rattle.dispatcher_words.specs.Layout.{placeAt, lastAt, dispatcherLength}
-use Rattle.dispatcher_words.specs.Packet.{toldPacket, refusingPacket}
 use Rattle.dispatcher_words.specs.Words.{sourceNumber, handlerIn, placeIn, dispatcherOf}
 
 -- ---- the answer
@@ -85,6 +85,12 @@ SideServed side ws script log answer ws′ log′ =
     let source = Source.Keyboard side in
     let x = serveKeyboard keyboardLamps side (dispatcherOf ws) script log in
     Made x (withTurn source (placeOf source (x .state .places)) (withCall side (unused (placeIn source ws) script) log ws)) answer ws′ log′
+
+-- The mouse's turn.
+abbrev pub MouseServed : List ℕ → List ℕ → List ℕ → StepWords → List ℕ → List ℕ → Type 0
+MouseServed ws script log answer ws′ log′ =
+    let x = serveMouse (dispatcherOf ws) script log in
+    Made x (withTurn Source.Mouse (placeOf Source.Mouse (x .state .places)) ws) answer ws′ log′
 
 -- With any numbers: at another length it is refused with 21, and leaves everything as it was.
 pub record StepMade (ws first second third log : List ℕ) (answer : StepWords) (ws′ log′ : List ℕ) : Type 0 where

@@ -3,14 +3,12 @@ ghost use mathlib.Core.List.{List};
 ghost use mathlib.Core.Path.{_≡_};
 ghost use Prim.Native.Nat.{ℕ, _%_, _≤_, _<_};
 ghost use lib.ListN.{length};
-ghost use Rattle.keyboard.specs.KeyboardLamps.{keyboardLamps};
+ghost use Rattle.handler_words.specs.Calls.{refusing};
 ghost use Rattle.dispatcher.specs.Sources.{scripts, unused, keyboardWaits, mouseWaits, waitsNow};
-ghost use Rattle.dispatcher.specs.Step.{serveMouse, serveKeyboard};
 ghost use Rattle.dispatcher.specs.Said.{waitIn};
 ghost use Rattle.dispatcher_words.specs.Layout.{placeAt, dispatcherLength};
-ghost use Rattle.dispatcher_words.specs.Packet.{refusingPacket};
 ghost use Rattle.dispatcher_words.specs.Words.{identityOf, sourceNumber, lastOf, placeIn, dispatcherOf};
-ghost use Rattle.dispatcher_words.specs.Steps.{noCall, withTurn, SideServed, StepMade};
+ghost use Rattle.dispatcher_words.specs.Steps.{noCall, withTurn, SideServed, MouseServed, StepMade};
 use dispatcher::LastServed;
 use dispatcher::Source;
 use dispatcher::Turn;
@@ -19,6 +17,9 @@ use handler_words::HANDLER_WORDS;
 use handler_words::HandledWords;
 use handler_words::handle_words;
 use keyboard_sides::Side;
+use port_words::PacketWords;
+use port_words::packet_words;
+use port_words::refusing_packet_words;
 use ps2_bytes::MouseId;
 use ps2_packet::packet_length;
 use ps2_packet_reading::read_signed_packet;
@@ -41,31 +42,6 @@ const LAST_AT: usize = HANDLER_WORDS + 4;
 
 // The numbers of a dispatcher.
 pub const DISPATCHER_WORDS: usize = HANDLER_WORDS + 5;
-
-#[repr(C)]
-pub struct PacketWords {
-    pub refusal: u32,
-    pub port: u32,
-    pub used: usize,
-    pub buttons: u32,
-    pub x: i32,
-    pub y: i32,
-    pub wheel: i32,
-}
-
-pub fn refusing_packet_words(refusal: u32) -> PacketWords
-    ensures { λ r. ⌜ r ≡ refusingPacket refusal ⌝ }
-{
-    PacketWords {
-        refusal,
-        port: 0,
-        used: 0,
-        buttons: 0,
-        x: 0,
-        y: 0,
-        wheel: 0,
-    }
-}
 
 // What a step answers, as numbers: the refusal of the call that it made, 0 where there is none; who was served, 0 where nobody waited, 1 or 2 the side, 3 the mouse; and that call's answer, with 0 everywhere in the other.
 #[repr(C)]
@@ -207,5 +183,71 @@ fn serve_keyboard(words: &mut [u64], side: Side, script: &[u8], log: &mut [u8]) 
         source: number,
         call,
         packet: refusing_packet_words(0),
+    }
+}
+
+// The mouse's turn: one packet of its unread bytes.
+fn serve_mouse(words: &mut [u64], script: &[u8]) -> StepWords
+    requires { ⌜ length (now words) ≡ dispatcherLength ⌝ }
+    ensures { λ r. ⌜ ((log : List ℕ) → MouseServed (now (words .entry)) (now (script .entry)) log r (now (words .exit)) log) ⌝ }
+{
+    let id = identity_in(words[MOUSE_AT]);
+    let place = place_in(words, Source::Mouse);
+    let from = start(place, script);
+    let packet = packet_words(read_signed_packet(id, &script[from..]));
+    put_turn(words, Source::Mouse, place + packet.used);
+    StepWords {
+        refusal: packet.refusal,
+        source: source_number(Source::Mouse),
+        call: no_handler_call(),
+        packet,
+    }
+}
+
+// What stands for a handler call where none was made.
+fn no_handler_call() -> HandledWords
+    ensures { λ r. ⌜ r ≡ refusing 0 ⌝ }
+{
+    HandledWords {
+        refusal: 0,
+        lamps: 0,
+        used: 0,
+        pairs: 0,
+        dropped: 0,
+        port: 0,
+    }
+}
+
+// A step that made no call.
+fn no_call(refusal: u32) -> StepWords
+    ensures { λ r. ⌜ r ≡ noCall refusal ⌝ }
+{
+    StepWords {
+        refusal,
+        source: 0,
+        call: no_handler_call(),
+        packet: refusing_packet_words(0),
+    }
+}
+
+// A step on a lent dispatcher: the first source that waits, going round from the one after the last served, is served. Where none waits it is idle and writes nothing; 21 where there are not 149 numbers.
+pub fn dispatcher_step(words: &mut [u64], first: &[u8], second: &[u8], third: &[u8], log: &mut [u8]) -> StepWords
+    ensures { λ r. ⌜ StepMade (now (words .entry)) (now (first .entry)) (now (second .entry)) (now (third .entry)) (now (log .entry)) r (now (words .exit)) (now (log .exit)) ⌝ }
+{
+    if words.len() != DISPATCHER_WORDS {
+        return no_call(21);
+    }
+    let waits = waits_in(words, first, second, third);
+    let last = last_in(words[LAST_AT]);
+    let turn = waits.serves(last);
+    match turn {
+        Turn::Serves(source) => match source {
+            Source::Keyboard(side) => match side {
+                Side::First => serve_keyboard(words, Side::First, first, log),
+                Side::Second => serve_keyboard(words, Side::Second, second, log),
+            },
+            Source::Mouse => serve_mouse(words, third),
+        },
+        Turn::Idle => no_call(0),
     }
 }
