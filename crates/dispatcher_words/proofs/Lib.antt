@@ -2,3 +2,4 @@
 pub mod Words
 pub mod Waits
 pub mod Turns
+pub mod Steps
