@@ -3,3 +3,4 @@ pub mod Words
 pub mod Waits
 pub mod Turns
 pub mod Steps
+pub mod Fresh

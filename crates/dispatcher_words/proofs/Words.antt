@@ -38,7 +38,7 @@ last-back : (last : LastServed) → lastOf (lastNumber last) ≡ last
 last-back LastServed.Nobody = refl
 last-back (LastServed.One source) = served-back source
 
-same-dispatcher : {h k : KeyboardHandler} {i j : MouseId} {p q : Places} {l m : LastServed} → h ≡ k → i ≡ j → p ≡ q → l ≡ m
+pub same-dispatcher : {h k : KeyboardHandler} {i j : MouseId} {p q : Places} {l m : LastServed} → h ≡ k → i ≡ j → p ≡ q → l ≡ m
     → _≡_ {A = Dispatcher} (record { handler = h; mouse = record { id = i }; places = p; last = l }) (record { handler = k; mouse = record { id = j }; places = q; last = m })
 same-dispatcher h i p l = cc
 
@@ -52,7 +52,7 @@ module _ (us : List ℕ) (h : length us ≡ wordsLength) (rest : List ℕ) where
   word-at : (n : ℕ) → getD (us ++ rest) (wordsLength + n) 0 ≡ getD rest n 0
   word-at n = ap (λ (k : ℕ). getD (us ++ rest) (k + n) 0) (sym h) ∙ getD-append-add us rest n 0
 
-  word-set : (n v : ℕ) → set (us ++ rest) (wordsLength + n) v ≡ us ++ set rest n v
+  pub word-set : (n v : ℕ) → set (us ++ rest) (wordsLength + n) v ≡ us ++ set rest n v
   word-set n v = ap (λ (k : ℕ). set (us ++ rest) (k + n) v) (sym h) ∙ set-behind us rest n v
 
   -- a record's numbers and those behind it stand for this state
@@ -87,7 +87,7 @@ handler-stands ws = refl
 
 -- ---- a source's turn over
 
-five-behind : (ws : List ℕ) → length ws ≡ dispatcherLength → drop 144 ws ≡ getD ws 144 0 ∷ getD ws 145 0 ∷ getD ws 146 0 ∷ getD ws 147 0 ∷ getD ws 148 0 ∷ []
+pub five-behind : (ws : List ℕ) → length ws ≡ dispatcherLength → drop 144 ws ≡ getD ws 144 0 ∷ getD ws 145 0 ∷ getD ws 146 0 ∷ getD ws 147 0 ∷ getD ws 148 0 ∷ []
 five-behind ws n =
     let at : ℕ → ℕ = λ j. getD ws j 0 in
     drop-cons ws 144 0 (omega (arith, n)) ∙ ap (λ (r : List ℕ). at 144 ∷ r) (drop-cons ws 145 0 (omega (arith, n))

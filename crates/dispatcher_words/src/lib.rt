@@ -1,5 +1,5 @@
 // A dispatcher's state lent as numbers, and changed where it lies: a step copies no place of the queue and writes only what changes.
-ghost use mathlib.Core.List.{List};
+ghost use mathlib.Core.List.{List, _++_};
 ghost use mathlib.Core.Path.{_≡_};
 ghost use Prim.Native.Nat.{ℕ, _%_, _≤_, _<_};
 ghost use lib.ListN.{length};
@@ -7,14 +7,19 @@ ghost use Rattle.handler_words.specs.Calls.{refusing};
 ghost use Rattle.dispatcher.specs.Sources.{scripts, unused, keyboardWaits, mouseWaits, waitsNow};
 ghost use Rattle.dispatcher.specs.Said.{waitIn};
 ghost use Rattle.dispatcher_words.specs.Layout.{placeAt, dispatcherLength};
-ghost use Rattle.dispatcher_words.specs.Words.{identityOf, sourceNumber, lastOf, placeIn, dispatcherOf};
+ghost use Rattle.dispatcher_words.specs.Words.{identityOf, sourceNumber, lastOf, handlerIn, placeIn, dispatcherOf, unserved};
 ghost use Rattle.dispatcher_words.specs.Steps.{noCall, withTurn, SideServed, MouseServed, StepMade};
+ghost use Rattle.dispatcher_words.specs.Fresh.{MadeFresh};
+use argument_words::FoundIdentity;
+use argument_words::MEANS_NOTHING;
+use argument_words::identity_of;
 use dispatcher::LastServed;
 use dispatcher::Source;
 use dispatcher::Turn;
 use dispatcher::Waits;
 use handler_words::HANDLER_WORDS;
 use handler_words::HandledWords;
+use handler_words::fresh_words;
 use handler_words::handle_words;
 use keyboard_sides::Side;
 use port_words::PacketWords;
@@ -50,6 +55,46 @@ pub struct StepWords {
     pub source: u32,
     pub call: HandledWords,
     pub packet: PacketWords,
+}
+
+fn wide(x: u8) -> u64
+    ensures { λ r. ⌜ r ≡ x ⌝ }
+{
+    x as u64
+}
+
+// Stores what stands behind the handler's record where nobody was served yet.
+fn put_unserved(words: &mut [u64], id: MouseId)
+    requires { ⌜ length (now words) ≡ dispatcherLength ⌝ }
+    ensures { λ _. ⌜ now (words .exit) ≡ handlerIn (now (words .entry)) ++ unserved id ⌝ }
+{
+    words[MOUSE_AT] = wide(id.to_byte());
+    words[FIRST_PLACE_AT] = 0;
+    words[SECOND_PLACE_AT] = 0;
+    words[MOUSE_PLACE_AT] = 0;
+    words[LAST_AT] = 0;
+}
+
+// Makes a lent dispatcher a fresh one, with a fresh record for a table, as `fresh_words` has it, and a mouse of identity 0, 3 or 4: 21 where there are not 149 numbers.
+pub fn dispatcher_fresh(words: &mut [u64], keyboards: u32, profile: u32, identity: u32) -> u32
+    ensures { λ r. ⌜ MadeFresh (now (words .entry)) keyboards profile identity r (now (words .exit)) ⌝ }
+{
+    let found = identity_of(identity);
+    match found {
+        FoundIdentity::Identity(id) => {
+            // none of these numbers are a record's either, so the table is asked and then 21 is answered
+            if words.len() != DISPATCHER_WORDS {
+                return fresh_words(&mut words[..0], keyboards, profile);
+            }
+            let answer = fresh_words(&mut words[..HANDLER_WORDS], keyboards, profile);
+            if answer != 0 {
+                return answer;
+            }
+            put_unserved(words, id);
+            0
+        }
+        FoundIdentity::Nothing => MEANS_NOTHING,
+    }
 }
 
 // The mouse's identity that a dispatcher's number says: 3 or 4, and any other 0.
