@@ -4,3 +4,4 @@ pub mod Waits
 pub mod Turns
 pub mod Steps
 pub mod Fresh
+pub mod Runs

@@ -6,7 +6,7 @@ use Prim.Native.Nat.{ℕ, _+_}
 use native.Mathlib.Nat.{suc-add, zero-add}
 use native.Mathlib.Omega.{arith}
 use lib.ListN.{length, getD, take, drop, set, length-map, take-append-drop, drop-of-length-le}
-use lib.Seq.{length-take-le, take-at, drop-cons, getD-append-add}
+use lib.Seq.{length-take-le, take-at, drop-cons, getD-append-add, getD-drop}
 use Rattle.ps2_bytes.specs.Responses.{mouseIdByte}
 use Rattle.ps2_bytes.specs.declared.response.MouseId.{MouseId}
 use Rattle.keyboard_sides.specs.declared.Side.{Side}
@@ -19,7 +19,7 @@ use Rattle.dispatcher.specs.declared.LastServed.{LastServed}
 use Rattle.dispatcher.specs.declared.Places.{Places}
 use Rattle.dispatcher.specs.declared.Source.{Source}
 use Rattle.dispatcher.specs.Sources.{withPlace}
-use Rattle.dispatcher.specs.Step.{turnOver}
+use Rattle.dispatcher.specs.Step.{withHandler, turnOver}
 use Rattle.dispatcher_words.specs.Layout.{dispatcherLength}
 use Rattle.dispatcher_words.specs.Steps.{withTurn}
 use Rattle.dispatcher_words.specs.Words.{identityOf, sourceNumber, lastOf, handlerIn, lastNumber, dispatcherOf, wordsOfDispatcher, DispatcherFits}
@@ -84,6 +84,13 @@ handler-length ws n = length-take-le wordsLength ws (omega (arith, n))
 pub handler-stands : (ws : List ℕ) → dispatcherOf ws .handler ≡ recordOf (handlerIn ws)
 unfolding dispatcherOf
 handler-stands ws = refl
+
+-- other numbers of a record in their stead
+pub handler-put : (us : List ℕ) → length us ≡ wordsLength → (ws : List ℕ) → dispatcherOf (us ++ drop wordsLength ws) ≡ withHandler (recordOf us) (dispatcherOf ws)
+unfolding dispatcherOf
+handler-put us h ws =
+    stands us h (drop wordsLength ws)
+    ∙ rw (getD-drop wordsLength ws 0 0, getD-drop wordsLength ws 1 0, getD-drop wordsLength ws 2 0, getD-drop wordsLength ws 3 0, getD-drop wordsLength ws 4 0)
 
 -- ---- a source's turn over
 

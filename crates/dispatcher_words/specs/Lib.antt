@@ -3,3 +3,4 @@ pub mod Layout
 pub mod Words
 pub mod Steps
 pub mod Fresh
+pub mod Runs

@@ -276,7 +276,13 @@ fn no_call(refusal: u32) -> StepWords
 }
 
 // A step on a lent dispatcher: the first source that waits, going round from the one after the last served, is served. Where none waits it is idle and writes nothing; 21 where there are not 149 numbers.
-pub fn dispatcher_step(words: &mut [u64], first: &[u8], second: &[u8], third: &[u8], log: &mut [u8]) -> StepWords
+pub fn dispatcher_step(
+    words: &mut [u64],
+    first: &[u8],
+    second: &[u8],
+    third: &[u8],
+    log: &mut [u8],
+) -> StepWords
     ensures { λ r. ⌜ StepMade (now (words .entry)) (now (first .entry)) (now (second .entry)) (now (third .entry)) (now (log .entry)) r (now (words .exit)) (now (log .exit)) ⌝ }
 {
     if words.len() != DISPATCHER_WORDS {
