@@ -19,7 +19,8 @@ use Rattle.keyboard_record.specs.declared.Table.{Table}
 use Rattle.keyboard_record.specs.Record.{fresh}
 use Rattle.keyboard_init.specs.KeyboardInit.{keyboardInit}
 use Rattle.port_words.specs.declared.PortWords.{PortWords}
-use Rattle.port_words.specs.Told.{meansNothing, refusing, noValue, told}
+use Rattle.argument_words.specs.Arguments.{meansNothing}
+use Rattle.port_words.specs.Told.{refusing, noValue, told}
 use Rattle.port_words.specs.Tells.{Tells, AtArgument}
 use Rattle.handler_words.specs.Layout.{wordsLength}
 use Rattle.handler_words.specs.Words.{recordOf, wordsOf}
