@@ -2,3 +2,4 @@
 pub mod Keys
 pub mod Known
 pub mod Rows
+pub mod Worked
