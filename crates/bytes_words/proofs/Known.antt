@@ -1,6 +1,6 @@
 -- Which numbers have a keycode, and that a keycode that a number has is that number's.
 -- Assumes nothing.
-use mathlib.Core.Bool.{Bool, true, false, cond, false≢true, true≢false}
+use mathlib.Core.Bool.{true, false, cond, false≢true, true≢false}
 use mathlib.Core.List.{List, [], _∷_}
 use mathlib.Core.Option.{Option, none, some}
 use mathlib.Core.Path.{_≡_, refl, sym, ap, _∙_}
