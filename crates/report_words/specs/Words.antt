@@ -6,7 +6,7 @@ use Prim.Native.Nat.{ℕ}
 use lib.IntN.{pos}
 use Rattle.argument_words.specs.Arguments.{meansNothing}
 use Rattle.ps2_bytes.specs.declared.response.MouseId.{MouseId}
-use Rattle.report_totals.specs.Totals.{Session, noTotals}
+use Rattle.report_totals.specs.Totals.{noTotals}
 use Rattle.report.specs.declared.Added.{Added}
 use Rattle.report.specs.declared.Mean.{Mean}
 use Rattle.report.specs.declared.Report.{Report}
