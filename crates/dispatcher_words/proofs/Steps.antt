@@ -1,10 +1,10 @@
 -- A step on a dispatcher's numbers is the step on the state that they stand for.
 -- Assumes nothing.
-use mathlib.Core.Path.{_≡_, refl, sym, ap, subst, _∙_}
+use mathlib.Core.Path.{_≡_, refl}
 use mathlib.Core.List.{List}
 use mathlib.Core.Option.{Option, none, some}
 use Prim.Native.Nat.{ℕ}
-use lib.ListN.{length, getD}
+use lib.ListN.{getD}
 use Rattle.keyboard_sides.specs.declared.Side.{Side}
 use Rattle.keyboard.specs.KeyboardLamps.{keyboardLamps}
 use Rattle.dispatcher.specs.declared.LastServed.{LastServed}

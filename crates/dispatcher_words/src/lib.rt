@@ -82,7 +82,7 @@ pub fn dispatcher_fresh(words: &mut [u64], keyboards: u32, profile: u32, identit
     let found = identity_of(identity);
     match found {
         FoundIdentity::Identity(id) => {
-            // none of these numbers are a record's either, so the table is asked and then 21 is answered
+            // a record of no numbers is refused as this one is: the table is asked, and then 21 answered
             if words.len() != DISPATCHER_WORDS {
                 return fresh_words(&mut words[..0], keyboards, profile);
             }
