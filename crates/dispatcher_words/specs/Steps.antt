@@ -6,6 +6,7 @@ use mathlib.Core.Path.{_≡_}
 use Prim.Native.Nat.{ℕ}
 use lib.ListN.{length, drop, set}
 use Rattle.exchange.specs.Answer.{numberAnswered, numberEnded}
+use Rattle.port_words.specs.Told.{portLacked}
 use Rattle.port_words.specs.ToldPacket.{toldPacket, refusingPacket}
 use Rattle.keyboard_sides.specs.declared.Side.{Side}
 use Rattle.keyboard.specs.Handler.{effects}
@@ -13,7 +14,7 @@ use Rattle.keyboard.specs.KeyboardLamps.{keyboardLamps}
 use Rattle.handler_words.specs.declared.HandledWords.{HandledWords}
 use Rattle.handler_words.specs.Layout.{wordsLength}
 use Rattle.handler_words.specs.Words.{stateOf}
-use Rattle.handler_words.specs.Calls.{portLacked, refusing, wordsLeft, Untouched}
+use Rattle.handler_words.specs.Calls.{refusing, wordsLeft, Untouched}
 use Rattle.dispatcher.specs.declared.Source.{Source}
 use Rattle.dispatcher.specs.Sources.{Scripts, scripts, placeOf, unused, bytesOf}
 use Rattle.dispatcher.specs.Step.{CallAnswered, Service, keyed, packet, idle, Stepped, serveMouse, serveKeyboard, stepOf}

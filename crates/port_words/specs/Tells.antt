@@ -11,9 +11,10 @@ pub record Tells {A R : Type 0} (tell : End A → ℕ → ℕ → R) (operation 
   pub answered : answer ≡ tell (play operation script log .end) (play operation script log .used) (play operation script log .pairs)
   pub logged : log′ ≡ play operation script log .log
 
--- One that has a script alone: the same with every log, which the operation leaves as it is.
+-- One that has a script alone: the same with every log, which the operation leaves as it is; it writes no pair.
 pub record TellsReading {A R : Type 0} (tell : End A → ℕ → ℕ → R) (operation : Exchange A) (script : List ℕ) (answer : R) : Type 0 where
   pub with-any : (log : List ℕ) → Tells tell operation script log answer log
+  pub no-pairs : (log : List ℕ) → play operation script log .pairs ≡ 0
 
 -- One of an argument that is a number: what holds where the number stands for nothing, and where it stands for v.
 pub record AtArgument {X : Type 0} (argument : Option X) (Nothing : Type 0) (At : X → Type 0) : Type 0 where
