@@ -15,7 +15,8 @@ use Rattle.handler_words.specs.Layout.{wordsLength}
 use Rattle.handler_words.specs.Arguments.{tableAt}
 use Rattle.handler_words.specs.Calls.{AtTable, WordsFresh}
 use Rattle.dispatcher_words.specs.Layout.{dispatcherLength}
-use Rattle.dispatcher_words.specs.Words.{handlerIn, dispatcherOf, unserved}
+use Rattle.dispatcher_words.specs.Words.{handlerIn, dispatcherOf}
+use Rattle.dispatcher_words.specs.Parts.{unserved}
 use Rattle.dispatcher_words.specs.Fresh.{freshAt, AtFresh, MadeFresh}
 use Rattle.dispatcher_words.proofs.Words.{identity-back, same-dispatcher, word-set, stands, handler-length, five-behind}
 

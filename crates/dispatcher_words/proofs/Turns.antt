@@ -30,7 +30,8 @@ use Rattle.dispatcher.specs.Step.{keyed, packet, callAnswered, Stepped, stepped
 use Rattle.dispatcher.proofs.Serving.{called-used-le, mouse-used-le, mouse-served}
 use Rattle.dispatcher_words.specs.Layout.{mouseAt, dispatcherLength}
 use Rattle.dispatcher_words.specs.Words.{identityOf, sourceNumber, handlerIn, placeIn, dispatcherOf}
-use Rattle.dispatcher_words.specs.Steps.{withTurn, withCall, SideServed, MouseServed}
+use Rattle.dispatcher_words.specs.Steps.{withTurn, withCall}
+use Rattle.dispatcher_words.specs.Parts.{SideServed, MouseServed}
 use Rattle.dispatcher_words.proofs.Words.{handler-length, handler-stands, turn-stands, turn-alone}
 
 -- ---- places
