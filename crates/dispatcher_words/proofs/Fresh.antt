@@ -5,20 +5,18 @@ use mathlib.Core.List.{List, [], _∷_, _++_}
 use mathlib.Core.Option.{Option, none, some}
 use Prim.Native.Nat.{ℕ}
 use native.Mathlib.Omega.{arith}
-use lib.ListN.{length, getD, take, drop, set, take-append-drop}
+use lib.ListN.{length, drop, set, take-append-drop}
 use lib.Seq.{take-at}
 use Rattle.ps2_bytes.specs.declared.response.MouseId.{MouseId}
 use Rattle.argument_words.specs.declared.FoundIdentity.{FoundIdentity}
 use Rattle.argument_words.specs.Arguments.{identityAt, saidIdentity}
 use Rattle.keyboard_record.specs.declared.Table.{Table}
-use Rattle.keyboard_record.specs.Record.{fresh}
 use Rattle.handler_words.specs.Layout.{wordsLength}
-use Rattle.handler_words.specs.Words.{recordOf, wordsOf}
 use Rattle.handler_words.specs.Arguments.{tableAt}
 use Rattle.handler_words.specs.Calls.{AtTable, WordsFresh}
-use Rattle.dispatcher.specs.Step.{newDispatcher}
 use Rattle.dispatcher_words.specs.Layout.{dispatcherLength}
-use Rattle.dispatcher_words.specs.Words.{identityOf, handlerIn, dispatcherOf, wordsOfDispatcher, unserved}
+use Rattle.dispatcher_words.specs.Words.{handlerIn, dispatcherOf}
+use Rattle.dispatcher_words.specs.Parts.{unserved}
 use Rattle.dispatcher_words.specs.Fresh.{freshAt, AtFresh, MadeFresh}
 use Rattle.dispatcher_words.proofs.Words.{identity-back, same-dispatcher, word-set, stands, handler-length, five-behind}
 

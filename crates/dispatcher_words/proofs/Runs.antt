@@ -4,8 +4,7 @@ use mathlib.Core.Path.{_≡_, refl, sym, ap, _∙_}
 use mathlib.Core.List.{List, _++_}
 use mathlib.Core.Option.{Option, none, some}
 use Prim.Native.Nat.{ℕ}
-use native.Mathlib.Omega.{arith}
-use lib.ListN.{length, drop, set, length-append, length-drop, length-set}
+use lib.ListN.{length, drop, length-set}
 use lib.Seq.{length-front}
 use Rattle.ps2_bytes.specs.declared.response.MouseId.{MouseId}
 use Rattle.keyboard_sides.specs.declared.Side.{Side}

@@ -1,10 +1,10 @@
 -- A step on a dispatcher's numbers is the step on the state that they stand for.
 -- Assumes nothing.
-use mathlib.Core.Path.{_≡_, refl, sym, ap, subst, _∙_}
+use mathlib.Core.Path.{_≡_, refl}
 use mathlib.Core.List.{List}
 use mathlib.Core.Option.{Option, none, some}
 use Prim.Native.Nat.{ℕ}
-use lib.ListN.{length, getD}
+use lib.ListN.{getD}
 use Rattle.keyboard_sides.specs.declared.Side.{Side}
 use Rattle.keyboard.specs.KeyboardLamps.{keyboardLamps}
 use Rattle.dispatcher.specs.declared.LastServed.{LastServed}
@@ -20,7 +20,8 @@ use Rattle.dispatcher.proofs.Serving.{step-served}
 use Rattle.dispatcher_words.specs.declared.StepWords.{StepWords}
 use Rattle.dispatcher_words.specs.Layout.{lastAt}
 use Rattle.dispatcher_words.specs.Words.{lastOf, dispatcherOf}
-use Rattle.dispatcher_words.specs.Steps.{noCall, wordsStepped, Made, StepOn, SideServed, MouseServed}
+use Rattle.dispatcher_words.specs.Steps.{noCall, wordsStepped, Made, StepOn}
+use Rattle.dispatcher_words.specs.Parts.{SideServed, MouseServed}
 
 module _ (ws : List ℕ) (s : Scripts) (log : List ℕ) (w : Waits) (is : (source : Source) → waitIn w source ≡ waitsNow (dispatcherOf ws) s source)
     {last : LastServed} (l : last ≡ lastOf (getD ws lastAt 0)) (t : Turn) (q : saidTurn t ≡ served (waitIn w) last) where

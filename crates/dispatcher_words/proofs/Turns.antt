@@ -1,7 +1,7 @@
 -- A turn on a dispatcher's numbers is that turn of the state that they stand for.
 -- Assumes nothing.
-use mathlib.Core.Path.{_≡_, refl, sym, ap, subst, _∙_}
-use mathlib.Core.List.{List, [], _++_}
+use mathlib.Core.Path.{_≡_, refl, sym, ap, _∙_}
+use mathlib.Core.List.{List, _++_}
 use mathlib.Core.Option.{some}
 use Prim.Native.Nat.{ℕ, _+_, _-_, _≤_}
 use native.Mathlib.Omega.{arith}
@@ -16,7 +16,6 @@ use Rattle.ps2_packet_reading.specs.Reading.{readSignedPacket}
 use Rattle.port_words.specs.declared.PacketWords.{PacketWords}
 use Rattle.port_words.specs.ToldPacket.{toldPacket, refusingPacket}
 use Rattle.keyboard_sides.specs.declared.Side.{Side}
-use Rattle.keyboard_record.specs.declared.KeyboardHandler.{KeyboardHandler}
 use Rattle.keyboard.specs.Handler.{handled, logLeft}
 use Rattle.keyboard.specs.KeyboardLamps.{keyboardLamps}
 use Rattle.handler_words.specs.declared.HandledWords.{HandledWords}
@@ -29,10 +28,10 @@ use Rattle.dispatcher.specs.declared.Source.{Source}
 use Rattle.dispatcher.specs.Sources.{placeOf, withPlace, unused}
 use Rattle.dispatcher.specs.Step.{keyed, packet, callAnswered, Stepped, stepped, turnOver, servedOne, serveMouse, serveKeyboard}
 use Rattle.dispatcher.proofs.Serving.{called-used-le, mouse-used-le, mouse-served}
-use Rattle.dispatcher_words.specs.declared.StepWords.{StepWords}
 use Rattle.dispatcher_words.specs.Layout.{mouseAt, dispatcherLength}
 use Rattle.dispatcher_words.specs.Words.{identityOf, sourceNumber, handlerIn, placeIn, dispatcherOf}
-use Rattle.dispatcher_words.specs.Steps.{withTurn, withCall, SideServed, MouseServed}
+use Rattle.dispatcher_words.specs.Steps.{withTurn, withCall}
+use Rattle.dispatcher_words.specs.Parts.{SideServed, MouseServed}
 use Rattle.dispatcher_words.proofs.Words.{handler-length, handler-stands, turn-stands, turn-alone}
 
 -- ---- places

@@ -5,7 +5,7 @@ use mathlib.Core.List.{List, [], _∷_, _++_}
 use Prim.Native.Nat.{ℕ, _+_}
 use native.Mathlib.Nat.{suc-add, zero-add}
 use native.Mathlib.Omega.{arith}
-use lib.ListN.{length, getD, take, drop, set, length-map, take-append-drop, drop-of-length-le}
+use lib.ListN.{length, getD, drop, set, length-map, take-append-drop, drop-of-length-le}
 use lib.Seq.{length-take-le, take-at, drop-cons, getD-append-add, getD-drop}
 use Rattle.ps2_bytes.specs.Responses.{mouseIdByte}
 use Rattle.ps2_bytes.specs.declared.response.MouseId.{MouseId}

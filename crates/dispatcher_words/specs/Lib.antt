@@ -3,4 +3,5 @@ pub mod Layout
 pub mod Words
 pub mod Steps
 pub mod Fresh
+pub mod Parts
 pub mod Runs

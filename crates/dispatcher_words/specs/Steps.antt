@@ -6,6 +6,7 @@ use mathlib.Core.Path.{_≡_}
 use Prim.Native.Nat.{ℕ}
 use lib.ListN.{length, drop, set}
 use Rattle.exchange.specs.Answer.{numberAnswered, numberEnded}
+use Rattle.port_words.specs.Told.{portLacked}
 use Rattle.port_words.specs.ToldPacket.{toldPacket, refusingPacket}
 use Rattle.keyboard_sides.specs.declared.Side.{Side}
 use Rattle.keyboard.specs.Handler.{effects}
@@ -13,14 +14,14 @@ use Rattle.keyboard.specs.KeyboardLamps.{keyboardLamps}
 use Rattle.handler_words.specs.declared.HandledWords.{HandledWords}
 use Rattle.handler_words.specs.Layout.{wordsLength}
 use Rattle.handler_words.specs.Words.{stateOf}
-use Rattle.handler_words.specs.Calls.{portLacked, refusing, wordsLeft, Untouched}
+use Rattle.handler_words.specs.Calls.{refusing, wordsLeft, Untouched}
 use Rattle.dispatcher.specs.declared.Source.{Source}
-use Rattle.dispatcher.specs.Sources.{Scripts, scripts, placeOf, unused, bytesOf}
-use Rattle.dispatcher.specs.Step.{CallAnswered, Service, keyed, packet, idle, Stepped, serveMouse, serveKeyboard, stepOf}
+use Rattle.dispatcher.specs.Sources.{Scripts, scripts, placeOf, bytesOf}
+use Rattle.dispatcher.specs.Step.{CallAnswered, Service, keyed, packet, idle, Stepped, stepOf}
 use Rattle.dispatcher.specs.Runs.{serviceOf}
 use Rattle.dispatcher_words.specs.declared.StepWords.{StepWords}
 use Rattle.dispatcher_words.specs.Layout.{placeAt, lastAt, dispatcherLength}
-use Rattle.dispatcher_words.specs.Words.{sourceNumber, handlerIn, placeIn, dispatcherOf}
+use Rattle.dispatcher_words.specs.Words.{sourceNumber, handlerIn, dispatcherOf}
 
 -- ---- the answer
 
@@ -78,19 +79,6 @@ abbrev pub StepOn : List ℕ → Scripts → List ℕ → StepWords → List ℕ
 StepOn ws s log answer ws′ log′ =
     let x = stepOf keyboardLamps (dispatcherOf ws) s log in
     Made x (wordsStepped (serviceOf (x .answer)) x s log ws) answer ws′ log′
-
--- The turn of a side, which is lent this script.
-abbrev pub SideServed : Side → List ℕ → List ℕ → List ℕ → StepWords → List ℕ → List ℕ → Type 0
-SideServed side ws script log answer ws′ log′ =
-    let source = Source.Keyboard side in
-    let x = serveKeyboard keyboardLamps side (dispatcherOf ws) script log in
-    Made x (withTurn source (placeOf source (x .state .places)) (withCall side (unused (placeIn source ws) script) log ws)) answer ws′ log′
-
--- The mouse's turn.
-abbrev pub MouseServed : List ℕ → List ℕ → List ℕ → StepWords → List ℕ → List ℕ → Type 0
-MouseServed ws script log answer ws′ log′ =
-    let x = serveMouse (dispatcherOf ws) script log in
-    Made x (withTurn Source.Mouse (placeOf Source.Mouse (x .state .places)) ws) answer ws′ log′
 
 -- With any numbers: at another length it is refused with 21, and leaves everything as it was.
 pub record StepMade (ws first second third log : List ℕ) (answer : StepWords) (ws′ log′ : List ℕ) : Type 0 where

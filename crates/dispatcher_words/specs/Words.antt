@@ -64,10 +64,6 @@ abbrev pub wordsOfDispatcher : Dispatcher → List ℕ
 wordsOfDispatcher d =
     wordsOf (d .handler) ++ (mouseIdByte (d .mouse .id) ∷ d .places .first ∷ d .places .second ∷ d .places .mouse ∷ lastNumber (d .last) ∷ [])
 
--- What stands behind the handler's record where nobody was served yet: the mouse's identity, and the starts of the scripts.
-abbrev pub unserved : MouseId → List ℕ
-unserved id = mouseIdByte id ∷ 0 ∷ 0 ∷ 0 ∷ 0 ∷ []
-
 -- A state whose handler's record fits the numbers, with its 128 places.
 pub record DispatcherFits (d : Dispatcher) : Type 0 where
   pub handler : Fits (d .handler)

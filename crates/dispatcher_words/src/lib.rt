@@ -7,9 +7,10 @@ ghost use Rattle.handler_words.specs.Calls.{refusing};
 ghost use Rattle.dispatcher.specs.Sources.{scripts, unused, keyboardWaits, mouseWaits, waitsNow};
 ghost use Rattle.dispatcher.specs.Said.{waitIn};
 ghost use Rattle.dispatcher_words.specs.Layout.{placeAt, dispatcherLength};
-ghost use Rattle.dispatcher_words.specs.Words.{identityOf, sourceNumber, lastOf, handlerIn, placeIn, dispatcherOf, unserved};
-ghost use Rattle.dispatcher_words.specs.Steps.{noCall, withTurn, SideServed, MouseServed, StepMade};
+ghost use Rattle.dispatcher_words.specs.Words.{identityOf, sourceNumber, lastOf, handlerIn, placeIn, dispatcherOf};
+ghost use Rattle.dispatcher_words.specs.Steps.{noCall, withTurn, StepMade};
 ghost use Rattle.dispatcher_words.specs.Fresh.{MadeFresh};
+ghost use Rattle.dispatcher_words.specs.Parts.{unserved, SideServed, MouseServed};
 use argument_words::FoundIdentity;
 use argument_words::MEANS_NOTHING;
 use argument_words::identity_of;
@@ -82,7 +83,7 @@ pub fn dispatcher_fresh(words: &mut [u64], keyboards: u32, profile: u32, identit
     let found = identity_of(identity);
     match found {
         FoundIdentity::Identity(id) => {
-            // none of these numbers are a record's either, so the table is asked and then 21 is answered
+            // a record of no numbers is refused as this one is: the table is asked, and then 21 answered
             if words.len() != DISPATCHER_WORDS {
                 return fresh_words(&mut words[..0], keyboards, profile);
             }

@@ -1,11 +1,12 @@
-// The dispatcher's state lent as numbers: a fresh one, and a step.
+// The dispatcher lent as numbers: a fresh one and the step. The first 144 of its numbers are the handler's record, from which `vd_take` takes.
+ghost use mathlib.Core.Path.{_≡_};
 ghost use Rattle.dispatcher_words.specs.Steps.{StepMade};
 ghost use Rattle.dispatcher_words.specs.Fresh.{MadeFresh};
 use dispatcher_words::StepWords;
 use dispatcher_words::dispatcher_fresh;
 use dispatcher_words::dispatcher_step;
 
-// Makes a lent dispatcher a fresh one, with a fresh record for a table, as `fresh_words` has it, and a mouse of identity 0, 3 or 4: 21 where there are not 149 numbers.
+// Makes a lent dispatcher a fresh one, for a table as `vd_handler_fresh` has it and a mouse of identity 0, 3 or 4.
 #[no_mangle]
 pub extern "C" fn vd_dispatcher_fresh(
     words: &mut [u64],
@@ -18,7 +19,7 @@ pub extern "C" fn vd_dispatcher_fresh(
     dispatcher_fresh(words, keyboards, profile, identity)
 }
 
-// A step on a lent dispatcher: the first source that waits, going round from the one after the last served, is served. Where none waits it is idle and writes nothing; 21 where there are not 149 numbers.
+// A step of a lent dispatcher: one source that waits is served.
 #[no_mangle]
 pub extern "C" fn vd_dispatcher_step(
     words: &mut [u64],

@@ -1,8 +1,5 @@
 -- `dispatcher_words::place_in` meets its contract.
 -- Assumes nothing.
-use mathlib.Core.Path.{ap}
-use Prim.Native.Nat.{ℕ}
-use lib.ListN.{getD}
 use borrow.Author.Needs.{needs}
 use Rattle.dispatcher_words.proofs.place_in.Statement.{statement}
 use Rattle.dispatcher_words.proofs.place_in.Tie as tie
