@@ -26,12 +26,9 @@
 //! The library (`libvurdellow.a`, for x86-64 Linux) is built by the repository's `./build-lib`; the build script finds it there, or where
 //! the variable `VURDELLOW_LIB` says.
 
-#![no_std]
+#![cfg_attr(not(feature = "std"), no_std)]
 #![deny(unsafe_code)]
 #![warn(missing_debug_implementations, rust_2018_idioms)]
-
-#[cfg(test)]
-extern crate std;
 
 mod bytes;
 mod controller;
