@@ -27,7 +27,10 @@ fn refusals_have_numbers_and_words() {
 fn counts_stand_beside_refusals() {
     let mut log = [0; HANDLER_LOG];
     let run = handler().handle(Side::First, &LOCK[..5], &mut log);
-    assert_eq!((run.refusal(), run.lacks(), run.used(), run.pairs()), (Some(Refusal::ScriptEnds(Port::Status)), Some(Port::Status), 5, 2));
+    assert_eq!(
+        (run.refusal(), run.lacks(), run.used(), run.pairs()),
+        (Some(Refusal::ScriptEnds(Port::Status)), Some(Port::Status), 5, 2)
+    );
     assert_eq!(log[..4], [0x60, 0xED, 0x60, 0x04]);
     // Two bytes of log are one pair; the second write is refused.
     let run = handler().handle(Side::First, &LOCK, &mut log[..3]);
@@ -121,7 +124,8 @@ fn keycodes_and_numbers_are_one_to_one() {
         }
     }
     assert_eq!((0..=255).filter_map(Keycode::from_number).count(), Keycode::ALL.len());
-    let typed: String = Keycode::ALL.iter().filter_map(|key| key.character(Modifiers::NONE)).filter(char::is_ascii_lowercase).collect();
+    let typed: String =
+        Keycode::ALL.iter().filter_map(|key| key.character(Modifiers::NONE)).filter(char::is_ascii_lowercase).collect();
     assert_eq!(typed.len(), 26);
     assert!((Modifiers::SHIFT_LEFT | Modifiers::ALT_RIGHT).is_alt_gr());
 }
@@ -146,7 +150,10 @@ fn commands_hand_back_what_they_threw_away() {
     }
     script.extend([0x01, 0xFC]);
     let refused = keyboard::command(KeyboardCommand::EnableScanning, &script, &mut [0; 8]).unwrap_err();
-    assert_eq!((refused.refusal, refused.done.kept.bytes(), refused.done.kept.others), (Refusal::SelfTestFailed, &[0x1E; 16][..], 2));
+    assert_eq!(
+        (refused.refusal, refused.done.kept.bytes(), refused.done.kept.others),
+        (Refusal::SelfTestFailed, &[0x1E; 16][..], 2)
+    );
     let mut log = [0; 8];
     let done = keyboard::lamps(Lamps::CAPS | Lamps::NUM, &[0x00, 0x01, 0xFA, 0x00, 0x01, 0xFA], &mut log).unwrap();
     assert_eq!((done.pairs, log[..4].to_vec()), (2, vec![0x60, 0xED, 0x60, 0x06]));
@@ -201,10 +208,16 @@ fn preferences_are_stored_and_applied() {
     let fields = Fields { set: 2, rate: 200, resolution: 0, lamps: 1 };
     let (mut out, preferences) = ([0; 16], Preferences::Version2(fields, 127));
     let written = preferences.write(&mut out).unwrap();
-    assert_eq!((Preferences::read(&out[..written]), Preferences::read_fields(&out[..written])), (Ok(preferences), Ok(fields)));
+    assert_eq!(
+        (Preferences::read(&out[..written]), Preferences::read_fields(&out[..written])),
+        (Ok(preferences), Ok(fields))
+    );
     assert_eq!(preferences.write(&mut out[..written - 1]), Err(Refusal::OutputFull));
     let outside = Preferences::Version1(Fields { rate: 30, ..fields });
-    assert_eq!((outside.write(&mut out), outside.apply(&[0; 9], &mut out).unwrap_err().number()), (Err(Refusal::OutsideValues), 28));
+    assert_eq!(
+        (outside.write(&mut out), outside.apply(&[0; 9], &mut out).unwrap_err().number()),
+        (Err(Refusal::OutsideValues), 28)
+    );
     assert_eq!(preferences.apply(&[], &mut [0; LOG_BYTES]).lacks(), Some(Port::Status));
     assert_eq!(Preferences::read(&[0x01, 0x84]), Err(Refusal::MalformedNumber));
 }
@@ -234,7 +247,10 @@ fn a_dispatcher_serves_by_turns() {
     assert!(matches!(table.step(&first, &second, &mouse, &mut log), Step::Key(Side::Second, Ok(_))));
     let Step::Packet(Ok(read)) = table.step(&first, &second, &mouse, &mut log) else { panic!("no packet") };
     assert_eq!((read.value.x, read.value.y, read.value.wheel, read.used), (1, 2, -1, 4));
-    assert_eq!((table.place(Source::Mouse), table.place(Source::Keyboard(Side::First)), table.last_served()), (4, 1, Some(Source::Mouse)));
+    assert_eq!(
+        (table.place(Source::Mouse), table.place(Source::Keyboard(Side::First)), table.last_served()),
+        (4, 1, Some(Source::Mouse))
+    );
     let stored = Dispatcher::from_words(*table.words()).unwrap();
     assert_eq!((stored.identity(), &stored), (Identity::Wheel, &table));
     assert!(table.step(&first, &second, &mouse, &mut log).is_progress());
