@@ -508,7 +508,7 @@ vd_salvaged vd_salvage(uint32_t identity, const uint8_t *bytes, size_t bytes_len
 
 /* Writes preferences as bytes.
    Refused 28, then 23, with the output as it was; 255 where the version is not 1 or 2. */
-vd_preferences_written vd_preferences_write(vd_preferences preferences, uint8_t *out, size_t out_length);
+vd_preferences_written vd_preferences_write(vd_preferences preferences, uint8_t *output, size_t output_length);
 
 /* Reads the four fields that records of both versions have: version is 1 in the answer, and repeat 0.
    Refused 27, 28 and 29. */
