@@ -7,4 +7,6 @@ pub mod Coded
 pub mod Answers
 pub mod Entries
 pub mod Words
+pub mod Told
+pub mod MouseLeft
 pub mod Worked

@@ -1,2 +1,6 @@
 // The library that others link: every operation that a table needs, for C or Rust. Each function is one of a layer below, with its contract.
+mod bytes;
 mod handler;
+mod mouse;
+mod preferences;
+mod reports;

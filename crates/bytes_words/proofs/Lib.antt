@@ -1,0 +1,2 @@
+-- The laws of the operations on bytes as numbers.
+pub mod Keys

@@ -1,0 +1,3 @@
+-- The operations on bytes as numbers.
+pub mod Keys
+pub mod Outputs
