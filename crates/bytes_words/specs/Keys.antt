@@ -12,8 +12,6 @@ use Rattle.keycodes_ascii.specs.declared.KeyAction.{KeyAction}
 use Rattle.keycodes_ascii.specs.Characters.{characterOf}
 use Rattle.keycodes_ascii.specs.Keycode.{numberOf}
 use Rattle.report_totals.specs.Events.{codeOf}
-use Rattle.bytes_words.specs.declared.FoundFlags.{FoundFlags}
-use Rattle.bytes_words.specs.declared.FoundAction.{FoundAction}
 
 -- ---- arguments: a keycode is passed as its number (`keycodeOf` says which has one)
 
@@ -27,15 +25,6 @@ flagsAt n = cond (ltb n flagsLimit) (some (record { bits = n })) none
 -- A press is 0, a release 1.
 abbrev pub actionAt : ℕ → Option KeyAction
 actionAt n = cond (eqb n 0) (some KeyAction.Pressed) (cond (eqb n 1) (some KeyAction.Released) none)
-
--- The flags and the action that were found.
-abbrev pub saidFlags : FoundFlags → Option KeyboardModifiers
-saidFlags (FoundFlags.Flags m) = some m
-saidFlags FoundFlags.Nothing = none
-
-abbrev pub saidAction : FoundAction → Option KeyAction
-saidAction (FoundAction.Action a) = some a
-saidAction FoundAction.Nothing = none
 
 -- ---- answers
 

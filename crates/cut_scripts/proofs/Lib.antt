@@ -9,4 +9,5 @@ pub mod Entries
 pub mod Words
 pub mod Told
 pub mod MouseLeft
+pub mod KeyboardInit
 pub mod Worked

@@ -7,13 +7,15 @@ use mathlib.Core.Path.{_≡_, refl}
 use lib.ListN.{take}
 use Rattle.exchange.specs.Exchange.{Exchange, End, play}
 use Rattle.exchange.specs.Answer.{Answer}
+use Rattle.ps2_init.specs.declared.PS2Controller.{PS2Controller}
 use Rattle.port_words.specs.Told.{told}
 use Rattle.port_words.specs.ToldKept.{toldKept}
 use Rattle.port_words.specs.ToldPacket.{toldPacket}
 use Rattle.port_words.specs.Tells.{Tells, TellsReading, TellsAt, TellsReadingAt}
+use Rattle.controller_words.specs.Controller.{toldInit}
 use Rattle.cut_scripts.specs.CutShort.{nextPort, CutShort}
 use Rattle.cut_scripts.specs.Forms.{lack}
-use Rattle.cut_scripts.specs.Told.{Parts, handedIn, handedRead, UsedTold, CountsTold, portParts, keptParts, packetParts}
+use Rattle.cut_scripts.specs.Told.{Parts, handedIn, handedRead, UsedTold, CountsTold, portParts, keptParts, packetParts, initParts}
 use Rattle.cut_scripts.proofs.CutShort.{handedBy, cut-short}
 
 -- ---- the kinds of answers
@@ -26,6 +28,9 @@ kept-counts = record { used = record { used-is = λ e u w. refl; others-are = λ
 
 pub packet-counts : UsedTold packetParts toldPacket
 packet-counts = record { used-is = λ e u w. refl; others-are = λ e u w. refl }
+
+pub init-counts : (passed : PS2Controller) → CountsTold initParts (toldInit passed)
+init-counts passed = record { used = record { used-is = λ e u w. refl; others-are = λ e u w. refl }; pairs-are = λ e u w. refl }
 
 -- ---- a script and a log
 

@@ -7,6 +7,7 @@ use Rattle.exchange.specs.Exchange.{End}
 use Rattle.port_words.specs.declared.PortWords.{PortWords}
 use Rattle.port_words.specs.declared.KeptWords.{KeptWords}
 use Rattle.port_words.specs.declared.PacketWords.{PacketWords}
+use Rattle.controller_words.specs.declared.InitializedWords.{InitializedWords}
 use Rattle.cut_scripts.specs.CutShort.{Handed, handed}
 
 -- Where an answer has its counts, and the answer with 0 in their places.
@@ -56,3 +57,23 @@ packetParts =
       pairs = λ _. 0;
       others = λ r. record { refusal = r .refusal; port = r .port; used = 0; buttons = r .buttons; x = r .x; y = r .y; wheel = r .wheel };
     }
+
+abbrev pub initParts : Parts InitializedWords
+initParts =
+    record {
+      used = λ r. r .used;
+      pairs = λ r. r .pairs;
+      others = λ r. record { refusal = r .refusal; port = r .port; used = 0; pairs = 0; controller = r .controller };
+    }
+
+-- ---- an answer with a lent record's numbers beside it
+
+pub record WithWords : Type 0 where
+  pub answer : PortWords
+  pub words : List ℕ
+
+abbrev pub withWords : PortWords → List ℕ → WithWords
+withWords r ws = record { answer = r; words = ws }
+
+abbrev pub handedWith : PortWords → List ℕ → List ℕ → Handed WithWords
+handedWith r ws l = handed (withWords (portParts .others r) ws) (r .used) (r .pairs) l

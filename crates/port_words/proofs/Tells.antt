@@ -5,14 +5,16 @@ use mathlib.Core.List.{List}
 use mathlib.Core.Option.{Option, none, some}
 use mathlib.Core.Path.{_≡_, refl, ap, sym, _∙_}
 use native.Mathlib.Omega.{arith}
-use Rattle.exchange.specs.Exchange.{Exchange, End, yields, lacks, Played, played, play, Reads}
+use Rattle.exchange.specs.Exchange.{Exchange, End, yields, lacks, toldEnd, Played, played, play, Reads}
 use Rattle.exchange.specs.Answer.{Answer}
 use Rattle.exchange.specs.Keeping.{Kept, keptEnd}
+use Rattle.exchange.specs.Left.{Left, left, recordAfter}
 use Rattle.ps2_kept.specs.declared.KeptBytes.{KeptBytes}
 use Rattle.ps2_kept.specs.Kept.{keptAt}
 use Rattle.ps2_kept.specs.Contracts.{PlaysKept}
 use Rattle.port_words.specs.declared.KeptWords.{KeptWords}
 use Rattle.port_words.specs.ToldKept.{keptNumbers, toldKept}
+use Rattle.port_words.specs.ToldLeft.{toldLeft}
 use Rattle.port_words.specs.Tells.{Tells, TellsReading, AtArgument}
 
 -- ---- a script and a log, and a script alone
@@ -33,6 +35,25 @@ kept-numbers {A} (lacks x) {u} {w} h = ap (keptNumbers {A = A} (lacks x) u w) h
 module _ {A : Type 0} {t : Exchange (Kept KeptBytes (Answer A))} {script log l : List ℕ} {e : End (Answer A)} {u w : ℕ} {k : KeptBytes} {answer : KeptWords} where
   pub tells-kept : PlaysKept t script log e u w l k → answer ≡ keptNumbers e u w k → Tells toldKept t script log answer l
   tells-kept p q = tells-played (p .plays) (q ∙ kept-numbers e (p .ended))
+
+-- ---- with a record that was passed in
+
+told-left : {X A : Type 0} (e : End (Answer A)) (x : X) → toldEnd (λ (v : Left X A). v .answer) (toldEnd (λ a. left a x) e) ≡ e
+told-left (yields a) x = refl
+told-left (lacks y) x = refl
+
+module _ {X A R : Type 0} (numbers : End (Answer A) → ℕ → ℕ → X → R) (passed : X) {t : Exchange (Left X A)} {x : X} {script log l : List ℕ} {u w : ℕ} {answer : R} where
+  pub tells-left : (e : End (Answer A)) → (played (toldEnd (λ a. left a x) e) u w l ≡ play t script log) × (x ≡ recordAfter passed (play t script log .end)) → answer ≡ numbers e u w x
+      → Tells (toldLeft numbers passed) t script log answer l
+  tells-left e p q =
+      let o = play t script log in
+      record {
+        answered =
+            q ∙ ap (λ (d : End (Answer A)). numbers d u w x) (sym (told-left e x))
+            ∙ ap (λ (y : Played (Left X A)). numbers (toldEnd (λ v. v .answer) (y .end)) (y .used) (y .pairs) x) (p .0)
+            ∙ ap (numbers (toldEnd (λ v. v .answer) (o .end)) (o .used) (o .pairs)) (p .1);
+        logged = ap (λ (y : Played (Left X A)). y .log) (p .0);
+      }
 
 -- ---- arguments
 

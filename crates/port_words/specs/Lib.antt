@@ -2,4 +2,5 @@
 pub mod Told
 pub mod ToldKept
 pub mod ToldPacket
+pub mod ToldLeft
 pub mod Tells

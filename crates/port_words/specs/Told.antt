@@ -7,10 +7,6 @@ use Rattle.ps2_answers.specs.declared.Refusal.{Refusal}
 use Rattle.ps2_answers.specs.Refusals.{Success, lackOf}
 use Rattle.port_words.specs.declared.PortWords.{PortWords}
 
--- What is answered where an argument stands for nothing. It is no number of documents 01 and 02.
-abbrev pub meansNothing : ℕ
-meansNothing = 255
-
 -- The port of the read that a script was too short for, and 0 where there was none.
 abbrev pub portOfLack : Lack → ℕ
 portOfLack (noScript p) = number p

@@ -23,9 +23,6 @@ use ps2_packet::MousePacket;
 use ps2_packet_reading::SignedAnswer;
 use ps2_packet_reading::SignedRead;
 
-// What is answered where an argument stands for nothing; documents 01 and 02 have no such number.
-pub const MEANS_NOTHING: u32 = 255;
-
 // What a port operation answers: the refusal, 0 where there is none; the port of the read that the script was too short for, or 0; script bytes used and pairs written; and what the operation gives, 0 where it gives nothing.
 #[repr(C)]
 pub struct PortWords {
@@ -95,7 +92,7 @@ pub fn refusing_words(refusal: u32) -> PortWords
 }
 
 // The port of a lack, and 0 where a refusal is none of a script byte.
-pub fn port_lacked(refusal: Refusal) -> u32
+fn port_lacked(refusal: Refusal) -> u32
     ensures { λ r. ⌜ r ≡ portOfRefusal refusal ⌝ }
 {
     match refusal {

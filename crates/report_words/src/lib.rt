@@ -83,7 +83,7 @@ pub fn report_add(report: Report, identity: u32, events: &[u8], mouse: &[u8]) ->
         }
         FoundIdentity::Nothing => ReportAddedWords {
             refusal: MEANS_NOTHING,
-            report: Report::empty(),
+            report,
         },
     }
 }
@@ -138,7 +138,7 @@ pub fn long_report_add(
         }
         FoundIdentity::Nothing => LongAddedWords {
             refusal: MEANS_NOTHING,
-            report: LongReport::empty(),
+            report: long,
         },
     }
 }

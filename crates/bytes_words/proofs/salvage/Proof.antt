@@ -3,7 +3,6 @@
 use mathlib.Core.Path.{refl, ap, sym, _∙_}
 use borrow.Author.Needs.{needs}
 use Rattle.argument_words.specs.Arguments.{saidIdentity}
-use Rattle.ps2_salvage.specs.Salvage.{answerNumber}
 use Rattle.bytes_words.proofs.salvage.Statement.{statement}
 use Rattle.bytes_words.proofs.salvage.Tie as tie
 

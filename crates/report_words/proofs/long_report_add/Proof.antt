@@ -1,6 +1,6 @@
 -- `report_words::long_report_add` meets its contract: the session of the identity that the number stands for, its answer by number.
 -- Assumes nothing.
-use mathlib.Core.Path.{ap, sym, _∙_}
+use mathlib.Core.Path.{refl, ap, sym, _∙_}
 use borrow.Author.Needs.{needs}
 use Rattle.argument_words.specs.Arguments.{saidIdentity}
 use Rattle.report_words.specs.Words.{longAddedWords}
@@ -14,7 +14,7 @@ returns c =
     (ap longAddedWords (c .before .before .before .add .ensures))
 
 returns-2 : tie.Need-returns-2
-returns-2 c = rw (sym (c .before .before .before .identity-of .ensures) ∙ ap saidIdentity (c .before .enum-told .given .1), c .empty .ensures)
+returns-2 c = rw (sym (c .before .before .identity-of .ensures) ∙ ap saidIdentity (c .enum-told .given .1)) refl
 
 pub long-report-add-spec : {M : Type 1} → statement M
 long-report-add-spec =
@@ -26,6 +26,5 @@ long-report-add-spec =
     (λ c κs. search needs)
     (λ c κs. search needs)
     (λ c. search needs)
-    (λ c κs. search needs)
     returns
     returns-2)
