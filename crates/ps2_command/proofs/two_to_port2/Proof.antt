@@ -21,12 +21,13 @@ returns-2 c =
     let t = p .before .before .to-byte in
     let a = p .before .before .before .before .before .args in
     record {
-      fits = λ _.
-          (refl,
-          rw (t .ensures) at
-          (s .put-pair4 .ensures
-          ∙ ap (λ (l : List ℕ). set (set l 6 0x60) 7 (a .second))
-          (r .put-pair3 .ensures ∙ ap (λ (l : List ℕ). set (set l 4 0x64) 5 (t .result)) (q .put-pair2 .ensures ∙ ap (λ (l : List ℕ). set (set l 2 0x60) 3 (a .first)) (p .put-pair .ensures)))));
+      fits = λ _. (
+        refl,
+        rw (t .ensures) at
+            (s .put-pair4 .ensures
+            ∙ ap (λ (l : List ℕ). set (set l 6 0x60) 7 (a .second))
+            (r .put-pair3 .ensures ∙ ap (λ (l : List ℕ). set (set l 4 0x64) 5 (t .result)) (q .put-pair2 .ensures ∙ ap (λ (l : List ℕ). set (set l 2 0x60) 3 (a .first)) (p .put-pair .ensures)))),
+      );
       full = λ h. absurd (omega (arith, h, p .before .before .before .if1 .left));
     }
 
