@@ -69,11 +69,48 @@ module _ (side : Side) (ws : List ℕ) (h : length ws ≡ wordsLength) where
       (event-stored place (oneMore side s) e i (withKeyboardAt (keyboardFrom side) k ws) (long side k ws h)
       ∙ ap (λ (r : KeyboardHandler). record { state = withQueue c sides (r .state); places = set (r .places) place e }) (keyboard-stored k a w side ws h))
 
--- ---- a call
+-- ---- a call, by what it gives back
+
+module _ (side : Side) (ws s l : List ℕ) (y : Effects) {l′ : List ℕ} (made : (y ≡ effects keyboardLamps side (stateOf ws) s l) × (l′ ≡ logLeft keyboardLamps side (stateOf ws) s l))
+    {refusal lamps port : ℕ} (a : refusal ≡ numberEnded (y .end)) (b : lamps ≡ numberAnswered (y .lamps)) (c : port ≡ portLacked (y .end)) where
+  abbrev answer : HandledWords
+  answer = record { refusal = refusal; lamps = lamps; used = y .used; pairs = y .pairs; dropped = y .dropped; port = port }
+
+  answer-is : answer ≡ numbersOf (handled keyboardLamps side (recordOf ws) s l)
+  unfolding handled
+  answer-is = rw (a, b, c) (ap (λ (z : Effects). numbersOf (calledWith (recordOf ws) z)) (made .0))
+
+  pub as-passed : eqb refusal 2 || (eqb refusal 3 || eqb refusal 21) ≡ true → SideHandled side ws s l answer ws l′
+  unfolding wordsLeft handled
+  as-passed t =
+      let e : ends2-3-21 (effects keyboardLamps side (stateOf ws) s l .end) ≡ true = ap (λ (z : Effects). ends2-3-21 (z .end)) (sym (made .0)) ∙ (rw a at t) in
+      record { answered = answer-is; leaves = sym (record-as-passed keyboardLamps side (recordOf ws) s l e); writes = rw e; logged = made .1 }
+
+  module _ (h : length ws ≡ wordsLength) where
+    pub moved-on : eqb refusal 2 || (eqb refusal 3 || eqb refusal 21) ≡ false → {at : ℕ} → at ≡ keyboardFrom side → {k : KeyboardState} → k ≡ keyboardAt side (y .state)
+        → {us : List ℕ} → (us ≡ withKeyboardAt at k ws) × Narrow k
+        → {ws′ : List ℕ} → (ws′ ≡ withEvent (freePlace (stateOf ws)) (y .state) (y .event) us) × (reread (y .event) ≡ y .event)
+        → SideHandled side ws s l answer ws′ l′
+    unfolding wordsLeft handled
+    moved-on t p q {us} u {ws′} v =
+        let x = effects keyboardLamps side (stateOf ws) s l in
+        let e : ends2-3-21 (x .end) ≡ false = ap (λ (z : Effects). ends2-3-21 (z .end)) (sym (made .0)) ∙ (rw a at t) in
+        let g : ws′ ≡ withEvent (freePlace (stateOf ws)) (x .state) (x .event) (withKeyboardAt (keyboardFrom side) (keyboardAt side (x .state)) ws) =
+        v .0 ∙ (rw (u .0, p, q) (ap (λ (z : Effects). withEvent (freePlace (stateOf ws)) (z .state) (z .event) (withKeyboardAt (keyboardFrom side) (keyboardAt side (z .state)) ws)) (made .0))) in
+        let m : Narrow (keyboardAt side (x .state)) = subst (λ (z : Effects). Narrow (keyboardAt side (z .state))) (made .0) (rw q at (u .1)) in
+        let r : reread (x .event) ≡ x .event = subst (λ (z : Effects). reread (z .event) ≡ z .event) (made .0) (v .1) in
+        record {
+          answered = answer-is;
+          leaves = ap recordOf g ∙ stands side ws h (state-left side (stateOf ws) keyboardLamps (bytes-in side ws) s l) m r;
+          writes = rw e g;
+          logged = made .1;
+        }
+
+-- ---- by the effect that the code's call on the state gives back
 
 module _ (side : Side) (ws s l : List ℕ) (x : Effect) {state : HandlerState} (is : state ≡ stateOf ws) {l′ : List ℕ} (made : (saidEffect x ≡ effects keyboardLamps side state s l) × (l′ ≡ logLeft keyboardLamps side state s l)) where
-  effect-is : saidEffect x ≡ effects keyboardLamps side (stateOf ws) s l
-  effect-is = rw is at (made .0)
+  effect-is : (saidEffect x ≡ effects keyboardLamps side (stateOf ws) s l) × (l′ ≡ logLeft keyboardLamps side (stateOf ws) s l)
+  effect-is = (rw is at (made .0), rw is at (made .1))
 
   -- where there is a new event, there is a place for it
   pub placed : Placed (state .start) (state .count) (x .event)
@@ -84,41 +121,16 @@ module _ (side : Side) (ws s l : List ℕ) (x : Effect) {state : HandlerState} (
   }
 
   module _ {refusal lamps port : ℕ} (a : refusal ≡ numberEnded (saidCall (x .answer))) (b : lamps ≡ numberAnswered (saidLamps (x .«lamps_failed»))) (c : port ≡ portLacked (saidCall (x .answer))) where
-    abbrev answer : HandledWords
-    answer = record { refusal = refusal; lamps = lamps; used = x .used; pairs = x .pairs; dropped = x .dropped; port = port }
-
-    answer-is : answer ≡ numbersOf (handled keyboardLamps side (recordOf ws) s l)
-    unfolding handled
-    answer-is = rw (a, b, c) (ap (λ (y : Effects). numbersOf (calledWith (recordOf ws) y)) effect-is)
-
-    log-is : l′ ≡ logLeft keyboardLamps side (stateOf ws) s l
-    log-is = rw is at (made .1)
-
-    pub left-alone : eqb refusal 2 || (eqb refusal 3 || eqb refusal 21) ≡ true → SideHandled side ws s l answer ws l′
-    unfolding wordsLeft handled
-    left-alone t =
-        let e : ends2-3-21 (effects keyboardLamps side (stateOf ws) s l .end) ≡ true = ap (λ (y : Effects). ends2-3-21 (y .end)) (sym effect-is) ∙ (rw a at t) in
-        record { answered = answer-is; leaves = sym (record-as-passed keyboardLamps side (recordOf ws) s l e); writes = rw e; logged = log-is }
+    pub left-alone : eqb refusal 2 || (eqb refusal 3 || eqb refusal 21) ≡ true
+        → SideHandled side ws s l (record { refusal = refusal; lamps = lamps; used = x .used; pairs = x .pairs; dropped = x .dropped; port = port }) ws l′
+    left-alone t = as-passed side ws s l (saidEffect x) effect-is a b c t
 
     module _ (h : length ws ≡ wordsLength) where
       pub written : eqb refusal 2 || (eqb refusal 3 || eqb refusal 21) ≡ false → {at : ℕ} → at ≡ keyboardFrom side → {k : KeyboardState} → k ≡ keyboardAt side (x .state)
           → {us : List ℕ} → (us ≡ withKeyboardAt at k ws) × Narrow k
           → {ws′ : List ℕ} → (ws′ ≡ withEvent ((state .start + state .count) % 128) (x .state) (saidEvent (x .event)) us) × (reread (saidEvent (x .event)) ≡ saidEvent (x .event))
-          → SideHandled side ws s l answer ws′ l′
-      unfolding wordsLeft handled
-      written t p q {us} u {ws′} v =
-          let y = effects keyboardLamps side (stateOf ws) s l in
-          let e : ends2-3-21 (y .end) ≡ false = ap (λ (z : Effects). ends2-3-21 (z .end)) (sym effect-is) ∙ (rw a at t) in
-          let g : ws′ ≡ withEvent (freePlace (stateOf ws)) (y .state) (y .event) (withKeyboardAt (keyboardFrom side) (keyboardAt side (y .state)) ws) =
-          v .0 ∙ (rw (u .0, p, q, is) (ap (λ (z : Effects). withEvent (freePlace (stateOf ws)) (z .state) (z .event) (withKeyboardAt (keyboardFrom side) (keyboardAt side (z .state)) ws)) effect-is)) in
-          let m : Narrow (keyboardAt side (y .state)) = subst (λ (z : Effects). Narrow (keyboardAt side (z .state))) effect-is (rw q at (u .1)) in
-          let r : reread (y .event) ≡ y .event = subst (λ (z : Effects). reread (z .event) ≡ z .event) effect-is (v .1) in
-          record {
-            answered = answer-is;
-            leaves = ap recordOf g ∙ stands side ws h (state-left side (stateOf ws) keyboardLamps (bytes-in side ws) s l) m r;
-            writes = rw e g;
-            logged = log-is;
-          }
+          → SideHandled side ws s l (record { refusal = refusal; lamps = lamps; used = x .used; pairs = x .pairs; dropped = x .dropped; port = port }) ws′ l′
+      written t p q u v = moved-on side ws s l (saidEffect x) effect-is a b c h t p q u (rw is at v)
 
 -- ---- by the side that a number stands for
 

@@ -4,6 +4,7 @@ pub mod Events
 pub mod Words
 pub mod Left
 pub mod Calls
+pub mod Alone
 pub mod Taken
 pub mod Cleared
 pub mod Fresh

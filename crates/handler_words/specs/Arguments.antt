@@ -9,10 +9,6 @@ use Rattle.keyboard_record.specs.declared.Keyboards.{Keyboards}
 use Rattle.keyboard_record.specs.declared.Table.{Table}
 use Rattle.keyboard_scancodes.specs.declared.Profile.{Profile}
 
--- What is answered where an argument stands for nothing. It is no number of documents 01 and 02.
-abbrev pub meansNothing : ℕ
-meansNothing = 255
-
 -- "Events name the side, 1 or 2."
 abbrev pub sideAt : ℕ → Option Side
 sideAt n = cond (eqb n 1) (some Side.First) (cond (eqb n 2) (some Side.Second) none)

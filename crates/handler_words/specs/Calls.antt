@@ -8,6 +8,7 @@ use Prim.Native.Nat.{ℕ, _+_}
 use lib.ListN.{length, set}
 use Rattle.bits.specs.Bits.{weigh}
 use Rattle.exchange.specs.Answer.{Answer, gives, refuses, numberAnswered, numberEnded}
+use Rattle.argument_words.specs.Arguments.{meansNothing}
 use Rattle.keycodes_ascii.specs.declared.KeyEvent.{KeyEvent}
 use Rattle.keycodes_ascii.specs.Keycode.{numberOf}
 use Rattle.keyboard_scancodes.specs.declared.KeyboardState.{KeyboardState}
@@ -27,7 +28,7 @@ use Rattle.handler_words.specs.declared.HandledWords.{HandledWords}
 use Rattle.handler_words.specs.declared.TakenWords.{TakenWords}
 use Rattle.handler_words.specs.Layout.{keyboardFrom, startAt, countAt, lowSidesAt, highSidesAt, placesFrom, wordsLength}
 use Rattle.handler_words.specs.Words.{actionNumber, lowBytes, highBytes, wordOf, stateOf, recordOf, wordsOf}
-use Rattle.handler_words.specs.Arguments.{meansNothing, sideAt, sideNumber, tableAt}
+use Rattle.handler_words.specs.Arguments.{sideAt, sideNumber, tableAt}
 
 -- ---- the handler call
 

@@ -3,15 +3,28 @@
 use mathlib.Core.Option.{Option, none, some}
 use mathlib.Core.Path.{_≡_}
 use Prim.Native.Nat.{ℕ, _<_, _≤_}
+use mathlib.Core.Bool.{false, _||_}
+use mathlib.Core.List.{List}
+use lib.Dec.{eqb}
+use lib.ListN.{length, getD}
+use Rattle.exchange.specs.Answer.{numberAnswered}
 use Rattle.keycodes_ascii.specs.declared.KeyEvent.{KeyEvent}
 use Rattle.keyboard_scancodes.specs.declared.KeyboardState.{KeyboardState}
+use Rattle.keyboard_scancodes.specs.declared.Profile.{Profile}
+use Rattle.keyboard_scancodes.specs.Profile.{pressesFollowed}
+use Rattle.keyboard_scancodes.specs.Strokes.{isSilent}
 use Rattle.keyboard_scancodes.specs.Waiting.{bytesFrom}
 use Rattle.keyboard_sides.specs.declared.Side.{Side}
 use Rattle.keyboard_record.specs.declared.Table.{Table}
+use Rattle.keyboard_record.specs.declared.HandlerState.{HandlerState}
 use Rattle.keyboard_record.specs.Limits.{queueLength}
+use Rattle.keyboard_record.specs.Record.{keyboardAt}
 use Rattle.keyboard.specs.declared.NewEvent.{NewEvent}
+use Rattle.keyboard.specs.Handler.{Outcome}
 use Rattle.handler_words.specs.declared.FoundSide.{FoundSide}
 use Rattle.handler_words.specs.declared.FoundTable.{FoundTable}
+use Rattle.handler_words.specs.declared.HandledWords.{HandledWords}
+use Rattle.handler_words.specs.Calls.{withEvent, SideHandled}
 use Rattle.handler_words.specs.Words.{byteLimit, flagsLimit, bytesIn, eventAt, wordOf, lowBytes, highBytes}
 
 -- The side that was found.
@@ -39,3 +52,22 @@ pub record Placed (start count : ℕ) (n : NewEvent) : Type 0 where
 abbrev pub reread : Option KeyEvent → Option KeyEvent
 reread none = none
 reread (some e) = some (eventAt (wordOf e))
+
+-- A call that takes the script's first byte, since none waits; it is a key's, and no lock's whose lamps would be set, at a table without the profile.
+pub record KeyAlone (side : Side) (s : HandlerState) (script : List ℕ) : Type 0 where
+  pub none-waits : keyboardAt side s .waiting .count ≡ 0
+  pub some-byte : 0 < length script
+  pub any-key : s .table .profile ≡ Profile.Any
+  pub sounds : isSilent (getD script 0 0) ≡ false
+  pub no-lamps : pressesFollowed Profile.Any (getD script 0 0) ≡ false
+
+-- What an event comes to that is queued, or is not: the number answered, which is none of those that leave the record as it was, and the numbers left.
+pub record KeyQueued (o : Outcome) (place : ℕ) (ws : List ℕ) (n : ℕ) (ws′ : List ℕ) : Type 0 where
+  pub answers : n ≡ numberAnswered (o .answer)
+  pub moves : eqb n 2 || (eqb n 3 || eqb n 21) ≡ false
+  pub writes : ws′ ≡ withEvent place (o .state) (o .event) ws
+  pub reads : reread (o .event) ≡ o .event
+
+-- What such a call comes to with any log, which it leaves as it is.
+pub record KeyHandled (side : Side) (ws script : List ℕ) (answer : HandledWords) (ws′ : List ℕ) : Type 0 where
+  pub with-any : (log : List ℕ) → SideHandled side ws script log answer ws′ log

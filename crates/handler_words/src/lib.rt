@@ -1,24 +1,31 @@
 // The keyboard handler's record lent as numbers, and changed where it lies: a call reads the state's numbers and writes those that change, and of the places one at most.
-ghost use mathlib.Core.Bool.{not, _||_};
+ghost use mathlib.Core.Bool.{true, not, _||_};
 ghost use mathlib.Core.Option.{some};
 ghost use mathlib.Core.Path.{_≡_};
 ghost use mathlib.Core.List.{_++_};
 ghost use lib.Dec.{eqb};
-ghost use lib.ListN.{length, replicate};
+ghost use lib.ListN.{length, set, replicate};
 ghost use Prim.Native.Nat.{_+_, _*_, _%_, _/_, _<_, _≤_, _^_};
 ghost use Rattle.bits.specs.Bits.{weigh};
+ghost use Rattle.keyboard_scancodes.specs.declared.Profile.{Profile};
+ghost use Rattle.keyboard_scancodes.specs.Events.{isKnown, eventOf};
 ghost use Rattle.keyboard_scancodes.specs.Waiting.{bytesFrom};
 ghost use Rattle.keyboard.specs.Answers.{saidCall, saidLamps};
+ghost use Rattle.keyboard.specs.Byte.{keyEvent};
+ghost use Rattle.keyboard.specs.Handler.{queued};
 ghost use Rattle.keyboard.specs.Outcomes.{saidEvent};
 ghost use Rattle.exchange.specs.Answer.{gives, numberAnswered};
+ghost use Rattle.ps2_answers.specs.Refusals.{success};
 ghost use Rattle.keycodes_ascii.specs.Keycode.{numberOf};
+ghost use Rattle.keyboard_record.specs.Queue.{freePlace};
 ghost use Rattle.keyboard_record.specs.Record.{fresh};
 ghost use Rattle.port_words.specs.Told.{portLacked};
-ghost use Rattle.handler_words.specs.Layout.{keyboardFrom, wordsLength};
+ghost use Rattle.handler_words.specs.Layout.{keyboardFrom, countAt, placesFrom, wordsLength};
 ghost use Rattle.handler_words.specs.Words.{bytesIn, numberOfBytes, actionNumber, eventAt, wordOf, keyboardsOf, keyboardsNumber, profileOf, profileNumber, keyboardIn, stateOf, wordsOf};
 ghost use Rattle.handler_words.specs.Arguments.{sideAt, sideNumber, laidWith, tableAt};
-ghost use Rattle.handler_words.specs.Calls.{refusing, withKeyboardAt, withEvent, SideHandled, WordsHandled, takenNumbers, withQueueAt, WordsTaken, WordsFresh};
-ghost use Rattle.handler_words.specs.Parts.{saidSide, saidTable, Narrow, Placed, reread};
+ghost use Rattle.handler_words.specs.Calls.{refusing, withKeyboardAt, withSides, withEvent, SideHandled, WordsHandled, takenNumbers, withQueueAt, WordsTaken, WordsFresh};
+ghost use Rattle.handler_words.specs.Parts.{saidSide, saidTable, Narrow, Placed, reread, KeyAlone, KeyQueued, KeyHandled};
+use argument_words::MEANS_NOTHING;
 use keyboard::HandlerAnswer;
 use keyboard::NewEvent;
 use keyboard::effect_of;
@@ -26,10 +33,14 @@ use keyboard_modifiers::KeyboardModifiers;
 use keyboard_record::HandlerState;
 use keyboard_record::Keyboards;
 use keyboard_record::QUEUE_LENGTH;
+use keyboard_record::Room;
 use keyboard_record::Table;
 use keyboard_scancodes::KeyboardState;
 use keyboard_scancodes::Profile;
 use keyboard_scancodes::WaitingBytes;
+use keyboard_scancodes::is_lock_press;
+use keyboard_scancodes::is_silent;
+use keyboard_scancodes::modifiers_after;
 use keyboard_sides::Side;
 use keyboard_sides::Sides;
 use keycodes_ascii::FoundKeycode;
@@ -37,6 +48,7 @@ use keycodes_ascii::KeyAction;
 use keycodes_ascii::KeyEvent;
 use keycodes_ascii::Keycode;
 use ps2_answers::Lack;
+use ps2_kept::KEPT_LIMIT;
 
 // Where the numbers of either keyboard begin: the prefix, the flags, how many bytes wait, and the 16 waiting bytes in two numbers.
 const FIRST_AT: usize = 0;
@@ -60,11 +72,11 @@ const HIGH_SIDES_AT: usize = 15;
 // The places, a number each.
 const PLACES_FROM: usize = 16;
 
+// The greatest number of a key's event.
+const LAST_KEYCODE: u8 = 0x5D;
+
 // The numbers of a record.
 pub const HANDLER_WORDS: usize = PLACES_FROM + QUEUE_LENGTH;
-
-// What is answered where an argument stands for nothing; documents 01 and 02 have no such number.
-pub const MEANS_NOTHING: u32 = 255;
 
 // What a handler call answers, as numbers: the refusal and that of the lamp exchange, 0 where there is none; script bytes used, pairs written and bytes dropped; and the port of the read that the script was too short for, or 0.
 #[repr(C)]
@@ -313,16 +325,24 @@ fn put_keyboard(words: &mut [u64], at: usize, keyboard: KeyboardState)
     words[at + 4] = eight_from(waiting, 8);
 }
 
+// Stores the number of an event in a place, with the count and the sides that it makes.
+fn put_place(words: &mut [u64], place: usize, word: u64, waiting: usize, sides: Sides)
+    requires { ⌜ (length (now words) ≡ wordsLength) × (place < 128) ⌝ }
+    ensures { λ _. ⌜ now (words .exit) ≡ withSides sides (set (set (now (words .entry)) (placesFrom + place) word) countAt waiting) ⌝ }
+{
+    words[PLACES_FROM + place] = word;
+    words[COUNT_AT] = waiting as u64;
+    words[LOW_SIDES_AT] = sides.low;
+    words[HIGH_SIDES_AT] = sides.high;
+}
+
 // Stores an event in a place, with the count and the sides that it makes.
 fn put_event(words: &mut [u64], place: usize, left: HandlerState, event: KeyEvent)
     requires { ⌜ (length (now words) ≡ wordsLength) × (place < 128) ⌝ }
     ensures { λ _. ⌜ (now (words .exit) ≡ withEvent place left (some event) (now (words .entry))) × (eventAt (wordOf event) ≡ event) ⌝ }
 {
     let sides = left.sides;
-    words[PLACES_FROM + place] = event_word(event);
-    words[COUNT_AT] = left.count as u64;
-    words[LOW_SIDES_AT] = sides.low;
-    words[HIGH_SIDES_AT] = sides.high;
+    put_place(words, place, event_word(event), left.count, sides);
 }
 
 // Stores the new event, if there is one, in the first place behind those that waited.
@@ -374,11 +394,107 @@ fn port_lacked(answer: HandlerAnswer) -> u32
     }
 }
 
+// The number of a place that holds the event of a key's byte, by the byte itself.
+fn key_word(scan_code: u8, modifiers: KeyboardModifiers) -> u64
+    requires { ⌜ isKnown «scan_code» ≡ true ⌝ }
+    ensures { λ r. ⌜ (r ≡ wordOf (eventOf «scan_code» (modifiers .bits))) × (eventAt r ≡ eventOf «scan_code» (modifiers .bits)) ⌝ }
+{
+    let byte = wide_byte(scan_code);
+    let flags = wide_flags(modifiers.bits);
+    byte % 128 + 256 * (byte / 128) + 65536 * flags
+}
+
+// Queues the event of a key's byte where it has one and there is room, at a table without the profile, and answers 19, 31, 20 or 0.
+fn queue_key(
+    words: &mut [u64],
+    left: HandlerState,
+    side: Side,
+    scan_code: u8,
+    modifiers: KeyboardModifiers,
+) -> u32
+    requires { ⌜ (length (now words) ≡ wordsLength) × ((left .start < 128) × (left .count ≤ 128)) × (left .table .profile ≡ Profile.Any) ⌝ }
+    ensures { λ r. ⌜ KeyQueued (queued side left (keyEvent «scan_code» (modifiers .bits)) (gives success) 0) (freePlace left) (now (words .entry)) r (now (words .exit)) ⌝ }
+{
+    if LAST_KEYCODE < scan_code % 128 {
+        return 19;
+    }
+    let room = left.room_of(side);
+    match room {
+        Room::Free => {
+            let count = left.count;
+            let place = (left.start + count) % QUEUE_LENGTH;
+            let sides = left.sides;
+            let word = key_word(scan_code, modifiers);
+            put_place(words, place, word, count + 1, sides.with_side(side, count));
+            0
+        }
+        Room::OutsideProfile => 33,
+        Room::SideFull => 31,
+        Room::QueueFull => 20,
+    }
+}
+
+// What most calls are: none waits, and the script's first byte is a key's and asks for no lamp exchange, at a table without the profile. It is followed, and its event is queued where there is room.
+fn handle_key(words: &mut [u64], side: Side, script: &[u8]) -> HandledWords
+    requires { ⌜ (length (now words) ≡ wordsLength) × KeyAlone side (stateOf (now words)) (now script) ⌝ }
+    ensures { λ r. ⌜ KeyHandled side (now (words .entry)) (now (script .entry)) r (now (words .exit)) ⌝ }
+{
+    let state = state_in(words);
+    if !state.call_formed(side) {
+        return refused(21);
+    }
+    let scan_code = script[0];
+    let modifiers = modifiers_after(Profile::Any, state.keyboard_at(side), scan_code);
+    let followed = KeyboardState {
+        waiting: WaitingBytes {
+            bytes: [0; KEPT_LIMIT],
+            count: 0,
+        },
+        prefix: false,
+        modifiers,
+    };
+    put_keyboard(words, keyboard_at(side), followed);
+    let left = state.with_keyboard(side, followed);
+    let refusal = queue_key(words, left, side, scan_code, modifiers);
+    HandledWords {
+        refusal,
+        lamps: 0,
+        used: 1,
+        pairs: 0,
+        dropped: 0,
+        port: 0,
+    }
+}
+
+// Whether a call is such a one.
+fn is_key_alone(words: &[u64], side: Side, script: &[u8]) -> bool
+    requires { ⌜ length (now words) ≡ wordsLength ⌝ }
+    ensures { λ r. ⌜ (r ≡ true → KeyAlone side (stateOf (now (words .entry))) (now (script .entry))) ⌝ }
+{
+    if script.len() == 0 {
+        return false;
+    }
+    if words[PROFILE_AT] != 0 {
+        return false;
+    }
+    if low_byte(words[keyboard_at(side) + 2]) != 0 {
+        return false;
+    }
+    let scan_code = script[0];
+    if is_silent(scan_code) {
+        return false;
+    }
+    !is_lock_press(Profile::Any, scan_code)
+}
+
 // A handler call for a side, on the numbers of a record.
 fn handle_side(words: &mut [u64], side: Side, script: &[u8], log: &mut [u8]) -> HandledWords
     requires { ⌜ length (now words) ≡ wordsLength ⌝ }
     ensures { λ r. ⌜ SideHandled side (now (words .entry)) (now (script .entry)) (now (log .entry)) r (now (words .exit)) (now (log .exit)) ⌝ }
 {
+    if is_key_alone(words, side, script) {
+        return handle_key(words, side, script);
+    }
     let state = state_in(words);
     let start = state.start;
     let count = state.count;
