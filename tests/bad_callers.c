@@ -402,7 +402,7 @@ static void port_operation(int which, size_t script_bytes, size_t log_bytes)
         ask((a.refusal != 255 && a.refusal != 21) || unchanged_from(2, 0), "255 and 21 leave the record");
         marks_stand(2);
     } else if (which == 22) {
-        uint32_t side = below(16) == 0 ? (uint32_t)number() : 1 + (below(8) ? call_number >> 10 & 1 : (uint32_t)below(2));
+        uint32_t side = below(16) == 0 ? (uint32_t)number() : 1 + (below(8) ? call_number >> 14 & 1 : (uint32_t)below(2));
         size_t length = words_of(VD_HANDLER_WORDS);
         uint64_t *words = put_words(2, length, VD_HANDLER_WORDS);
         vd_handled a;
