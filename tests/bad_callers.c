@@ -143,6 +143,14 @@ static uint64_t number(void)
     }
 }
 
+/* How many numbers are lent as a record: the sweep's length, or mostly the right one. */
+static size_t swept = SIZE_MAX;
+
+static size_t words_of(size_t whole)
+{
+    return swept != SIZE_MAX ? swept : below(8) ? whole : below(160);
+}
+
 /* Records that go on from call to call: a handler's and a dispatcher's. */
 static uint64_t going[2][VD_DISPATCHER_WORDS];
 static int is_going;
@@ -384,7 +392,7 @@ static void port_operation(int which, size_t script_bytes, size_t log_bytes)
         answer_asked(vd_preferences_apply(p, script, script_length, log_, log_length), p.version == 1 || p.version == 2);
     } else if (which == 21) {
         uint32_t keyboards = (uint32_t)below(4), profile = (uint32_t)below(3);
-        size_t length = below(4) ? VD_HANDLER_WORDS : below(160);
+        size_t length = words_of(VD_HANDLER_WORDS);
         uint64_t *words = put_words(2, length, VD_HANDLER_WORDS);
         vd_answer a;
         called("vd_keyboard_init");
@@ -394,8 +402,8 @@ static void port_operation(int which, size_t script_bytes, size_t log_bytes)
         ask((a.refusal != 255 && a.refusal != 21) || unchanged_from(2, 0), "255 and 21 leave the record");
         marks_stand(2);
     } else if (which == 22) {
-        uint32_t side = below(16) == 0 ? (uint32_t)number() : 1 + (below(8) ? call_number >> 10 & 1 : (uint32_t)below(2));
-        size_t length = below(8) ? VD_HANDLER_WORDS : below(160);
+        uint32_t side = below(16) == 0 ? (uint32_t)number() : 1 + (below(8) ? call_number >> 14 & 1 : (uint32_t)below(2));
+        size_t length = words_of(VD_HANDLER_WORDS);
         uint64_t *words = put_words(2, length, VD_HANDLER_WORDS);
         vd_handled a;
         called("vd_handle");
@@ -408,7 +416,7 @@ static void port_operation(int which, size_t script_bytes, size_t log_bytes)
         marks_stand(2);
         go_on(2, VD_HANDLER_WORDS);
     } else {
-        size_t length = below(8) ? VD_DISPATCHER_WORDS : below(160), second_length = below(40), third_length = below(40), used;
+        size_t length = words_of(VD_DISPATCHER_WORDS), second_length = below(40), third_length = below(40), used;
         uint64_t *words = put_words(2, length, VD_DISPATCHER_WORDS);
         uint8_t *second = lend(3, second_length), *third = lend(4, third_length);
         vd_step a;
@@ -442,7 +450,7 @@ enum { OTHERS = 20 };
 static void other(int which)
 {
     uint32_t n = below(3) ? (uint32_t)below(256) : (uint32_t)number(), m = below(3) ? (uint32_t)below(3) : (uint32_t)number();
-    size_t length = below(4) ? VD_HANDLER_WORDS : below(160), in = below(120), out = below(200);
+    size_t length = words_of(VD_HANDLER_WORDS), in = below(120), out = below(200);
     uint64_t *words;
     switch (which) {
     case 0: {
@@ -457,7 +465,7 @@ static void other(int which)
     }
     case 1: {
         uint32_t refusal;
-        length = below(4) ? VD_DISPATCHER_WORDS : length;
+        length = words_of(VD_DISPATCHER_WORDS);
         words = put_words(2, length, VD_DISPATCHER_WORDS);
         called("vd_dispatcher_fresh");
         n = below(8) ? 3 * (n % 2) : n;
@@ -606,8 +614,7 @@ static void other(int which)
             a = vd_report_add(report, n, events, in, mouse, out);
             answered(a.refusal);
             ask((a.refusal == 255) == !is_identity(n), "255 is answered where there is no such identity, and only there");
-            ask(a.refusal != 255 || is_zero(&a.report, sizeof a.report), "beside 255 all is 0");
-            ask(a.refusal != 32 || memcmp(&a.report, &report, sizeof report) == 0, "32 leaves the report");
+            ask(a.refusal == 0 || memcmp(&a.report, &report, sizeof report) == 0, "255 and 32 leave the report");
             ask(a.refusal || a.report.packets == report.packets + out / (n ? 4 : 3), "packets are counted");
         } else {
             vd_mean x, y;
@@ -647,8 +654,7 @@ static void other(int which)
             a = vd_long_report_add(report, n, events, in, mouse, out);
             answered(a.refusal);
             ask((a.refusal == 255) == !is_identity(n), "255 is answered where there is no such identity, and only there");
-            ask(a.refusal != 255 || is_zero(&a.report, sizeof a.report), "beside 255 all is 0");
-            ask(a.refusal != 32 || memcmp(&a.report, &report, sizeof report) == 0, "32 leaves the report");
+            ask(a.refusal == 0 || memcmp(&a.report, &report, sizeof report) == 0, "255 and 32 leave the report");
         } else {
             vd_mean x, y;
             report.packets = number();
@@ -685,6 +691,14 @@ static void sweep(void)
     for (which = 0; which < OTHERS; which++)
         for (k = 0; k < 100; k++)
             other(which);
+    for (swept = 0; swept < 160; swept++)
+        for (k = 0; k < 3; k++) {
+            for (which = 21; which < PORT_OPERATIONS; which++)
+                port_operation(which, 8, VD_HANDLER_LOG);
+            for (which = 0; which < 3; which++)
+                other(which);
+        }
+    swept = SIZE_MAX;
 }
 
 int main(int argc, char **argv)
