@@ -66,6 +66,7 @@ pub const HANDLER_WORDS: usize = PLACES_FROM + QUEUE_LENGTH;
 pub const MEANS_NOTHING: u32 = 255;
 
 // What a handler call answers, as numbers: the refusal and that of the lamp exchange, 0 where there is none; script bytes used, pairs written and bytes dropped; and the port of the read that the script was too short for, or 0.
+#[repr(C)]
 pub struct HandledWords {
     pub refusal: u32,
     pub lamps: u32,
@@ -82,6 +83,7 @@ enum FoundSide {
 }
 
 // What a taking answers, as numbers: the refusal, 0 where there is none; the side of the event taken, 0 where there is none; its keycode, action and flags.
+#[repr(C)]
 pub struct TakenWords {
     pub refusal: u32,
     pub side: u32,
