@@ -1,4 +1,4 @@
-//! The parts of the driver, which the program `exports` has too: see ../../../README.md.
+//! The parts of the driver, which programs that link the port have too: see ../../../README.md.
 
 pub mod answer;
 pub mod bench;
@@ -7,6 +7,7 @@ pub mod compare;
 pub mod device;
 pub mod dispatch;
 pub mod generate;
+pub mod handler_rows;
 pub mod kept;
 pub mod listing;
 pub mod oracle;

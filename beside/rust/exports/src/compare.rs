@@ -288,7 +288,16 @@ fn kinds() -> Vec<Kind> {
 }
 
 /// Compares so many calls. A part of what the exports gave to call `damaged` is changed on its way, so that a comparison can be seen to find it.
-pub fn compare(port: port::Paths, calls: u64, seed: u64, damaged: Option<(u64, Part)>) -> io::Result<ExitCode> {
+/// Where one operation is named, the calls are its alone.
+pub fn compare(
+    port: port::Paths,
+    calls: u64,
+    seed: u64,
+    damaged: Option<(u64, Part)>,
+    only: Option<&str>,
+) -> io::Result<ExitCode> {
+    let is_wanted = |op: &Op| only.is_none_or(|name| op.name() == name);
+    let exported = |op: &Op| exported(op).filter(is_wanted);
     let start = Instant::now();
     let (mut children, mut outputs) = (Vec::new(), Vec::new());
     // One thread writes to each program and another reads, so that no side waits for the other.
@@ -394,8 +403,12 @@ pub fn compare(port: port::Paths, calls: u64, seed: u64, damaged: Option<(u64, P
             }
             Kind::Own(own) => {
                 let call = chance::KINDS[own].0(&mut rng);
-                sender.send(&mut oracle, call, Source::Chance)
+                match is_wanted(&call.op) {
+                    true => sender.send(&mut oracle, call, Source::Chance),
+                    false => Ok(()),
+                }
             }
+            Kind::Glance | Kind::Repeat | Kind::Refused(_) if only.is_some() => Ok(()),
             Kind::Glance => {
                 sender.glance(&mut oracle, &mut rng);
                 Ok(())
@@ -434,7 +447,7 @@ pub fn compare(port: port::Paths, calls: u64, seed: u64, damaged: Option<(u64, P
     println!("exports: answers {}; {ports} ports of lacks are the Rust's", listed(&answers));
     let uncalled: Vec<&str> =
         sent.iter().filter(|(_, [swept, chance, _])| swept + chance == 0).map(|(&name, _)| name).collect();
-    if calls >= FEW && !uncalled.is_empty() {
+    if calls >= FEW && only.is_none() && !uncalled.is_empty() {
         println!("# never called: {}", uncalled.join(", "));
         return Ok(ExitCode::from(1));
     }

@@ -1,6 +1,7 @@
 //! Calls through the exports of the library that others link (crates/vurdellow), held to the port's by-value programs, and measured:
 //! see ../../../README.md.
 
+mod bench;
 mod chance;
 mod compare;
 mod library;
@@ -35,9 +36,17 @@ fn main() -> io::Result<ExitCode> {
     };
     let damaged = number(&args, "--damage").zip(part);
     match (args.first().map(String::as_str), calls, seed, programs) {
-        (Some("compare"), Some(calls), Some(seed), Some(programs)) => compare::compare(programs, calls, seed, damaged),
+        (Some("bench"), ..) if args.len() == 2 && args[1].parse::<usize>().is_ok() => {
+            bench::bench(args[1].parse().unwrap());
+            Ok(ExitCode::SUCCESS)
+        }
+        (Some("compare"), Some(calls), Some(seed), Some(programs)) => {
+            compare::compare(programs, calls, seed, damaged, option(&args, "--only"))
+        }
         _ => {
-            eprintln!("usage: exports compare --calls N --seed S PORT [--damage CALL [--part refusal|byte|number]]");
+            eprintln!("usage: exports compare --calls N --seed S PORT [--only OPERATION]");
+            eprintln!("                       [--damage CALL [--part refusal|byte|number]]");
+            eprintln!("       exports bench ROUNDS");
             eprintln!("where PORT is as for beside");
             Ok(ExitCode::from(2))
         }
