@@ -93,7 +93,7 @@ impl Sender {
             Err(why) => differ(self.calls, &call.line(), &format!("({why})"), "and that is wrong", ""),
         };
         let answer = if self.exports.damage.take().is_some() { changed(answer) } else { answer };
-        self.check_port(oracle, &call, &answer);
+        self.check_port(oracle, &call);
         self.put(call, answer, from)
     }
 
@@ -112,18 +112,19 @@ impl Sender {
     }
 
     /// The port of a lack is not told by the by-value programs; where the Rust makes the same call, it is its.
-    fn check_port(&mut self, oracle: &mut Oracle, call: &Call, answer: &Answer) {
+    fn check_port(&mut self, oracle: &mut Oracle, call: &Call) {
         let Some(port) = self.exports.lacked else { return };
-        let expected = match (&call.op, answer) {
-            (Op::Mouse(..), _) if call.op.beyond_rust().is_some() => 0x60,
-            (op, _) if without_show(op).beyond_rust().is_some() => return,
-            (Op::Handle(..), Answer::Run { done, .. }) => {
-                let Answer::Run { done: theirs, .. } = oracle.answer(call) else { return };
+        let expected = match &call.op {
+            Op::Mouse(..) if call.op.beyond_rust().is_some() => 0x60,
+            op if without_show(op).beyond_rust().is_some() => return,
+            Op::Handle(..) => {
+                let theirs = oracle.answer(call);
+                let port = oracle.port_lacked();
                 // Bytes that wait make the port's run another one than the Rust's.
-                if used(done) != used(&theirs) {
+                if oracle.before_waiting(call, &theirs).is_some() {
                     return;
                 }
-                oracle.port_lacked()
+                port
             }
             _ => {
                 oracle.answer(call);
@@ -219,10 +220,6 @@ fn without_show(op: &Op) -> &Op {
         Op::Kept(op) => op,
         op => op,
     }
-}
-
-fn used(done: &[Done]) -> Vec<usize> {
-    done.iter().map(|d| if let Done::Handled { used, .. } = d { *used } else { 0 }).collect()
 }
 
 /// An answer that is not the call's.
@@ -439,7 +436,7 @@ pub fn compare(
     }
     let seconds = start.elapsed().as_secs();
     println!("exports: {calls} calls, seed {seed}, no difference: {swept} of the sweep's {all}, the others by chance; {seconds} s");
-    for (name, [swept, chance, refused]) in &sent {
+    for (name, [swept, chance, refused]) in sent.iter().filter(|(_, counts)| only.is_none() || **counts != [0; 3]) {
         println!(
             "exports: {name}: {swept} in the sweep, {chance} by chance, {refused} refused before anything is read"
         );
