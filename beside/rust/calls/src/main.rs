@@ -4,7 +4,9 @@
 //! A measure is rows of 100 calls, or of 96 for a side of a table with two keyboards, each row from a fresh record on and with nothing taken. `frame` is rows that enter an empty
 //! handler by the same way as the Rust's, `ready` and its like rows that make no call: to be taken off the others.
 
-use beside::handler_rows::{handle_directly, raise, seconds, spread, Rust, IN_A_ROW, KEY, LOCK, ROOM};
+use beside::handler_rows::{
+    handle_directly, raise, register_again, register_nothing, seconds, spread, Rust, IN_A_ROW, KEY, LOCK, ROOM,
+};
 use std::hint::black_box;
 
 extern "C" {
@@ -120,11 +122,11 @@ fn main() {
             let mut measure =
                 |what: &str, times: usize, row: &mut dyn FnMut()| measure(&format!("{name}-{what}"), times, row);
             measure("rust", IN_A_ROW, &mut || rust.row(raise));
-            let handler = interrupts::register_nothing();
+            let handler = register_nothing();
             measure("frame", IN_A_ROW, &mut || rust.row(raise));
-            interrupts::register_again(handler);
+            register_again(handler);
             measure("direct", IN_A_ROW, &mut || rust.row(handle_directly));
-            measure("ready", IN_A_ROW, &mut || rust.row(|| ()));
+            measure("ready", IN_A_ROW, &mut || rust.begin_row());
             let mut port_row = |times, way, seat| {
                 black_box(port(black_box(script), &mut log, times, way, seat));
             };

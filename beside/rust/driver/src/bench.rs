@@ -298,9 +298,12 @@ fn exports_rows(table: &mut Table, measured: &dyn Fn(&str) -> io::Result<Spread>
     let own = "96 calls in a row; in the Rust's place the export's own call at a table with one keyboard";
     for (name, call) in [("key", "plain key"), ("lock", "lock")] {
         let of = |what: &str| rows(&format!("vd-{name}-{what}"));
-        let contents = "100 calls in a row from a fresh record on, which is lent as numbers and changed where it lies, nothing taken; the Rust's \
-                        reading of the byte and `handle_keyboard_input`, called with no frame";
-        table.row(&format!("`vd_handle`, {call}"), Ok((of("rust")?, of("one")?)), contents);
+        let contents = format!(
+            "100 calls in a row from a fresh record on, which is lent as numbers and changed where it lies, nothing taken; the Rust's reading of \
+             the byte and `handle_keyboard_input`, called with no frame. By its frame, less an empty handler's, the Rust's took {}",
+            of("framed")?
+        );
+        table.row(&format!("`vd_handle`, {call}"), Ok((of("rust")?, of("one")?)), &contents);
         for (side, number) in [("first", 1), ("second", 2)] {
             let both = (of("one")?, of(side)?);
             table.row(&format!("`vd_handle`, {call}, side {number} of two keyboards"), Ok(both), own);

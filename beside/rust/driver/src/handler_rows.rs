@@ -54,11 +54,16 @@ impl Rust {
         wire().script.clone_from(&self.script);
     }
 
-    /// A row of calls, by this way into the handler.
-    pub fn row(&self, call: fn()) {
+    /// What a row begins with.
+    pub fn begin_row(&self) {
         wire().begin(0, ROOM * IN_A_ROW, false);
         self.queue.clear();
         *keyboard::reach::modifiers() = KeyboardModifiers::new();
+    }
+
+    /// A row of calls, by this way into the handler.
+    pub fn row(&self, call: fn()) {
+        self.begin_row();
         (0..IN_A_ROW).for_each(|_| call());
     }
 
@@ -97,6 +102,6 @@ pub fn spread(mut values: Vec<f64>) -> (f64, f64) {
     (values[0], values[values.len() / 2])
 }
 
-/// Entering the Rust's handler by an interrupt frame, and calling what it does without one.
-pub use interrupts::raise;
+/// Entering the Rust's handler by an interrupt frame, or an empty one in its place, and calling what it does without a frame.
+pub use interrupts::{raise, register_again, register_nothing};
 pub use keyboard::reach::handle_directly;

@@ -5,12 +5,14 @@
 //! fresh record on. A measure whose name ends in `ready` is of rows that make no call: to be taken off the others.
 
 use crate::library::{self as vd, PreferencesWords};
-use crate::words::{DISPATCHER_WORDS, HANDLER_WORDS};
+use crate::words::{COUNT, DISPATCHER_WORDS, HANDLER_WORDS};
 use beside::answer::Answer;
 use beside::bench::{conversion, typing};
 use beside::call::{self, Call, Op};
 use beside::device::Rng;
-use beside::handler_rows::{handle_directly, seconds, spread, Rust, IN_A_ROW, KEY, LOCK, ROOM};
+use beside::handler_rows::{
+    handle_directly, raise, register_again, register_nothing, seconds, spread, Rust, IN_A_ROW, KEY, LOCK, ROOM,
+};
 use beside::plain;
 use std::hint::black_box;
 
@@ -85,7 +87,6 @@ fn step_row(words: &mut [u64; DISPATCHER_WORDS], scripts: [&[u8]; 3], log: &mut 
 
 /// Rows whose answers documents 01 and 02 give, so that a library that is linked wrongly isn't measured.
 fn check_rows() {
-    const COUNT: usize = crate::words::COUNT;
     let (mut words, mut log) = ([0; HANDLER_WORDS], [0; ROOM]);
     handle_row(&mut words, &KEY, &mut log, 1, 1, IN_A_ROW);
     assert_eq!((words[COUNT], log), (IN_A_ROW as u64, [0; ROOM]), "events of a plain key, and its log");
@@ -95,9 +96,6 @@ fn check_rows() {
     }
     handle_row(&mut words, &LOCK, &mut log, 1, 1, 1);
     assert_eq!((words[COUNT], &log[..5]), (1, &[0x60, 0xED, 0x60, 0x04, 0x00][..]), "a lock's event and log");
-    let (mut words, mut log) = ([0; DISPATCHER_WORDS], [0; ROOM]);
-    step_row(&mut words, [&KEY, &KEY, &[8, 1, 0]], &mut log, 4);
-    assert_eq!(words[COUNT], 2, "events of a round of steps, which has a packet too");
 }
 
 fn handler_calls(rounds: usize) {
@@ -108,14 +106,16 @@ fn handler_calls(rounds: usize) {
     let (mut words, mut log) = ([0; HANDLER_WORDS], [0; ROOM]);
     let mut full = words;
     handle_row(&mut full, &KEY, &mut log, 1, 1, IN_A_ROW);
-    let mut state = [0; DISPATCHER_WORDS];
-    let (keys, packets) = ([0x1E; IN_A_ROW / 2], [0x08, 0x01, 0x00].repeat(IN_A_ROW));
     Measures::rounds(rounds, |measures| {
         let rows = |row: &mut dyn FnMut()| (0..ROWS).for_each(|_| row());
         for (name, script) in [("key", &KEY[..]), ("lock", &LOCK[..])] {
             rust.set_script(script);
             measures.time(&format!("vd-{name}-rust"), ROWS * IN_A_ROW, || rows(&mut || rust.row(handle_directly)));
-            measures.time(&format!("vd-{name}-rust-ready"), ROWS * IN_A_ROW, || rows(&mut || rust.row(|| ())));
+            measures.time(&format!("vd-{name}-rust-ready"), ROWS * IN_A_ROW, || rows(&mut || rust.begin_row()));
+            measures.time(&format!("vd-{name}-framed"), ROWS * IN_A_ROW, || rows(&mut || rust.row(raise)));
+            let handler = register_nothing();
+            measures.time(&format!("vd-{name}-framed-ready"), ROWS * IN_A_ROW, || rows(&mut || rust.row(raise)));
+            register_again(handler);
             for (seat, keyboards, side, times) in
                 [("one", 1, 1, IN_A_ROW), ("first", 2, 1, SHARE), ("second", 2, 2, SHARE)]
             {
@@ -137,6 +137,17 @@ fn handler_calls(rounds: usize) {
                 })
             });
         }
+    });
+}
+
+fn dispatcher_steps(rounds: usize) {
+    let (mut state, mut log) = ([0; DISPATCHER_WORDS], [0; ROOM]);
+    // Steps whose answers document 02 gives.
+    step_row(&mut state, [&KEY, &KEY, &[8, 1, 0]], &mut log, 4);
+    assert_eq!(state[COUNT], 2, "events of a round of steps, which has a packet too");
+    let (keys, packets) = ([0x1E; IN_A_ROW / 2], [0x08, 0x01, 0x00].repeat(IN_A_ROW));
+    Measures::rounds(rounds, |measures| {
+        let rows = |row: &mut dyn FnMut()| (0..ROWS).for_each(|_| row());
         let steps: [(&str, [&[u8]; 3], usize); 4] = [
             ("key", [&keys, &keys, &[]], IN_A_ROW),
             ("packet", [&[], &[], &packets], IN_A_ROW),
@@ -229,22 +240,36 @@ impl BytesCall {
 }
 
 fn bytes_calls(rounds: usize) {
-    let calls = [
-        BytesCall::new("vd-convert-60000", &conversion(60000)),
-        BytesCall::new("vd-convert-600", &conversion(600)),
-        BytesCall::new("vd-convert-6", &conversion(6)),
-        BytesCall::new("vd-type-16000", &typing(16000)),
-        BytesCall::new("vd-type-160", &typing(160)),
-        BytesCall::new("vd-type-2", &typing(2)),
-        BytesCall::new("vd-write-1", "prefs_write 1 2,100,3,5 room=9"),
-        BytesCall::new("vd-write-2", "prefs_write 2 2,200,3,5,43 room=9"),
-        BytesCall::new("vd-read-1", "prefs_read1 in=010402640305"),
-        BytesCall::new("vd-read-2", "prefs_read2 in=020502C80103052B"),
-    ];
+    measure_bytes(
+        rounds,
+        &[
+            BytesCall::new("vd-convert-60000", &conversion(60000)),
+            BytesCall::new("vd-convert-600", &conversion(600)),
+            BytesCall::new("vd-convert-6", &conversion(6)),
+            BytesCall::new("vd-type-16000", &typing(16000)),
+            BytesCall::new("vd-type-160", &typing(160)),
+            BytesCall::new("vd-type-2", &typing(2)),
+        ],
+    );
+}
+
+fn preferences_calls(rounds: usize) {
+    measure_bytes(
+        rounds,
+        &[
+            BytesCall::new("vd-write-1", "prefs_write 1 2,100,3,5 room=9"),
+            BytesCall::new("vd-write-2", "prefs_write 2 2,200,3,5,43 room=9"),
+            BytesCall::new("vd-read-1", "prefs_read1 in=010402640305"),
+            BytesCall::new("vd-read-2", "prefs_read2 in=020502C80103052B"),
+        ],
+    );
+}
+
+fn measure_bytes(rounds: usize, calls: &[BytesCall]) {
     calls.iter().for_each(BytesCall::check);
     let mut out = vec![0; 65536];
     Measures::rounds(rounds, |measures| {
-        for one in &calls {
+        for one in calls {
             let BytesCall { name, call, times } = one;
             measures.time(&format!("{name}-rust"), *times, || plain::repeat(call, *times as u64));
             let out = &mut out[..call.room];
@@ -325,10 +350,19 @@ fn sessions(rounds: usize) {
     });
 }
 
-/// Measures all; short calls in more rounds.
-pub fn bench(rounds: usize) {
-    handler_calls(100 * rounds);
-    bytes_calls(100 * rounds);
-    recordings(10 * rounds);
-    sessions(10 * rounds);
+/// Measures a part, or all; short calls in more rounds.
+pub fn bench(rounds: usize, part: Option<&str>) {
+    let parts: [(&str, fn(usize), usize); 6] = [
+        ("calls", handler_calls, 100),
+        ("steps", dispatcher_steps, 100),
+        ("bytes", bytes_calls, 100),
+        ("preferences", preferences_calls, 100),
+        ("recordings", recordings, 10),
+        ("sessions", sessions, 10),
+    ];
+    for (name, measure, times) in parts {
+        if part.is_none_or(|part| part == name) {
+            measure(times * rounds);
+        }
+    }
 }

@@ -241,12 +241,12 @@ fn convert_set2(rng: &mut Rng) -> Call {
     let mut stream = Vec::new();
     for _ in 0..rng.below(40) {
         match rng.below(12) {
-            0 => stream.push(rng.next() as u8),
+            0 if rng.once_in(6) => stream.push(rng.next() as u8),
             1 => stream.extend([0xE0, 0xF0, rng.pick(&[0x75, 0x14, 0x11])]),
             2 => stream.extend([0xE0, rng.pick(&[0x75, 0x14, 0x11])]),
             3 => stream.extend([0xE1, 0x14, 0x77]),
-            4..=7 => stream.extend([0xF0, rng.below(0x85) as u8]),
-            _ => stream.push(1 + rng.below(0x83) as u8),
+            4..=7 => stream.extend([0xF0, 1 + rng.below(0x7F) as u8]),
+            _ => stream.push(1 + rng.below(0x7F) as u8),
         }
     }
     damage(&mut stream, rng);

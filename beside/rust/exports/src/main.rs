@@ -36,8 +36,8 @@ fn main() -> io::Result<ExitCode> {
     };
     let damaged = number(&args, "--damage").zip(part);
     match (args.first().map(String::as_str), calls, seed, programs) {
-        (Some("bench"), ..) if args.len() == 2 && args[1].parse::<usize>().is_ok() => {
-            bench::bench(args[1].parse().unwrap());
+        (Some("bench"), ..) if number(&args, "bench").is_some_and(|rounds| rounds > 0) => {
+            bench::bench(number(&args, "bench").unwrap() as usize, args.get(2).map(String::as_str));
             Ok(ExitCode::SUCCESS)
         }
         (Some("compare"), Some(calls), Some(seed), Some(programs)) => {
@@ -46,7 +46,7 @@ fn main() -> io::Result<ExitCode> {
         _ => {
             eprintln!("usage: exports compare --calls N --seed S PORT [--only OPERATION]");
             eprintln!("                       [--damage CALL [--part refusal|byte|number]]");
-            eprintln!("       exports bench ROUNDS");
+            eprintln!("       exports bench ROUNDS [calls|steps|bytes|preferences|recordings|sessions]");
             eprintln!("where PORT is as for beside");
             Ok(ExitCode::from(2))
         }
