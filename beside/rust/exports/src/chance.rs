@@ -1,6 +1,7 @@
 //! Calls by chance that the Rust hasn't: records of two keyboards, with bytes that wait and malformed ones, lent bytes, preferences,
 //! reports, a dispatcher's steps.
 
+use crate::made::FAR;
 use crate::words;
 use beside::call::*;
 use beside::device::{Rng, TELLING};
@@ -204,7 +205,7 @@ fn dispatch(rng: &mut Rng) -> Call {
     let mut places = [0; 3];
     if rng.once_in(2) {
         for (place, length) in places.iter_mut().zip([first.len(), second.len(), third.len()]) {
-            *place = if rng.once_in(16) { rng.next() & 0xFFFF_FFFF } else { rng.below(length + 2) as u64 };
+            *place = if rng.once_in(16) { FAR - rng.below(2) as u64 } else { rng.below(length + 2) as u64 };
         }
     }
     let (id, last) = (rng.pick(&[0, 3, 4]), if rng.once_in(3) { 0 } else { rng.below(4) as u8 });

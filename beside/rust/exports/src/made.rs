@@ -13,6 +13,9 @@ use beside::report::{Numbers, Reported, Season};
 use beside::salvage::{Salvage, Salvaged};
 use std::collections::BTreeMap;
 
+/// A place in a script that stands for all behind it.
+pub const FAR: u64 = u32::MAX as u64;
+
 /// What of an answer is changed on its way, so that a comparison can be seen to find it.
 #[derive(Clone, Copy, Debug, PartialEq)]
 pub enum Part {
@@ -582,10 +585,12 @@ impl Exports {
             }
         } else {
             words = self.laid(handler);
-            // A number that is no identity stands for 0.
-            let noise = self.rng.next();
-            let number = if *id == 0 && noise % 4 == 0 && noise > 4 { noise } else { *id as u64 };
-            words.extend([number, places[0], places[1], places[2], *last as u64]);
+            // A number that is no identity stands for 0, and one that is no source for nobody; of places behind every script the largest that
+            // a program of the port can be told stands for all.
+            let identity = if *id == 0 { self.rng.pick(&[0, 1, 2, 5, 0x103, u64::MAX]) } else { *id as u64 };
+            let served = if *last == 0 { self.rng.pick(&[0, 4, 0x101, u64::MAX]) } else { *last as u64 };
+            let places = places.map(|place| if place == FAR { FAR | self.rng.next() } else { place });
+            words.extend([identity, places[0], places[1], places[2], served]);
         }
         let mut made = Vec::new();
         for one in moves {
@@ -599,9 +604,9 @@ impl Exports {
             }
         }
         let left = shown(&words[..HANDLER_WORDS], handler)?;
-        let number = |at: usize| words[at];
-        let last = u8::try_from(number(words::LAST)).map_err(|_| "a source served last that there is not")?;
-        Ok(Answer::Dispatched(Dispatched { made, last, places: [0, 1, 2].map(|i| number(words::AT + i)), left }))
+        let last = if words[words::LAST] < 4 { words[words::LAST] as u8 } else { 0 };
+        let places = [0, 1, 2].map(|i| words[words::AT + i].min(FAR));
+        Ok(Answer::Dispatched(Dispatched { made, last, places, left }))
     }
 
     fn step(&mut self, words: &mut [u64], scripts: [&[u8]; 3], room: usize) -> Result<Made, String> {
