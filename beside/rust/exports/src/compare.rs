@@ -363,10 +363,10 @@ pub fn compare(
     });
     assert!(counted.is_ok());
     // Of each operation how many calls of the sweep are still to come, and how many of these are to be taken: each has the
-    // same chance. Half of the calls at most come from it.
+    // same chance.
     let all: u64 = lengths.values().sum();
     let mut ahead = lengths.clone();
-    let mut wanted = shares(&lengths, if calls >= 2 * all { all } else { calls });
+    let mut wanted = shares(&lengths, calls);
     let mut going = sweep(&mut oracle, &mut |oracle, op, make| {
         let Some(op) = exported(op) else { return Ok(()) };
         let (ahead, wanted) = (ahead.get_mut(op.name()).unwrap(), wanted.get_mut(op.name()).unwrap());
