@@ -103,8 +103,7 @@ pub fn count_answers(answers: &mut BTreeMap<String, u64>, answer: &Answer) {
     match answer {
         Answer::Call { end, .. } | Answer::Bytes { end, .. } => count(*end),
         Answer::Salvaged(salvaged) => count(salvaged.end),
-        // Only the port makes steps, so none is compared.
-        Answer::Dispatched(_) => {}
+        Answer::Dispatched(dispatched) => dispatched.ends().for_each(count),
         Answer::Fields(read) => count(read.end),
         Answer::Reported(reported) => reported.ends().iter().for_each(|&end| count(end)),
         Answer::Kept(kept) => count_answers(answers, &kept.answer),

@@ -7,16 +7,17 @@ use beside::call::*;
 use beside::device::{Rng, TELLING};
 use beside::dispatch::{Dispatch, Move};
 use beside::prefs_apply::Preferences;
-use beside::report::{Numbers, Season, Session, KEYS, LONG, NARROW};
+use beside::report::{Numbers, Season, Session, Width, KEYS, LONG, NARROW};
 use beside::salvage::Salvage;
 
 /// Makes a call's operation, script and room.
 type Make = fn(&mut Rng) -> Call;
 
 /// Each kind of call, with how often it comes.
-pub const KINDS: [(Make, usize); 13] = [
+pub const KINDS: [(Make, usize); 18] = [
     (handle, 20),
     (dispatch, 6),
+    (begin_dispatch, 2),
     (keyboard_init, 1),
     (to_ascii, 1),
     (convert_set2, 3),
@@ -25,7 +26,11 @@ pub const KINDS: [(Make, usize); 13] = [
     (write_preferences, 2),
     (read_preferences, 3),
     (apply_preferences, 3),
-    (season, 3),
+    (|rng| season(rng, &NARROW, false), 2),
+    (|rng| season(rng, &LONG, false), 2),
+    (|rng| season(rng, &NARROW, true), 1),
+    (|rng| begin_season(rng, &NARROW), 1),
+    (|rng| begin_season(rng, &LONG), 1),
     (read_packet, 1),
     (reset_mouse_identity, 1),
 ];
@@ -215,6 +220,16 @@ fn dispatch(rng: &mut Rng) -> Call {
     Call { script2: Some(second), ..call(op, first, room) }
 }
 
+/// A dispatcher's steps from a fresh state on.
+fn begin_dispatch(rng: &mut Rng) -> Call {
+    let mut call = dispatch(rng);
+    if let Op::Dispatch(dispatch) = &mut call.op {
+        dispatch.handler = Handler { two: !rng.once_in(4), rated: rng.once_in(4), ..Handler::default() };
+        (dispatch.last, dispatch.places) = (0, [0; 3]);
+    }
+    call
+}
+
 /// What a device answers to so many bytes.
 pub fn exchanges(rng: &mut Rng, count: usize) -> Vec<u8> {
     let mut script = Vec::new();
@@ -330,11 +345,21 @@ fn apply_preferences(rng: &mut Rng) -> Call {
     call(Op::ApplyPreferences(preferences(rng)), script, room)
 }
 
-fn season(rng: &mut Rng) -> Call {
-    let widens = rng.once_in(4);
-    let width = if widens || rng.once_in(2) { &NARROW } else { &LONG };
-    let mut from = Numbers { presses: [0; KEYS], packets: 0, x: 0, y: 0 };
-    if rng.once_in(2) {
+const EMPTY: Numbers = Numbers { presses: [0; KEYS], packets: 0, x: 0, y: 0 };
+
+/// Sessions added to an empty report.
+fn begin_season(rng: &mut Rng, width: &'static Width) -> Call {
+    let mut call = season(rng, width, false);
+    if let Op::Season(season) = &mut call.op {
+        season.from = EMPTY;
+    }
+    call
+}
+
+/// Sessions added to a report of a width, or one that is converted.
+fn season(rng: &mut Rng, width: &'static Width, widens: bool) -> Call {
+    let mut from = EMPTY;
+    if !rng.once_in(4) {
         // Near a limit, or any.
         let count = |rng: &mut Rng| match rng.below(4) {
             0 => width.most - rng.below(3) as u64,

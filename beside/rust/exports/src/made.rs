@@ -571,7 +571,7 @@ impl Exports {
         let Dispatch { handler, id, last, places, script3, moves } = call;
         let fresh = Handler { two: handler.two, rated: handler.rated, ..Handler::default() };
         let mut words: Vec<u64>;
-        if (*handler == fresh, *last, *places) == (true, 0, [0; 3]) && self.rng.once_in(2) {
+        if (*handler == fresh, *last, *places) == (true, 0, [0; 3]) {
             words = words::by_chance(&mut self.rng);
             words.resize_with(DISPATCHER_WORDS, || self.rng.next());
             let refusal = vd::dispatcher_fresh(&mut words, 1 + fresh.two as u32, fresh.rated as u32, *id as u32);
