@@ -80,17 +80,12 @@ pub fn record_of(words: &[u64]) -> Option<Handler> {
 }
 
 /// Numbers that stand for a record: those that a record has, or with anything where it doesn't count.
-pub fn words_of(handler: &Handler, chance: Option<&mut Rng>) -> Vec<u64> {
+pub fn words_of(handler: &Handler, mut chance: Option<&mut Rng>) -> Vec<u64> {
     let mut words = vec![0; HANDLER_WORDS];
     // What is added to a number above its lowest bits, and what is put where nothing counts.
-    let mut noise = |low: u32| 0 << low;
-    let mut any;
-    let noise: &mut dyn FnMut(u32) -> u64 = match chance {
-        None => &mut noise,
-        Some(rng) => {
-            any = move |low| if rng.once_in(2) { rng.next().unbounded_shl(low) } else { 0 };
-            &mut any
-        }
+    let mut noise = |low: u32| match &mut chance {
+        Some(rng) if rng.once_in(2) => rng.next() << low,
+        _ => 0,
     };
     for place in PLACES..HANDLER_WORDS {
         words[place] = noise(0);
