@@ -83,10 +83,7 @@ pub fn record_of(words: &[u64]) -> Option<Handler> {
 pub fn words_of(handler: &Handler, mut chance: Option<&mut Rng>) -> Vec<u64> {
     let mut words = vec![0; HANDLER_WORDS];
     // What is added to a number above its lowest bits, and what is put where nothing counts.
-    let mut noise = |low: u32| match &mut chance {
-        Some(rng) if rng.once_in(2) => rng.next() << low,
-        _ => 0,
-    };
+    let mut noise = |low: u32| chance.as_mut().map_or(0, |rng| rng.next() * rng.below(2) as u64) << low;
     for place in PLACES..HANDLER_WORDS {
         words[place] = noise(0);
     }
