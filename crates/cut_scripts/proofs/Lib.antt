@@ -7,4 +7,7 @@ pub mod Coded
 pub mod Answers
 pub mod Entries
 pub mod Words
+pub mod Told
+pub mod MouseLeft
+pub mod KeyboardInit
 pub mod Worked

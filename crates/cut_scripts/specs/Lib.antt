@@ -4,3 +4,4 @@ pub mod Forms
 pub mod SoFar
 pub mod Coded
 pub mod Words
+pub mod Told
