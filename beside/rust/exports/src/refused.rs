@@ -1,5 +1,5 @@
 //! Calls that the by-value functions can't be given: an argument that stands for nothing, 255, and a lent record of another length or
-//! with a start or a count that no line can tell, 21. All else is 0, and nothing is changed.
+//! with a start or a count that no line can tell, 21. All else is 0, a report as it was, and nothing is changed.
 
 use crate::library::{self as vd, *};
 use crate::made::{Exports, Lent, Refusing};
@@ -237,14 +237,14 @@ pub fn check(kind: usize, exports: &mut Exports) -> Result<(), String> {
             let report = Report { presses: [rng.next() as u32; KEYS], packets: rng.next() as u32, x: 1, y: -1 };
             let answer = vd::report_add(report, number, &bench.script, &bench.script);
             let answer = exports.note("vd_report_add", answer);
-            bench.ended("vd_report_add", answer, refusing(ReportAddedWords::zero(), MEANS_NOTHING))
+            bench.ended("vd_report_add", answer, ReportAddedWords { refusal: MEANS_NOTHING, report })
         }
         _ => {
             let (bench, number) = (plain(rng), none_of(rng, &identities));
             let report = LongReport { presses: [rng.next(); KEYS], packets: rng.next(), x: 1, y: -1 };
             let answer = vd::long_report_add(report, number, &bench.script, &bench.script);
             let answer = exports.note("vd_long_report_add", answer);
-            bench.ended("vd_long_report_add", answer, refusing(LongAddedWords::zero(), MEANS_NOTHING))
+            bench.ended("vd_long_report_add", answer, LongAddedWords { refusal: MEANS_NOTHING, report })
         }
     }
 }
