@@ -14,10 +14,11 @@ const MALFORMED: u32 = 21;
 /// A number that is none of these: next to one, or any.
 fn none_of(rng: &mut Rng, known: &[u32]) -> u32 {
     loop {
-        let number = match rng.below(4) {
+        let number = match rng.below(5) {
             0 => rng.next() as u32,
             1 => rng.pick(known).wrapping_add(1),
-            2 => rng.pick(known) | 0x100 << rng.below(24),
+            2 => rng.pick(known).wrapping_sub(1),
+            3 => rng.pick(known) | 0x100 << rng.below(24),
             _ => rng.below(256) as u32,
         };
         if !known.contains(&number) {
