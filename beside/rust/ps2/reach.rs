@@ -67,6 +67,10 @@ pub fn get_keyboard_scancode_set(k: &PS2Keyboard) -> Result<u8, &'static str> {
     k.get_keyboard_scancode_set().map(|set| set as u8)
 }
 
+pub fn keyboard_waits(k: &PS2Keyboard) -> bool {
+    k.is_output_buffer_full()
+}
+
 /// The mouse's commands, by their bytes.
 pub fn mouse_commands() -> [HostToMouseCommand; 15] {
     use HostToMouseCommand::*;

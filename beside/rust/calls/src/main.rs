@@ -4,39 +4,46 @@
 //! A measure is rows of 100 calls, or of 96 for a side of a table with two keyboards, each row from a fresh record on and with nothing taken. `frame` is rows that enter an empty
 //! handler by the same way as the Rust's, `ready` and its like rows that make no call: to be taken off the others.
 
-use event_types::Event;
-use keycodes_ascii::KeyboardModifiers;
-use mpmc::Queue;
-use port_io::wire;
-use ps2::PS2Keyboard;
+use beside::handler_rows::{
+    handle_directly, raise, register_again, register_nothing, seconds, spread, Rust, IN_A_ROW, KEY, LOCK, ROOM,
+};
 use std::hint::black_box;
 
 extern "C" {
     /// The port's proved functions (crates/keyboard_calls). A slice is a pointer and a length.
-    fn keyboard_calls_by_value(script: *const u8, bytes: usize, log: *mut u8, room: usize, times: usize, two: bool, second: bool) -> usize;
-    fn keyboard_calls_in_place(script: *const u8, bytes: usize, log: *mut u8, room: usize, times: usize, two: bool, second: bool) -> usize;
-    fn keyboard_calls_on_state(script: *const u8, bytes: usize, log: *mut u8, room: usize, times: usize, two: bool, second: bool) -> usize;
-
-    fn clock_gettime(clock: i32, time: *mut [i64; 2]) -> i32;
+    fn keyboard_calls_by_value(
+        script: *const u8,
+        bytes: usize,
+        log: *mut u8,
+        room: usize,
+        times: usize,
+        two: bool,
+        second: bool,
+    ) -> usize;
+    fn keyboard_calls_in_place(
+        script: *const u8,
+        bytes: usize,
+        log: *mut u8,
+        room: usize,
+        times: usize,
+        two: bool,
+        second: bool,
+    ) -> usize;
+    fn keyboard_calls_on_state(
+        script: *const u8,
+        bytes: usize,
+        log: *mut u8,
+        room: usize,
+        times: usize,
+        two: bool,
+        second: bool,
+    ) -> usize;
 }
 
-/// The calls of a row, the rows of a measure, and the room of a call's log.
-const IN_A_ROW: usize = 100;
 /// The calls of a row for one side of a table with two keyboards: each gives an event, and the side has places for so many.
 const SHARE: usize = 96;
+/// The rows of a measure.
 const ROWS: usize = 50;
-const ROOM: usize = 16;
-
-const KEY: [u8; 1] = [0x1E];
-const LOCK: [u8; 7] = [0x3A, 0x00, 0x01, 0xFA, 0x00, 0x01, 0xFA];
-
-/// Seconds of processor time of this thread, which other programs hardly change.
-fn seconds() -> f64 {
-    const CLOCK_THREAD_CPUTIME_ID: i32 = 3;
-    let mut time = [0; 2];
-    assert_eq!(unsafe { clock_gettime(CLOCK_THREAD_CPUTIME_ID, &mut time) }, 0);
-    time[0] as f64 + time[1] as f64 / 1e9
-}
 
 /// How the port's record is passed to a call: by value, in place, or its state alone.
 #[derive(Clone, Copy)]
@@ -88,60 +95,6 @@ fn check_port(way: Way) {
     assert_eq!(log[..9], [0x64, 0xD4, 0x60, 0xED, 0x64, 0xD4, 0x60, 0x04, 0x00], "the log of the second side's lock");
 }
 
-/// The Rust, its handler registered by its own `init`.
-struct Rust {
-    queue: Queue<Event>,
-    script: Vec<u8>,
-}
-
-impl Rust {
-    fn new() -> Rust {
-        /// A keyboard that answers every step of keyboard initialisation.
-        const GOOD_KEYBOARD: [u8; 27] = [
-            0, 1, 0xFA, 0, 1, 0xFA, 1, 0xAB, 1, 0x83, 0, 1, 0xFA, 0, 1, 0xFA, 0, 1, 0xFA, 0, 1, 0xFA, 0, 1, 0xFA, 1, 1,
-        ];
-        let controller = Box::leak(Box::new(ps2::reach::controller(true, true)));
-        let queue = Queue::new();
-        wire().script = GOOD_KEYBOARD.to_vec();
-        wire().begin(0, 64, false);
-        keyboard::init(PS2Keyboard::new(controller), queue.clone()).expect("a keyboard");
-        assert_eq!(wire().lack, 0, "the keyboard's script is long enough");
-        Rust { queue, script: Vec::new() }
-    }
-
-    /// The scripts of a row's calls, one behind the other, so that nothing has to be done between two calls.
-    fn set_script(&mut self, script: &[u8]) {
-        self.script = script.repeat(IN_A_ROW);
-        wire().script.clone_from(&self.script);
-    }
-
-    /// A row of calls, by this way into the handler.
-    fn row(&self, call: fn()) {
-        wire().begin(0, ROOM * IN_A_ROW, false);
-        self.queue.clear();
-        *keyboard::reach::modifiers() = KeyboardModifiers::new();
-        (0..IN_A_ROW).for_each(|_| call());
-    }
-
-    /// Whether a row did all that it should: used its script, wrote so many pairs, and left an event for each call.
-    fn check(&mut self, script: &[u8], pairs: usize) {
-        self.set_script(script);
-        for call in [interrupts::raise, keyboard::reach::handle_directly] {
-            self.row(call);
-            let mut events = 0;
-            self.queue.for_each(|_| events += 1);
-            let left = (wire().at, wire().lack, wire().log.len(), events, log::errors().len());
-            assert_eq!(left, (self.script.len(), 0, 2 * pairs * IN_A_ROW, IN_A_ROW, 0), "the Rust's row of calls");
-        }
-    }
-}
-
-/// The least and the median.
-fn spread(mut values: Vec<f64>) -> (f64, f64) {
-    values.sort_by(f64::total_cmp);
-    (values[0], values[values.len() / 2])
-}
-
 fn main() {
     let rounds: usize = std::env::args().nth(1).and_then(|word| word.parse().ok()).expect("usage: calls ROUNDS");
     [Way::Value, Way::Place, Way::State].into_iter().for_each(check_port);
@@ -168,12 +121,12 @@ fn main() {
             rust.set_script(script);
             let mut measure =
                 |what: &str, times: usize, row: &mut dyn FnMut()| measure(&format!("{name}-{what}"), times, row);
-            measure("rust", IN_A_ROW, &mut || rust.row(interrupts::raise));
-            let handler = interrupts::register_nothing();
-            measure("frame", IN_A_ROW, &mut || rust.row(interrupts::raise));
-            interrupts::register_again(handler);
-            measure("direct", IN_A_ROW, &mut || rust.row(keyboard::reach::handle_directly));
-            measure("ready", IN_A_ROW, &mut || rust.row(|| ()));
+            measure("rust", IN_A_ROW, &mut || rust.row(raise));
+            let handler = register_nothing();
+            measure("frame", IN_A_ROW, &mut || rust.row(raise));
+            register_again(handler);
+            measure("direct", IN_A_ROW, &mut || rust.row(handle_directly));
+            measure("ready", IN_A_ROW, &mut || rust.begin_row());
             let mut port_row = |times, way, seat| {
                 black_box(port(black_box(script), &mut log, times, way, seat));
             };

@@ -1,5 +1,6 @@
 //! How long the port takes for a call, and the Rust, as a table. Each side makes the same calls in a loop of its own. Handler
-//! calls, passes over a recording and sessions are measured by the programs `calls`, `recording` and `session`, which link the port's.
+//! calls, passes over a recording, sessions, a dispatcher's steps and the library's exports are measured by the programs `calls`,
+//! `recording`, `session`, `steps` and `exports`, which link the port's.
 
 use crate::answer::Answer;
 use crate::call::{self, Call, Hex, ALL_FLAGS, LAST_KEYCODE};
@@ -211,13 +212,13 @@ fn set2_keys(count: usize) -> Vec<u8> {
 }
 
 /// The conversion of about so many bytes of set 2, with room for all.
-fn conversion(count: usize) -> String {
+pub fn conversion(count: usize) -> String {
     let stream = set2_keys(count);
     format!("convert_set2 in={} room={}", Hex(&stream), stream.len())
 }
 
 /// The typing of so many characters, with room for all: small letters and spaces, one in eight a capital.
-fn typing(count: usize) -> String {
+pub fn typing(count: usize) -> String {
     let mut rng = Rng(1);
     let text: Vec<u8> = (0..count)
         .map(|_| match rng.below(8) {
@@ -248,9 +249,9 @@ fn packed_error(calls: &[Call], answers: &[Answer], mut output: &[u8]) -> Option
     })
 }
 
-/// What the programs `calls`, `recording` and `session` measured: a line is a name, the least and the median.
-fn linked_measures(program: &Path, rounds: usize) -> io::Result<BTreeMap<String, Spread>> {
-    let output = Command::new(program).arg(rounds.to_string()).stderr(Stdio::inherit()).output()?;
+/// What a program that links the port measured: a line is a name, the least and the median.
+fn linked_measures(program: &Path, command: &[&str], rounds: usize) -> io::Result<BTreeMap<String, Spread>> {
+    let output = Command::new(program).args(command).arg(rounds.to_string()).stderr(Stdio::inherit()).output()?;
     if !output.status.success() {
         return Err(io::Error::other(format!("the program '{}' failed", program.display())));
     }
@@ -290,6 +291,59 @@ fn own_and_all() -> Option<(f64, f64)> {
     Some((used(0) + used(-1), busy / HUNDREDTHS))
 }
 
+/// The rows of the library's exports: each beside the Rust, called with no frame and no driver.
+fn exports_rows(table: &mut Table, measured: &dyn Fn(&str) -> io::Result<Spread>) -> io::Result<()> {
+    // What a row begins with is measured, and taken off.
+    let rows = |name: &str| Ok::<_, io::Error>(measured(name)?.without(1.0, measured(&format!("{name}-ready"))?));
+    let own = "96 calls in a row; in the Rust's place the export's own call at a table with one keyboard";
+    for (name, call) in [("key", "plain key"), ("lock", "lock")] {
+        let of = |what: &str| rows(&format!("vd-{name}-{what}"));
+        let contents = format!(
+            "100 calls in a row from a fresh record on, which is lent as numbers and changed where it lies, nothing taken; the Rust's reading of \
+             the byte and `handle_keyboard_input`, called with no frame. By its frame, less an empty handler's, the Rust's took {}",
+            of("framed")?
+        );
+        table.row(&format!("`vd_handle`, {call}"), Ok((of("rust")?, of("one")?)), &contents);
+        for (side, number) in [("first", 1), ("second", 2)] {
+            let both = (of("one")?, of(side)?);
+            table.row(&format!("`vd_handle`, {call}, side {number} of two keyboards"), Ok(both), own);
+        }
+    }
+    let contents = "100 takings in a row from a record with as many events; the Rust's `pop` of its queue's stand-in";
+    table.row("`vd_take`", Ok((rows("vd-take-rust")?, rows("vd-take")?)), contents);
+    let step =
+        |what: &str| Ok::<_, io::Error>(measured(&format!("vd-step-{what}"))?.without(1.0, measured("vd-step-ready")?));
+    let contents = format!(
+        "100 steps in a row from a fresh state on, which is lent as numbers, both sides in turn, nothing taken; in the Rust's place \
+         `vd_handle`, plain key. A step that reads a packet took {}, an idle one {}",
+        step("packet")?,
+        step("idle")?
+    );
+    table.row("`vd_dispatcher_step`, plain key", Ok((rows("vd-key-one")?, step("key")?)), &contents);
+    let bytes = [
+        ("convert-60000", "`vd_convert_set2`, 60,000 bytes"),
+        ("convert-600", "`vd_convert_set2`, 600 bytes"),
+        ("convert-6", "`vd_convert_set2`, 6 bytes"),
+        ("type-16000", "`vd_type_text`, 16,000 characters"),
+        ("type-160", "`vd_type_text`, 160 characters"),
+        ("type-2", "`vd_type_text`, 2 characters"),
+        ("write-1", "`vd_preferences_write`, version 1"),
+        ("write-2", "`vd_preferences_write`, version 2"),
+        ("read-1", "`vd_preferences_read_1`, version 1"),
+        ("read-2", "`vd_preferences_read_2`, version 2"),
+        ("loose-0", "`vd_salvage` at identity 0"),
+        ("loose-4", "`vd_salvage` at identity 4"),
+        ("any-0", "`vd_salvage` at identity 0, any bytes"),
+        ("packets-0", "`vd_report_add` at identity 0"),
+        ("packets-4", "`vd_report_add` at identity 4"),
+    ];
+    for (name, row) in bytes {
+        let both = (measured(&format!("vd-{name}-rust"))?, measured(&format!("vd-{name}-port"))?);
+        table.row(row, Ok(both), "as below, through the export");
+    }
+    Ok(())
+}
+
 pub fn bench(port: Paths, tablekeys: &str, rounds: usize) -> io::Result<ExitCode> {
     let (start, before) = (Instant::now(), own_and_all());
     let own = std::env::current_exe()?;
@@ -297,10 +351,14 @@ pub fn bench(port: Paths, tablekeys: &str, rounds: usize) -> io::Result<ExitCode
     let mut table = Table::begin();
 
     // Handler calls are measured by a program of their own, both sides in turn, in many short rounds.
-    let mut measures = linked_measures(&Path::new(own).with_file_name("calls"), 100 * rounds)?;
-    measures.extend(linked_measures(&Path::new(own).with_file_name("recording"), 10 * rounds)?);
-    measures.extend(linked_measures(&Path::new(own).with_file_name("session"), 10 * rounds)?);
-    measures.extend(linked_measures(&Path::new(own).with_file_name("steps"), 100 * rounds)?);
+    let linked = |name: &str, command: &[&str], rounds: usize| {
+        linked_measures(&Path::new(own).with_file_name(name), command, rounds)
+    };
+    let mut measures = linked("calls", &[], 100 * rounds)?;
+    measures.extend(linked("recording", &[], 10 * rounds)?);
+    measures.extend(linked("session", &[], 10 * rounds)?);
+    measures.extend(linked("steps", &[], 100 * rounds)?);
+    measures.extend(linked("exports", &["bench"], rounds)?);
     let measured = |name: &str| measures.get(name).copied().ok_or_else(|| io::Error::other(format!("no {name}")));
     let handler_calls =
         [("key", "plain key", ""), ("lock", "lock", ", each with its lamp exchange of 6 reads and 2 writes")];
@@ -333,6 +391,8 @@ pub fn bench(port: Paths, tablekeys: &str, rounds: usize) -> io::Result<ExitCode
          call, plain key, by value. A step that reads a packet took {packet}, an idle one {idle}"
     );
     table.row("dispatcher's step, plain key", Ok((call, step)), &contents);
+
+    exports_rows(&mut table, &measured)?;
 
     let one = |line: &str| vec![line.to_string()];
     let rows = [

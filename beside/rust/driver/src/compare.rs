@@ -21,7 +21,7 @@ use std::time::{Duration, Instant};
 type Asked = (String, Op, Answer);
 
 /// From so many calls on, each operation must have been called.
-const FEW: u64 = 1000;
+pub const FEW: u64 = 1000;
 
 /// How many calls have been found alike.
 static ALIKE: AtomicU64 = AtomicU64::new(0);
@@ -95,7 +95,7 @@ fn has_few_events(call: &Call, answer: &Answer) -> bool {
 }
 
 /// Counts an answer by its number, and a run's by those of its calls.
-fn count_answers(answers: &mut BTreeMap<String, u64>, answer: &Answer) {
+pub fn count_answers(answers: &mut BTreeMap<String, u64>, answer: &Answer) {
     let mut count = |number: u8| {
         let name = if number == 0 { "ok".to_string() } else { number.to_string() };
         *answers.entry(name).or_default() += 1;
@@ -103,8 +103,7 @@ fn count_answers(answers: &mut BTreeMap<String, u64>, answer: &Answer) {
     match answer {
         Answer::Call { end, .. } | Answer::Bytes { end, .. } => count(*end),
         Answer::Salvaged(salvaged) => count(salvaged.end),
-        // Only the port makes steps, so none is compared.
-        Answer::Dispatched(_) => {}
+        Answer::Dispatched(dispatched) => dispatched.ends().for_each(count),
         Answer::Fields(read) => count(read.end),
         Answer::Reported(reported) => reported.ends().iter().for_each(|&end| count(end)),
         Answer::Kept(kept) => count_answers(answers, &kept.answer),
@@ -123,7 +122,7 @@ fn count_answers(answers: &mut BTreeMap<String, u64>, answer: &Answer) {
 
 /// How many calls of each operation to take from a sweep of these lengths: all, where that many are wanted. Otherwise half of
 /// the calls come from the sweep: one part of these in equal shares, so that none is left out, the other by length.
-fn shares(lengths: &BTreeMap<&'static str, u64>, wanted: u64) -> BTreeMap<&'static str, u64> {
+pub fn shares(lengths: &BTreeMap<&'static str, u64>, wanted: u64) -> BTreeMap<&'static str, u64> {
     let all: u64 = lengths.values().sum();
     if wanted >= all {
         return lengths.clone();
@@ -153,7 +152,7 @@ impl<R: Read> Read for Damaging<R> {
     }
 }
 
-fn listed<K: std::fmt::Display>(counts: &BTreeMap<K, u64>) -> String {
+pub fn listed<K: std::fmt::Display>(counts: &BTreeMap<K, u64>) -> String {
     counts.iter().map(|(key, count)| format!("{key} {count}")).collect::<Vec<_>>().join(", ")
 }
 

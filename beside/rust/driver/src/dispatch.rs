@@ -212,6 +212,17 @@ fn made_of(op: u8, packed: Packed) -> Result<Made, String> {
     }
 }
 
+impl Dispatched {
+    /// How the calls of the steps ended, and a failed lamp exchange by its number.
+    pub fn ends(&self) -> impl Iterator<Item = u8> + '_ {
+        self.made.iter().flat_map(|made| match made {
+            Made::Key(Done::Handled { end, lamps_failed: true, .. }) => vec![*end, 14],
+            Made::Key(Done::Handled { end, .. }) | Made::Packet { end, .. } => vec![*end],
+            Made::Key(_) | Made::Idle => Vec::new(),
+        })
+    }
+}
+
 impl fmt::Display for Made {
     fn fmt(&self, f: &mut fmt::Formatter) -> fmt::Result {
         match self {

@@ -1,24 +1,7 @@
 //! Runs Theseus's three files beside the port: see ../../../README.md.
 
-mod answer;
-mod bench;
-mod call;
-mod compare;
-mod device;
-mod dispatch;
-mod generate;
-mod kept;
-mod listing;
-mod oracle;
-mod packed;
-mod plain;
-mod port;
-mod prefs_apply;
-mod prefs_code;
-mod report;
-mod salvage;
-
-use packed::Program;
+use beside::packed::Program;
+use beside::{answer, bench, call, compare, generate, listing, oracle, port};
 use std::io::{self, BufWriter, Write};
 use std::process::ExitCode;
 

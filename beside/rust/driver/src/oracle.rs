@@ -162,6 +162,14 @@ fn lacks(done: &Done) -> bool {
 const GOOD_KEYBOARD: [u8; 27] =
     [0, 1, 0xFA, 0, 1, 0xFA, 1, 0xAB, 1, 0x83, 0, 1, 0xFA, 0, 1, 0xFA, 0, 1, 0xFA, 0, 1, 0xFA, 0, 1, 0xFA, 1, 1];
 
+/// What is asked without an exchange.
+#[derive(Clone, Copy, Debug)]
+pub enum Glance {
+    KeyboardWaits,
+    MouseWaits,
+    Scancode,
+}
+
 /// The Rust, one to a process: its records are statics.
 pub struct Oracle {
     /// The controller through which devices are called: only its ports count.
@@ -221,6 +229,23 @@ impl Oracle {
         let thrown = if matches!(end, 2 | 3) { Vec::new() } else { unlisted(data.take()) };
         let (bytes, others) = keeping(thrown);
         Answer::Kept(Kept { answer: Box::new(Answer::Call { end, used, log, value, record }), bytes, others })
+    }
+
+    /// The port of the read that lacked a byte, after a call that ended so.
+    pub fn port_lacked(&self) -> u16 {
+        wire().lacked
+    }
+
+    /// A look at the status, or a read of a scancode, on a script: how it ended, the bytes used, and the value.
+    pub fn glance(&mut self, what: Glance, script: &[u8]) -> (End, usize, u8) {
+        wire().script = script.to_vec();
+        let c = self.controller;
+        let (end, value) = match what {
+            Glance::KeyboardWaits => run(0, || Ok(reach::keyboard_waits(&PS2Keyboard::new(c)) as u8)),
+            Glance::MouseWaits => run(0, || Ok(reach::mouse(c, 0.try_into().unwrap()).is_output_buffer_full() as u8)),
+            Glance::Scancode => run(0, || Ok(PS2Keyboard::new(c).read_scancode())),
+        };
+        (end, wire().at, value.unwrap_or(0))
     }
 
     /// Makes a call so many times for measuring, with nothing between two calls but what sets state, script and log again. The

@@ -6,7 +6,7 @@ use crate::packed::{put_script, Instruction, Packed};
 use std::fmt::{self, Write};
 use std::io::{self, Read};
 
-const KEYS: usize = LAST_KEYCODE as usize + 1;
+pub const KEYS: usize = LAST_KEYCODE as usize + 1;
 
 /// A report's width: the name of its call, the instruction that tells a report (behind it come those that add a session and ask for
 /// the report), and the largest counts and sums that a call line can tell.
@@ -14,14 +14,14 @@ const KEYS: usize = LAST_KEYCODE as usize + 1;
 pub struct Width {
     name: &'static str,
     told: u8,
-    most: u64,
-    low: i64,
-    high: i64,
+    pub most: u64,
+    pub low: i64,
+    pub high: i64,
 }
 
-const NARROW: Width =
+pub const NARROW: Width =
     Width { name: "season32", told: 60, most: u32::MAX as u64, low: i32::MIN as i64, high: i32::MAX as i64 };
-const LONG: Width = Width { name: "season64", told: 63, most: u64::MAX, low: i64::MIN, high: i64::MAX };
+pub const LONG: Width = Width { name: "season64", told: 63, most: u64::MAX, low: i64::MIN, high: i64::MAX };
 
 /// The call that converts an old report, and its instruction.
 const WIDENING: &str = "season_widen";
@@ -29,37 +29,37 @@ const WIDEN: u8 = 66;
 
 #[derive(Clone, Debug, PartialEq)]
 pub struct Numbers {
-    presses: [u64; KEYS],
-    packets: u64,
-    x: i64,
-    y: i64,
+    pub presses: [u64; KEYS],
+    pub packets: u64,
+    pub x: i64,
+    pub y: i64,
 }
 
 #[derive(Clone, Debug, PartialEq)]
-struct Session {
-    id: u8,
-    events: Vec<KeyEvent>,
-    mouse: Vec<u8>,
+pub struct Session {
+    pub id: u8,
+    pub events: Vec<KeyEvent>,
+    pub mouse: Vec<u8>,
 }
 
 #[derive(Clone, Debug, PartialEq)]
 pub struct Season {
     /// The width of the report that is told.
-    width: &'static Width,
+    pub width: &'static Width,
     /// Whether it is converted then, and nothing is added.
-    widens: bool,
-    from: Numbers,
-    sessions: Vec<Session>,
+    pub widens: bool,
+    pub from: Numbers,
+    pub sessions: Vec<Session>,
 }
 
 #[derive(Clone, Debug, PartialEq)]
 pub struct Reported {
     /// 0 or the number of the refusal, for each session.
-    ends: Vec<u8>,
-    report: Numbers,
-    means: Option<[(i64, u64); 2]>,
+    pub ends: Vec<u8>,
+    pub report: Numbers,
+    pub means: Option<[(i64, u64); 2]>,
     /// Whether a report was converted, which is told without its means.
-    widened: bool,
+    pub widened: bool,
 }
 
 fn parse_numbers(text: &str, width: &Width) -> Result<Numbers, String> {

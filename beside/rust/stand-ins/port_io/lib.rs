@@ -46,6 +46,8 @@ pub struct Wire {
     pub log: Vec<u8>,
     /// 0, or the first lack: 2 or 3.
     pub lack: u8,
+    /// The port of the read or the write that lacked.
+    pub lacked: u16,
     pub unwinds: bool,
     pub device: Option<Box<dyn Device>>,
     end: usize,
@@ -85,7 +87,7 @@ impl Wire {
                 }
             }
         }
-        self.lacks(2);
+        self.lacks(2, port);
         if port == 0x64 {
             0x01
         } else {
@@ -95,7 +97,7 @@ impl Wire {
 
     fn write(&mut self, port: u16, value: u8) {
         if self.room < self.log.len() + 2 {
-            return self.lacks(3);
+            return self.lacks(3, port);
         }
         self.log.extend([port as u8, value]);
         if let Some(device) = &mut self.device {
@@ -103,9 +105,10 @@ impl Wire {
         }
     }
 
-    fn lacks(&mut self, number: u8) {
+    fn lacks(&mut self, number: u8, port: u16) {
         if self.lack == 0 {
             self.lack = number;
+            self.lacked = port;
             self.end = self.at;
             self.room = 0;
         }
@@ -125,6 +128,7 @@ static WIRE: Only = Only(UnsafeCell::new(Wire {
     at: 0,
     log: Vec::new(),
     lack: 0,
+    lacked: 0,
     unwinds: true,
     device: None,
     end: 0,
