@@ -2,5 +2,6 @@
 pub mod CutShort
 pub mod Forms
 pub mod SoFar
+pub mod Room
 pub mod Coded
 pub mod Words
