@@ -1,10 +1,12 @@
 //! The operations as a driver would make them that talks to the ports itself: no script, no log, no library. Written from document 01
 //! (docs/DOCUMENT-01.md) and document 02, to hold `drive` to: what it reads and writes, and in which order.
 
-use vurdellow::drive::{Ports, DATA, STATUS};
+use vurdellow::drive::Ports;
+use vurdellow::keyboard::KeyboardType;
+use vurdellow::{Identity, Port};
 
 /// The number of a refusal.
-pub type Refused = u32;
+pub type Refused = u8;
 /// Where a byte for a device goes: to the keyboard, or to the mouse or the second keyboard, after D4.
 #[derive(Clone, Copy, PartialEq)]
 pub enum Way {
@@ -20,17 +22,19 @@ pub struct Direct<'a> {
 
 const POLLS: usize = 65_535;
 
+pub const IDENTITIES: [Identity; 3] = [Identity::NoWheel, Identity::Wheel, Identity::FiveButtons];
+
 impl Direct<'_> {
     fn status(&mut self) -> u8 {
-        self.ports.read(STATUS)
+        self.ports.read(Port::Status)
     }
 
     pub fn data(&mut self) -> u8 {
-        self.ports.read(DATA)
+        self.ports.read(Port::Data)
     }
 
     fn controller(&mut self, command: u8) {
-        self.ports.write(STATUS, command)
+        self.ports.write(Port::Status, command)
     }
 
     /// A poll: the data where the status has all these bits.
@@ -41,7 +45,7 @@ impl Direct<'_> {
     fn send(&mut self, byte: u8) -> Result<(), Refused> {
         for _ in 0..255 {
             if self.status() & 2 == 0 {
-                self.ports.write(DATA, byte);
+                self.ports.write(Port::Data, byte);
                 return Ok(());
             }
         }
@@ -105,17 +109,16 @@ impl Direct<'_> {
         self.scancode_set().map(drop)
     }
 
-    /// 1 plain, 2 translated, 3 ancient.
-    pub fn detect(&mut self) -> Result<u8, Refused> {
+    pub fn detect(&mut self) -> Result<KeyboardType, Refused> {
         self.pair(Way::First, 0xF5, 0xF2)?;
         let mut found = Err(12);
         for _ in 0..POLLS {
             match self.poll(1) {
-                Some(0x00) => found = Ok(3),
+                Some(0x00) => found = Ok(KeyboardType::AncientAtKeyboard),
                 Some(0xAB) => {
                     let second = (0..POLLS).find_map(|_| match self.poll(1) {
-                        Some(0x41 | 0xC1) => Some(2),
-                        Some(0x83) => Some(1),
+                        Some(0x41 | 0xC1) => Some(KeyboardType::Mf2KeyboardTranslated),
+                        Some(0x83) => Some(KeyboardType::Mf2Keyboard),
                         _ => None,
                     });
                     found = second.ok_or(12);
@@ -129,7 +132,7 @@ impl Direct<'_> {
     }
 
     pub fn keyboard_init(&mut self) -> Result<(), Refused> {
-        self.detect().map_err(|_| 18u32)?;
+        self.detect().map_err(|_| 18u8)?;
         self.set_scancode_set(1)
     }
 
@@ -149,27 +152,28 @@ impl Direct<'_> {
         self.command(Way::Second, 0xF5).map_err(|_| 16)
     }
 
-    pub fn identity(&mut self) -> Result<u8, Refused> {
+    pub fn identity(&mut self) -> Result<Identity, Refused> {
         self.command(Way::Second, 0xF2)?;
-        (0..POLLS).find_map(|_| self.poll(0x21).filter(|id| matches!(id, 0 | 3 | 4))).ok_or(11)
+        let identity = |byte| IDENTITIES.into_iter().find(|id| id.number() == u32::from(byte));
+        (0..POLLS).find_map(|_| self.poll(0x21).and_then(identity)).ok_or(11)
     }
 
     /// What it is refused with, and the record's identity afterwards.
-    pub fn set_identity(&mut self, old: u8) -> (Result<(), Refused>, u8) {
+    pub fn set_identity(&mut self, old: Identity) -> (Result<(), Refused>, Identity) {
         let mut id = old;
         let done = self.find_identity(&mut id);
         let kept = if matches!(done, Err(13 | 15 | 16)) { old } else { id };
         (done, kept)
     }
 
-    fn find_identity(&mut self, id: &mut u8) -> Result<(), Refused> {
+    fn find_identity(&mut self, id: &mut Identity) -> Result<(), Refused> {
         self.stop_packets()?;
         for rate in [200, 100, 80] {
             self.sampling_rate(rate)?;
         }
         match self.identity() {
-            Ok(4) => return Err(13),
-            Ok(3) => {
+            Ok(Identity::FiveButtons) => return Err(13),
+            Ok(Identity::Wheel) => {
                 for rate in [200, 200, 80] {
                     self.sampling_rate(rate)?;
                 }
@@ -183,8 +187,8 @@ impl Direct<'_> {
     }
 
     /// The bytes of a packet.
-    pub fn packet(&mut self, id: u8) -> Vec<u8> {
-        (0..if id == 0 { 3 } else { 4 }).map(|_| self.data()).collect()
+    pub fn packet(&mut self, id: Identity) -> Vec<u8> {
+        (0..if id == Identity::NoWheel { 3 } else { 4 }).map(|_| self.data()).collect()
     }
 
     fn port_test(&mut self, command: u8) -> bool {
@@ -194,7 +198,7 @@ impl Direct<'_> {
 
     fn write_config(&mut self, config: u8) {
         self.controller(0x60);
-        self.ports.write(DATA, config);
+        self.ports.write(Port::Data, config);
     }
 
     /// Whether a keyboard and a mouse are attached.
@@ -249,18 +253,18 @@ pub struct Remembered {
 }
 
 impl Remembered {
-    /// A handler call: 14 where a lamp exchange failed, otherwise 0, and how many bytes were dropped.
-    pub fn handle(&mut self, way: Way, ports: &mut dyn Ports) -> (u32, u32) {
+    /// A handler call: whether a lamp exchange failed, and how many bytes were dropped.
+    pub fn handle(&mut self, way: Way, ports: &mut dyn Ports) -> (bool, u32) {
         let mut direct = Direct { ports, thrown: Vec::new() };
         let byte = if self.waiting.is_empty() { direct.data() } else { self.waiting.remove(0) };
         let lamp = match byte {
             0x46 => 1,
             0x45 => 2,
             0x3A => 4,
-            _ => return (0, 0),
+            _ => return (false, 0),
         };
         self.lamps ^= lamp;
-        let failed = direct.lamps(way, self.lamps).err().unwrap_or(0);
+        let failed = direct.lamps(way, self.lamps).is_err();
         self.waiting.append(&mut direct.thrown);
         let dropped = self.waiting.len().saturating_sub(16);
         self.waiting.truncate(16);

@@ -1,43 +1,27 @@
-//! Every operation through `drive`, over devices made up by chance, against a driver that talks to the ports itself (`direct`), and against
-//! the operation's own uncut run.
+//! Every operation through `drive`, over devices made up by chance, held to a driver that talks to the ports itself (`direct`) and to the
+//! operation's own uncut run.
 //!
-//! Such a device is a number generator with a seed: what it answers hangs on all that was read and written before, port by port. So a
-//! read of another port, a write twice, too early or too late makes all that follows another. `direct` makes the reads and writes without
-//! script or log; what `drive` makes must be the same, one by one. The operation is then run once on all the bytes, by itself: it must use
-//! them all, write what was written, and hand back the same.
+//! Such a device is a number generator with a seed: what it answers hangs on all that was read and written before, port by port. So a read
+//! of another port, or a write that is left out, made twice, too early or too late, makes all that follows another. `direct` reads and writes
+//! without script or log; what `drive` reads and writes must be the same, one by one. The operation is then run once on all the bytes: it
+//! must use them all, write what was written, and come to the same.
 
 mod direct;
-#[allow(dead_code, unused)]
-#[path = "../../src/raw.rs"]
-mod raw;
 
-use direct::{Direct, Refused, Remembered, Way};
-use raw::*;
-use vurdellow::drive::{drive, Driven, End, Outcome, Patient, Ports, DATA, STATUS};
-
-macro_rules! outcome {
-    ($($answer:ty: $pairs:expr;)*) => {$(
-        impl Outcome for $answer {
-            fn end(&self) -> End {
-                let pairs: fn(&$answer) -> usize = $pairs;
-                End { refusal: self.refusal, port: self.port, used: self.used, pairs: pairs(self) }
-            }
-        }
-    )*};
-}
-
-outcome! {
-    vd_answer: |answer| answer.pairs;
-    vd_kept: |answer| answer.pairs;
-    vd_initialized: |answer| answer.pairs;
-    vd_handled: |answer| answer.pairs;
-    vd_packet: |_| 0;
-}
+use direct::{Direct, Refused, Remembered, Way, IDENTITIES};
+use std::fmt::Debug;
+use std::time::Duration;
+use vurdellow::drive::{drive, drive_within, Driven, Patient, Ports};
+use vurdellow::keyboard::{self, Command, KeyboardCommand, Lamps, ScancodeSet};
+use vurdellow::{
+    Controller, Counted, Counts, Fields, Handler, Identity, Keyboards, Mouse, MouseCommand, Outcome, Port, Preferences,
+    Profile, Refusal, Refused as RefusedWith, Resolution, SamplingRate, Side,
+};
 
 #[derive(Clone, Copy, Debug, PartialEq)]
 enum Access {
-    Read(u16, u8),
-    Wrote(u16, u8),
+    Read(Port, u8),
+    Wrote(Port, u8),
 }
 
 /// Numbers by chance, the same for the same seed (splitmix64).
@@ -52,21 +36,21 @@ impl Chance {
         z ^ (z >> 31)
     }
 
-    fn below(&mut self, n: u64) -> u64 {
-        self.next() % n
+    fn below(&mut self, n: usize) -> usize {
+        (self.next() % n as u64) as usize
     }
 
-    fn pick(&mut self, bytes: &[u8]) -> u8 {
-        bytes[self.below(bytes.len() as u64) as usize]
+    fn pick<T: Copy>(&mut self, choices: &[T]) -> T {
+        choices[self.below(choices.len())]
     }
 }
 
-/// A device by chance, with all that was read from it and written to it.
+/// A device by chance, and all that was read from it and written to it.
 #[derive(Clone)]
 struct Device {
     chance: Chance,
-    /// How often it does what an operation hopes for, in sixteen times.
-    kindness: u64,
+    /// In how many of sixteen times it does what is hoped for.
+    kindness: usize,
     /// What was written last.
     last: u8,
     seen: Vec<Access>,
@@ -75,347 +59,413 @@ struct Device {
 impl Device {
     fn new(seed: u64) -> Device {
         let mut chance = Chance(seed);
-        let kindness = [0, 8, 13, 15, 16][chance.below(5) as usize];
+        let kindness = chance.pick(&[0, 8, 13, 15, 16]);
         Device { chance, kindness, last: 0, seen: Vec::new() }
-    }
-
-    fn is_kind(&mut self) -> bool {
-        self.chance.below(16) < self.kindness
     }
 
     /// What follows hangs on what was done.
     fn note(&mut self, access: Access) {
-        let (kind, port, byte) = match access {
-            Access::Read(port, byte) => (0, port, byte),
-            Access::Wrote(port, byte) => (1, port, byte),
+        let (port, byte, write) = match access {
+            Access::Read(port, byte) => (port, byte, 0),
+            Access::Wrote(port, byte) => (port, byte, 1),
         };
-        self.chance.0 = self.chance.0.rotate_left(7) ^ (u64::from(port) << 9 | u64::from(byte) << 1 | kind);
+        self.chance.0 ^= u64::from(port.number()) << 16 | u64::from(byte) << 8 | write;
         self.chance.next();
         self.seen.push(access);
     }
 }
 
 impl Ports for Device {
-    fn read(&mut self, port: u16) -> u8 {
-        let kind = self.is_kind();
-        let byte = match (port, kind) {
-            (STATUS, true) => self.chance.pick(&[0x21, 0x21, 0x3D, 0x01, 0x1C]),
-            (STATUS, false) => self.chance.pick(&[0x00, 0x01, 0x02, 0x03, 0x20, 0x21, 0x1C, 0x1D, 0x3D, 0xFF]),
-            // What is hoped for after most writes is FA; after F2, F0 and the tests other bytes come too.
-            (_, true) => match self.last {
-                0xAA => 0x55,
-                0xAB | 0xA9 => 0x00,
-                0xFF => self.chance.pick(&[0xFA, 0xAA]),
-                0xF2 => self.chance.pick(&[0xFA, 0xFA, 0x00, 0x03, 0x03, 0x04, 0xAB, 0x83, 0x41]),
-                0x00..=0x03 => self.chance.pick(&[0xFA, 0xFA, 0x00, 0x01, 0x02, 0x03]),
-                0x20 => self.chance.pick(&[0x20, 0x30, 0x33, 0x00, 0x47]),
-                _ => 0xFA,
-            },
-            (_, false) => self.chance.pick(&[
+    fn read(&mut self, port: Port) -> u8 {
+        let is_kind = self.chance.below(16) < self.kindness;
+        let choices: &[u8] = match (port, is_kind, self.last) {
+            (Port::Status, true, _) => &[0x21, 0x21, 0x3D, 0x01, 0x1C],
+            (Port::Status, false, _) => &[0x00, 0x01, 0x02, 0x03, 0x20, 0x21, 0x1C, 0x1D, 0x3D, 0xFF],
+            (Port::Data, true, 0xAA) => &[0x55],
+            (Port::Data, true, 0xAB | 0xA9) => &[0x00],
+            (Port::Data, true, 0xFF) => &[0xFA, 0xAA],
+            (Port::Data, true, 0xF2) => &[0xFA, 0xFA, 0x00, 0x03, 0x03, 0x04, 0xAB, 0x83, 0x41],
+            (Port::Data, true, 0x00..=0x03) => &[0xFA, 0xFA, 0x00, 0x01, 0x02, 0x03],
+            (Port::Data, true, 0x20) => &[0x20, 0x30, 0x33, 0x00, 0x47],
+            (Port::Data, true, _) => &[0xFA],
+            (Port::Data, false, _) => &[
                 0x00, 0x01, 0x03, 0x04, 0x1E, 0x2A, 0x3A, 0x45, 0x46, 0x55, 0x83, 0x9E, 0xAA, 0xAB, 0xC1, 0xE0, 0xEE,
                 0xFA, 0xFC, 0xFD, 0xFE, 0xFF,
-            ]),
+            ],
         };
+        let byte = self.chance.pick(choices);
         self.note(Access::Read(port, byte));
         byte
     }
 
-    fn write(&mut self, port: u16, value: u8) {
+    fn write(&mut self, port: Port, value: u8) {
         self.last = value;
         self.note(Access::Wrote(port, value));
     }
 }
 
-/// Gives the bytes of the reads, without the ports, and the pairs of the writes.
+/// The bytes of the reads, and the pairs of the writes.
 fn script_and_log(seen: &[Access]) -> (Vec<u8>, Vec<u8>) {
     let (mut script, mut log) = (Vec::new(), Vec::new());
     for access in seen {
         match *access {
             Access::Read(_, byte) => script.push(byte),
-            Access::Wrote(port, value) => log.extend([port as u8, value]),
+            Access::Wrote(port, value) => log.extend([port.number(), value]),
         }
     }
     (script, log)
 }
 
-/// Drives an operation over a device that `direct` was given too, in the same state, and compares.
-fn same<R: Outcome + PartialEq + std::fmt::Debug>(
+/// Drives an operation over a device, and compares with what `direct` made of the same device, and with the uncut run. `operation` begins
+/// each time with the same record.
+fn driven<R: Outcome + PartialEq + Debug>(
     what: &str,
     device: &Device,
-    by_itself: &Device,
+    direct: &Device,
     mut operation: impl FnMut(&[u8], &mut [u8]) -> R,
 ) -> R {
     let mut ports = device.clone();
     let Driven { outcome, script, log } = drive(&mut ports, &mut operation);
-    assert_eq!(ports.seen, by_itself.seen, "{what}: the reads and writes");
-    assert_eq!((script.clone(), log.clone()), script_and_log(&ports.seen), "{what}: what drive says of them");
+    assert_eq!(ports.seen, direct.seen, "{what}: the reads and writes");
+    assert_eq!((script.clone(), log.clone()), script_and_log(&ports.seen), "{what}: what is said of them");
+
     let mut room = vec![0xCC; log.len() + 6];
     let uncut = operation(&script, &mut room);
-    assert_eq!(uncut, outcome, "{what}: the uncut run");
-    assert_eq!(uncut.end().used, script.len(), "{what}: the bytes of the uncut run");
+    assert_eq!(uncut, outcome, "{what}: what the uncut run comes to");
+    assert_eq!(uncut.used(), script.len(), "{what}: the bytes of the uncut run");
     assert_eq!((&room[..log.len()], &room[log.len()..]), (&log[..], &[0xCC; 6][..]), "{what}: its log");
     outcome
 }
 
-fn number<T>(done: Result<T, Refused>) -> u32 {
-    done.err().unwrap_or(0)
+/// What an operation comes to, without the counts.
+fn without_counts<T: Copy>(outcome: vurdellow::Exchange<T>) -> Result<T, Refused> {
+    outcome.map(|done| done.value).map_err(|refused| refused.number())
 }
 
-const KINDS: u64 = 21;
+fn kept(what: &str, command: Command, direct: Result<(), Refused>, thrown: &[u8]) {
+    let (first, others) = thrown.split_at(thrown.len().min(16));
+    let (number, done) = match command {
+        Ok(done) => (Ok(()), done),
+        Err(refused) => (Err(refused.number()), refused.done),
+    };
+    assert_eq!((number, done.kept.bytes(), done.kept.others as usize), (direct, first, others.len()), "{what}");
+}
 
-/// An operation of a kind by chance, over a device by chance. Gives how many bytes were read.
-fn one(kind: u64, seed: u64) -> usize {
+/// The operations that are lent a script and a log and nothing else, by number: the operation, and what `direct` makes.
+const PLAIN: usize = 11;
+
+fn plain(kind: usize, direct: &mut Direct, arguments: Arguments) -> (Result<(), Refused>, Plain) {
+    let Arguments { set, rate, resolution, byte, .. } = arguments;
+    match kind {
+        0 => (direct.reset(Way::First), Box::new(keyboard::reset)),
+        1 => (direct.set_scancode_set(set as u8), Box::new(move |s, l| keyboard::set_scancode_set(set, s, l))),
+        2 => (direct.pair(Way::First, 0xF3, byte), Box::new(move |s, l| keyboard::repeat(byte, s, l))),
+        3 => (direct.reset(Way::Second), Box::new(Mouse::reset)),
+        4 => (direct.start_packets(), Box::new(Mouse::start_packets)),
+        5 => (direct.stop_packets(), Box::new(Mouse::stop_packets)),
+        6 => (direct.sampling_rate(rate as u8), Box::new(move |s, l| Mouse::set_sampling_rate(rate, s, l))),
+        7 => (direct.resolution(resolution as u8), Box::new(move |s, l| Mouse::set_resolution(resolution, s, l))),
+        8 | 9 => {
+            let fields = [set as u8, rate as u8, resolution as u8, byte & 7];
+            let [set, rate, resolution, lamps] = fields.map(u32::from);
+            let four = Fields { set, rate, resolution, lamps };
+            let repeat = (kind == 9).then_some(byte & 0x7F);
+            let preferences = repeat.map_or(Preferences::Version1(four), |r| Preferences::Version2(four, r.into()));
+            (direct.apply(fields, repeat), Box::new(move |s, l| preferences.apply(s, l)))
+        }
+        _ => {
+            let outside = Preferences::Version1(Fields { set: 4, rate: 10, resolution: 0, lamps: 0 });
+            (Err(28), Box::new(move |s, l| outside.apply(s, l)))
+        }
+    }
+}
+
+type Plain = Box<dyn FnMut(&[u8], &mut [u8]) -> vurdellow::Exchange<()>>;
+
+#[derive(Clone, Copy)]
+struct Arguments {
+    set: ScancodeSet,
+    rate: SamplingRate,
+    resolution: Resolution,
+    identity: Identity,
+    byte: u8,
+}
+
+impl Arguments {
+    fn by_chance(chance: &mut Chance) -> Arguments {
+        use Resolution::*;
+        use SamplingRate::*;
+        Arguments {
+            set: chance.pick(&[ScancodeSet::Set1, ScancodeSet::Set2, ScancodeSet::Set3]),
+            rate: chance.pick(&[Hz10, Hz20, Hz40, Hz60, Hz80, Hz100, Hz200]),
+            resolution: chance.pick(&[Counts1, Counts2, Counts4, Counts8]),
+            identity: chance.pick(&IDENTITIES),
+            byte: chance.next() as u8,
+        }
+    }
+}
+
+/// All operations but the handler call, which needs a record that others made.
+const KINDS: usize = PLAIN + 12;
+
+/// An operation over a device by chance. Gives how often the device was read or written.
+fn one(kind: usize, seed: u64) -> usize {
+    use KeyboardCommand::*;
+    let what = &format!("operation {kind}, seed {seed}");
     let mut chance = Chance(!seed);
+    let arguments = Arguments::by_chance(&mut chance);
+    let Arguments { identity, byte, .. } = arguments;
     let device = Device::new(seed);
     let mut other = device.clone();
     let mut direct = Direct { ports: &mut other, thrown: Vec::new() };
-    let lamps = chance.below(8) as u8;
-    let set = 1 + chance.below(3) as u8;
-    let rate = chance.pick(&[10, 20, 40, 60, 80, 100, 200]);
-    let id = chance.pick(&[0, 3, 4]);
-    let byte = chance.next() as u8;
-    let what = &format!("operation {kind}, seed {seed}");
-    // What every operation but those with more to it answers: the refusal's number, and the value.
-    macro_rules! answers {
-        ($direct:expr, $operation:expr) => {{
-            let (refusal, value): (u32, u64) = $direct;
-            let answer: vd_answer = same(what, &device, &other, $operation);
-            assert_eq!((answer.refusal, answer.value), (refusal, value), "{what}");
-        }};
+    if kind < PLAIN {
+        let (expected, operation) = plain(kind, &mut direct, arguments);
+        assert_eq!(without_counts(driven(what, &device, &other, operation)), expected, "{what}");
+        return other.seen.len();
     }
-    let valued = |done: Result<u8, Refused>| done.map_or_else(|refusal| (refusal, 0), |value| (0, value.into()));
-    match kind {
+    match kind - PLAIN {
         0 => {
-            let passed = vd_controller { initialized: 0, keyboard: byte as u32 & 1, mouse: byte as u32 >> 1 & 1 };
-            let done = direct.init();
-            let answer = same(what, &device, &other, |script, log| vd_controller_init(passed, script, log));
-            let left = done.map_or(passed, |(keyboard, mouse)| vd_controller {
-                initialized: 1,
-                keyboard: keyboard.into(),
-                mouse: mouse.into(),
+            let passed = Controller { initialized: false, keyboard: byte & 1 == 0, mouse: byte & 2 == 0 };
+            let expected = direct.init();
+            let mut left = passed;
+            let outcome = driven(what, &device, &other, |script, log| {
+                left = passed;
+                left.initialize(script, log)
             });
-            assert_eq!((answer.refusal, answer.controller), (number(done), left), "{what}");
+            assert_eq!(without_counts(outcome), expected.map(drop), "{what}");
+            let ready = |(keyboard, mouse)| Controller { initialized: true, keyboard, mouse };
+            assert_eq!(left, expected.map_or(passed, ready), "{what}");
         }
         1 => {
-            let mut words = [7; 144];
-            let done = number(direct.keyboard_init());
-            answers!((done, 0), |script, log| vd_keyboard_init(&mut words, 2, 1, script, log));
-            let mut fresh = [9; 144];
-            vd_handler_fresh(&mut fresh, 2, 1);
-            assert_eq!(words, fresh, "{what}");
-        }
-        2 => answers!((number(direct.reset(Way::First)), 0), vd_keyboard_reset),
-        3 | 4 => {
-            let command = chance.pick(&[0xED, 0xF0, 0xF2, 0xF3, 0xF4, 0xF5, 0xFE, 0xFF]);
-            let done =
-                if kind == 3 { direct.command(Way::First, command) } else { direct.lamps(Way::First, lamps) };
-            let thrown = std::mem::take(&mut direct.thrown);
-            let answer = same(what, &device, &other, |script, log| match kind {
-                3 => vd_keyboard_command(command.into(), script, log),
-                _ => vd_keyboard_lamps(lamps.into(), script, log),
+            let expected = direct.keyboard_init();
+            let mut handler = Handler::new(Keyboards::One, Profile::Any);
+            let outcome = driven(what, &device, &other, |script, log| {
+                handler.initialize(Keyboards::Two, Profile::Tournament, script, log)
             });
-            kept(what, answer, number(done), &thrown);
+            assert_eq!(without_counts(outcome), expected, "{what}");
+            assert_eq!(handler, Handler::new(Keyboards::Two, Profile::Tournament), "{what}");
         }
-        5 => answers!((number(direct.set_scancode_set(set)), 0), |script, log| vd_keyboard_set_scancode_set(
-            set.into(),
-            script,
-            log
-        )),
-        6 => answers!(valued(direct.scancode_set()), vd_keyboard_scancode_set),
-        7 => answers!(valued(direct.detect()), vd_keyboard_detect),
-        8 => answers!((number(direct.pair(Way::First, 0xF3, byte)), 0), |script, log| vd_keyboard_repeat(
-            byte.into(),
-            script,
-            log
-        )),
-        9 => answers!((0, (direct.ports.read(STATUS) & 1).into()), |script, _| vd_keyboard_waits(script)),
-        10 => answers!((0, direct.data().into()), |script, _| vd_keyboard_read_scancode(script)),
-        11 => answers!((number(direct.reset(Way::Second)), 0), vd_mouse_reset),
-        12 => answers!((number(direct.start_packets()), 0), vd_mouse_start_packets),
-        13 => answers!((number(direct.stop_packets()), 0), vd_mouse_stop_packets),
-        14 => answers!(valued(direct.identity()), vd_mouse_identity),
-        15 => {
-            let (done, left) = direct.set_identity(id);
-            answers!((number(done), left.into()), |script, log| vd_mouse_set_identity(id.into(), script, log))
-        }
-        16 => {
-            let command = chance.pick(&[
-                0xE6, 0xE8, 0xE9, 0xEA, 0xEB, 0xEC, 0xEE, 0xF0, 0xF2, 0xF3, 0xF4, 0xF5, 0xF6, 0xFE, 0xFF,
-            ]);
-            let done = direct.command(Way::Second, command);
+        2 => {
+            let commands = [
+                (SetLedStatus, 0xED),
+                (ScancodeSet, 0xF0),
+                (IdentifyKeyboard, 0xF2),
+                (SetRepeatRateAndDelay, 0xF3),
+                (EnableScanning, 0xF4),
+                (DisableScanning, 0xF5),
+                (ResendByte, 0xFE),
+                (ResetAndStartSelfTest, 0xFF),
+            ];
+            let (command, byte) = chance.pick(&commands);
+            let expected = direct.command(Way::First, byte);
             let thrown = std::mem::take(&mut direct.thrown);
-            let answer =
-                same(what, &device, &other, |script, log| vd_mouse_command(command.into(), script, log));
-            kept(what, answer, number(done), &thrown);
+            let outcome = driven(what, &device, &other, |script, log| keyboard::command(command, script, log));
+            kept(what, outcome, expected, &thrown);
         }
-        17 if byte & 1 == 0 => {
-            answers!((number(direct.sampling_rate(rate)), 0), |script, log| vd_mouse_sampling_rate(
-                rate.into(),
-                script,
-                log
-            ))
+        3 => {
+            let lamps = [Lamps::SCROLL, Lamps::NUM, Lamps::CAPS].into_iter().enumerate();
+            let lamps = lamps.fold(Lamps::NONE, |all, (bit, lamp)| if byte >> bit & 1 == 1 { all | lamp } else { all });
+            let expected = direct.lamps(Way::First, byte & 7);
+            let thrown = std::mem::take(&mut direct.thrown);
+            let outcome = driven(what, &device, &other, |script, log| keyboard::lamps(lamps, script, log));
+            kept(what, outcome, expected, &thrown);
         }
-        17 => answers!((number(direct.resolution(set)), 0), |script, log| vd_mouse_resolution(
-            set.into(),
-            script,
-            log
-        )),
-        18 => answers!((0, (direct.ports.read(STATUS) & 0x21 == 0x21).into()), |script, _| vd_mouse_waits(script)),
-        19 => {
-            direct.packet(id);
-            let answer = same(what, &device, &other, |script, _| vd_mouse_read_packet(id.into(), script));
-            assert_eq!(answer.refusal, 0, "{what}");
+        4 => {
+            let expected = direct.scancode_set();
+            assert_eq!(without_counts(driven(what, &device, &other, keyboard::scancode_set)), expected, "{what}");
+        }
+        5 => {
+            let expected = direct.detect();
+            assert_eq!(without_counts(driven(what, &device, &other, keyboard::detect)), expected, "{what}");
+        }
+        6 => {
+            let expected = direct.ports.read(Port::Status) & 1 != 0;
+            let outcome = driven(what, &device, &other, |script, _| keyboard::waits(script));
+            assert_eq!(without_counts(outcome), Ok(expected), "{what}");
+        }
+        7 => {
+            let expected = direct.data();
+            let outcome = driven(what, &device, &other, |script, _| keyboard::read_scancode(script));
+            assert_eq!(without_counts(outcome), Ok(expected), "{what}");
+        }
+        8 => {
+            let expected = direct.identity();
+            assert_eq!(without_counts(driven(what, &device, &other, Mouse::read_identity)), expected, "{what}");
+        }
+        9 => {
+            let (expected, left) = direct.set_identity(identity);
+            let mut mouse = Mouse { identity };
+            let outcome = driven(what, &device, &other, |script, log| {
+                mouse = Mouse { identity };
+                mouse.set_identity(script, log)
+            });
+            assert_eq!((without_counts(outcome), mouse.identity), (expected.map(|()| left), left), "{what}");
+        }
+        10 => {
+            let expected = direct.ports.read(Port::Status) & 0x21 == 0x21;
+            let outcome = driven(what, &device, &other, |script, _| Mouse::waits(script));
+            assert_eq!(without_counts(outcome), Ok(expected), "{what}");
+        }
+        _ if byte & 1 == 0 => {
+            let bytes = direct.packet(identity);
+            let mouse = Mouse { identity };
+            let outcome = driven(what, &device, &other, |script, _| mouse.read_packet(script));
+            assert_eq!(outcome, mouse.read_packet(&bytes), "{what}");
         }
         _ => {
-            let preferences = vd_preferences {
-                version: 1 + (byte as u32 & 1),
-                set: set.into(),
-                rate: rate.into(),
-                resolution: 2,
-                lamps: lamps.into(),
-                repeat: 0x2B,
-            };
-            let repeat = (byte & 1 == 1).then_some(0x2B);
-            answers!((number(direct.apply([set, rate, 2, lamps], repeat)), 0), |script, log| vd_preferences_apply(
-                preferences,
-                script,
-                log
-            ))
+            let expected = direct.command(Way::Second, 0xE9);
+            let thrown = std::mem::take(&mut direct.thrown);
+            let outcome =
+                driven(what, &device, &other, |script, log| Mouse::command(MouseCommand::StatusRequest, script, log));
+            kept(what, outcome, expected, &thrown);
         }
     }
     other.seen.len()
 }
 
-fn kept(what: &str, answer: vd_kept, refusal: u32, thrown: &[u8]) {
-    let first = &thrown[..thrown.len().min(16)];
-    assert_eq!(answer.refusal, refusal, "{what}");
-    assert_eq!(&answer.bytes[..first.len()], first, "{what}");
-    assert_eq!((answer.count, answer.others), (first.len() as u32, (thrown.len() - first.len()) as u32), "{what}");
-}
-
 #[test]
 fn every_operation_over_devices_by_chance() {
-    let mut reads = [0; KINDS as usize];
+    let mut accesses = [0; KINDS];
     for seed in 0..2_000 {
-        for kind in 0..KINDS {
-            reads[kind as usize] += one(kind, seed);
+        for (kind, accesses) in accesses.iter_mut().enumerate() {
+            *accesses += one(kind, seed);
         }
     }
-    assert!(reads.iter().all(|&reads| reads > 0));
+    // 28 is the one answer before anything is read or written.
+    assert!(accesses.iter().enumerate().all(|(kind, &accesses)| (accesses > 0) == (kind != PLAIN - 1)));
 }
 
 #[test]
 fn handler_calls_over_devices_by_chance() {
-    for seed in 0..2_000 {
-        let mut words = [0; 144];
-        vd_handler_fresh(&mut words, 2, 0);
+    for seed in 0..1_000 {
+        let mut handler = Handler::new(Keyboards::Two, Profile::Any);
         let mut remembered = [Remembered::default(), Remembered::default()];
         let mut device = Device::new(seed);
         for call in 0..40 {
-            let side = device.chance.clone().below(2) as usize;
-            let mut other = device.clone();
-            let way = [Way::First, Way::Second][side];
-            let (lamps, dropped) = remembered[side].handle(way, &mut other);
+            let (at, side, way) =
+                device.chance.clone().pick(&[(0, Side::First, Way::First), (1, Side::Second, Way::Second)]);
             let what = &format!("handler call {call}, seed {seed}");
-            // The uncut run must begin with the record that the driven one began with.
-            let before = words;
-            let mut left = words;
-            let answer = same(what, &device, &other, |script, log| {
-                left = before;
-                vd_handle(&mut left, side as u32 + 1, script, log)
+            let mut other = device.clone();
+            let expected = remembered[at].handle(way, &mut other);
+            let mut left = handler.clone();
+            let outcome = driven(what, &device, &other, |script, log| {
+                left = handler.clone();
+                left.handle(side, script, log)
             });
-            assert_eq!((answer.lamps, answer.dropped), (lamps, dropped), "{what}");
-            // The record lent again and again, and not given anew: after 2 it is as passed in.
-            let again = drive(&mut device, |script, log| vd_handle(&mut words, side as u32 + 1, script, log));
-            assert_eq!((again.outcome, words), (answer, left), "{what}: a record that is lent each time");
-            while vd_take(&mut words).side != 0 {}
+            let done = outcome.unwrap_or_else(|refused| refused.done);
+            assert_eq!((done.lamps_failed, done.dropped), expected, "{what}");
+            // The record lent again and again, and not put back before each run: after 2 it is as passed in.
+            let again = drive(&mut device, |script, log| handler.handle(side, script, log));
+            assert_eq!((again.outcome, &handler), (outcome, &left), "{what}: one record for all runs");
+            handler.events().for_each(drop);
             device.seen.clear();
         }
     }
 }
 
-/// A controller that takes its time: a byte that was written is taken, and answered by FA, only after some looks at the status.
+#[test]
+fn in_lent_room() {
+    for seed in 0..200 {
+        let mut whole = Device::new(seed);
+        let Driven { outcome, script, log } = drive(&mut whole, keyboard::detect);
+        for room in [script.len(), script.len().saturating_sub(1), script.len() / 2, 0] {
+            let mut device = Device::new(seed);
+            let (mut bytes, mut pairs) = (vec![0xCC; room], vec![0xCC; log.len()]);
+            let (ended, read) = drive_within(&mut device, &mut bytes, &mut pairs, keyboard::detect);
+            assert_eq!((read, &bytes[..]), (room, &script[..room]));
+            assert_eq!(device.seen[..], whole.seen[..device.seen.len()]);
+            if room == script.len() {
+                assert_eq!((ended, &pairs), (outcome, &log));
+            } else {
+                let Access::Read(port, _) = whole.seen[device.seen.len()] else { panic!("a write is left out") };
+                assert_eq!(ended.lacks(), Some(port));
+            }
+        }
+    }
+}
+
+/// A controller that takes its time: a byte that was written is taken after some looks at the status, and answered by FA after more.
 struct Slow {
     looks: u32,
-    after: u32,
-    waits: Option<u8>,
-    answers: bool,
+    taken_after: u32,
+    answered_after: Option<u32>,
+    answer: Option<u8>,
 }
 
 impl Ports for Slow {
-    fn read(&mut self, port: u16) -> u8 {
-        if port == DATA {
-            return self.waits.take().unwrap_or(0x77);
+    fn read(&mut self, port: Port) -> u8 {
+        if port == Port::Data {
+            return self.answer.take().unwrap_or(0x77);
         }
         self.looks += 1;
-        let taken = self.looks > self.after;
-        if self.looks == 2 * self.after && self.answers {
-            self.waits = Some(0xFA);
+        if Some(self.looks) == self.answered_after {
+            self.answer = Some(0xFA);
         }
-        u8::from(self.waits.is_some()) | if taken { 0 } else { 2 }
+        u8::from(self.answer.is_some()) | if self.looks < self.taken_after { 2 } else { 0 }
     }
 
-    fn write(&mut self, _port: u16, _value: u8) {
+    fn write(&mut self, _port: Port, _value: u8) {
         self.looks = 0;
     }
 }
 
 #[test]
 fn patience_keeps_scripts_short() {
-    let slow = Slow { looks: 100, after: 100, waits: None, answers: true };
-    let mut patient = Patient::new(slow, std::time::Duration::from_secs(60));
-    let driven = drive(&mut patient, |script, log| vd_keyboard_lamps(4, script, log));
-    // Status before sending; after it busy, then free, then a byte; its data; and so again for the second byte.
+    let slow = Slow { looks: 1_000, taken_after: 100, answered_after: Some(300), answer: None };
+    let mut patient = Patient::new(slow, Duration::from_secs(60));
+    let driven = drive(&mut patient, |script, log| keyboard::lamps(Lamps::CAPS, script, log));
+    assert!(driven.outcome.is_ok());
+    // The status before a byte is sent; after it busy, then no more, then a byte; its data: for ED, and for the lamps.
     assert_eq!(driven.script, [0, 2, 0, 1, 0xFA, 0, 2, 0, 1, 0xFA]);
-    assert_eq!((driven.outcome.refusal, driven.log), (0, vec![0x60, 0xED, 0x60, 4]));
+    assert_eq!(driven.log, [0x60, 0xED, 0x60, 0x04]);
+    // Without patience every look is in the script.
+    let mut slow = Slow { looks: 1_000, taken_after: 100, answered_after: Some(300), answer: None };
+    let impatient = drive(&mut slow, |script, log| keyboard::lamps(Lamps::CAPS, script, log));
+    assert_eq!((impatient.outcome.is_ok(), impatient.script.len(), impatient.log), (true, 604, driven.log));
 }
 
 #[test]
 fn a_silent_device_is_given_up() {
-    let slow = Slow { looks: 10, after: 10, waits: None, answers: false };
-    let mut patient = Patient::new(slow, std::time::Duration::from_millis(10));
+    let mut patient = Patient::new(
+        Slow { looks: 0, taken_after: 0, answered_after: None, answer: None },
+        Duration::from_millis(20),
+    );
     let begin = std::time::Instant::now();
-    let driven = drive(&mut patient, |script, log| vd_keyboard_lamps(4, script, log));
-    // One sending, and 65,535 polls that find nothing.
-    assert_eq!((driven.outcome.refusal, driven.script.len()), (14, 65_536));
-    eprintln!("given up after {:?}", begin.elapsed());
+    let driven = drive(&mut patient, |script, log| keyboard::lamps(Lamps::CAPS, script, log));
+    // One look before ED is sent, and 65,535 polls that find nothing.
+    assert_eq!(driven.outcome.map_err(|refused| refused.refusal).err(), Some(Refusal::LedsNotSet));
+    assert_eq!(driven.script, [0; 65_536]);
+    println!("a silent keyboard was given up after {:?}", begin.elapsed());
+
+    // Data that is not there is the port's old byte.
+    assert_eq!(patient.read(Port::Data), 0x77);
 }
 
-/// An operation made up by chance that writes more than any of the library's: `drive` gives it the room.
+/// An operation made up by chance that writes more than any of the library: `drive` gives it the room.
 #[test]
 fn a_log_that_grows() {
-    struct Ended(End);
-    impl Outcome for Ended {
-        fn end(&self) -> End {
-            self.0
-        }
-    }
-    let operation = |script: &[u8], log: &mut [u8]| {
+    fn operation(script: &[u8], log: &mut [u8]) -> Result<Counts, RefusedWith> {
         let mut chance = Chance(1);
-        let (mut used, mut pairs) = (0, 0);
+        let mut done = Counts { used: 0, pairs: 0 };
         for _ in 0..2_000 {
-            let port = [DATA, STATUS][chance.below(2) as usize];
+            let port = chance.pick(&[Port::Data, Port::Status]);
             if chance.below(3) == 0 {
-                let Some(byte) = script.get(used) else {
-                    return Ended(End { refusal: 2, port: port.into(), used, pairs });
-                };
-                used += 1;
-                chance.0 ^= u64::from(*byte);
+                let lack = RefusedWith { refusal: Refusal::ScriptEnds(port), done };
+                chance.0 ^= u64::from(*script.get(done.used).ok_or(lack)?);
+                done.used += 1;
             } else {
-                let Some(pair) = log.get_mut(2 * pairs..2 * pairs + 2) else {
-                    return Ended(End { refusal: 3, port: 0, used, pairs });
-                };
-                pair.copy_from_slice(&[port as u8, chance.next() as u8]);
-                pairs += 1;
+                let lack = RefusedWith { refusal: Refusal::LogFull, done };
+                let pair = log.get_mut(2 * done.pairs..2 * done.pairs + 2).ok_or(lack)?;
+                pair.copy_from_slice(&[port.number(), chance.next() as u8]);
+                done.pairs += 1;
             }
         }
-        Ended(End { refusal: 0, port: 0, used, pairs })
-    };
+        Ok(done)
+    }
     let mut device = Device::new(3);
-    let driven = drive(&mut device, operation);
-    assert!(driven.log.len() > 2_000 && driven.script.len() > 500);
-    assert_eq!((driven.script.clone(), driven.log.clone()), script_and_log(&device.seen));
-    let mut room = vec![0; 4_000];
-    let uncut = operation(&driven.script, &mut room);
-    assert_eq!((uncut.0, &room[..driven.log.len()]), (driven.outcome.0, &driven.log[..]));
+    let Driven { outcome, script, log } = drive(&mut device, operation);
+    assert_eq!(outcome.map(|done| (done.used() > 500, done.pairs() > 1_000)), Ok((true, true)));
+    assert_eq!((script.clone(), log.clone()), script_and_log(&device.seen));
+    let mut room = vec![0; log.len()];
+    assert_eq!((operation(&script, &mut room), room), (outcome, log));
 }
