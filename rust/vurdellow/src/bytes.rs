@@ -72,8 +72,14 @@ pub struct Salvaged {
 /// assert_eq!(positions[..done.dropped], [0, 1]);
 /// # Ok::<(), vurdellow::Refused<vurdellow::Salvaged>>(())
 /// ```
-pub fn salvage(identity: Identity, bytes: &[u8], packets: &mut [u8], positions: &mut [u64]) -> Result<Salvaged, Refused<Salvaged>> {
-    let raw::vd_salvaged { refusal, used, packet_bytes, dropped } = raw::vd_salvage(identity.number(), bytes, packets, positions);
+pub fn salvage(
+    identity: Identity,
+    bytes: &[u8],
+    packets: &mut [u8],
+    positions: &mut [u64],
+) -> Result<Salvaged, Refused<Salvaged>> {
+    let raw::vd_salvaged { refusal, used, packet_bytes, dropped } =
+        raw::vd_salvage(identity.number(), bytes, packets, positions);
     let done = Salvaged { used, packet_bytes, dropped };
     settled(Refusal::answered(refusal, 0), done, done)
 }

@@ -25,7 +25,11 @@ impl Controller {
     /// assert_eq!((run.pairs(), &log[..4]), (2, &[0x64, 0xAD, 0x64, 0xA7][..]));
     /// ```
     pub fn initialize(&mut self, script: &[u8], log: &mut [u8]) -> Exchange<()> {
-        let passed = raw::vd_controller { initialized: self.initialized.into(), keyboard: self.keyboard.into(), mouse: self.mouse.into() };
+        let passed = raw::vd_controller {
+            initialized: self.initialized.into(),
+            keyboard: self.keyboard.into(),
+            mouse: self.mouse.into(),
+        };
         let answer = raw::vd_controller_init(passed, script, log);
         let raw::vd_initialized { refusal, port, used, pairs, controller } = answer;
         *self = Controller {

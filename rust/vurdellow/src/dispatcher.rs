@@ -65,7 +65,13 @@ impl Step {
     /// Where each of three steps in a row does not, and none is idle, no later step with the same scripts does either.
     pub fn is_progress(&self) -> bool {
         match self {
-            Step::Key(_, call) => call.used() > 0 || !matches!(call.refusal(), Some(Refusal::ScriptEnds(_) | Refusal::LogFull | Refusal::MalformedRecord)),
+            Step::Key(_, call) => {
+                call.used() > 0
+                    || !matches!(
+                        call.refusal(),
+                        Some(Refusal::ScriptEnds(_) | Refusal::LogFull | Refusal::MalformedRecord)
+                    )
+            }
             Step::Packet(read) => read.used() > 0,
             Step::Idle => false,
         }

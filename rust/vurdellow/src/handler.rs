@@ -79,12 +79,8 @@ impl Counted for Handled {
 
 /// The result of a handler call's answer.
 pub(crate) fn handled(answer: raw::vd_handled) -> Result<Handled, Refused<Handled>> {
-    let done = Handled {
-        used: answer.used,
-        pairs: answer.pairs,
-        lamps_failed: answer.lamps != 0,
-        dropped: answer.dropped,
-    };
+    let done =
+        Handled { used: answer.used, pairs: answer.pairs, lamps_failed: answer.lamps != 0, dropped: answer.dropped };
     settled(Refusal::answered(answer.refusal, answer.port), done, done)
 }
 
@@ -144,7 +140,13 @@ impl Handler {
     }
 
     /// Makes this handler a fresh one, whatever the exchange then answers; detects the first keyboard, and asks it for scancode set 1.
-    pub fn initialize(&mut self, keyboards: Keyboards, profile: Profile, script: &[u8], log: &mut [u8]) -> Exchange<()> {
+    pub fn initialize(
+        &mut self,
+        keyboards: Keyboards,
+        profile: Profile,
+        script: &[u8],
+        log: &mut [u8],
+    ) -> Exchange<()> {
         exchanged(raw::vd_keyboard_init(&mut self.words, keyboards.number(), profile.number(), script, log), |_| ())
     }
 

@@ -53,3 +53,8 @@ pub use mouse::{Identity, Mouse, MouseCommand, Packet, Resolution, SamplingRate}
 pub use preferences::{Fields, Preferences};
 pub use refusal::{Counted, Counts, Done, Exchange, Outcome, Port, Refusal, Refused};
 pub use report::{LongReport, Mean, Report, REPORT_KEYS};
+
+/// The examples of docs/USING.md are tested with those here.
+#[cfg(doctest)]
+#[doc = include_str!("../../../docs/USING.md")]
+struct Using;

@@ -197,7 +197,9 @@ impl Refusal {
 impl fmt::Display for Refusal {
     fn fmt(&self, f: &mut fmt::Formatter<'_>) -> fmt::Result {
         let words = match self {
-            Refusal::ScriptEnds(port) => return write!(f, "refused 2: the script has no byte for the next read, of port {:X}", port.number()),
+            Refusal::ScriptEnds(port) => {
+                return write!(f, "refused 2: the script has no byte for the next read, of port {:X}", port.number())
+            }
             Refusal::AlreadyInitialized => "the controller is initialised already",
             Refusal::LogFull => "the log has not two free bytes for the next write",
             Refusal::InputBufferFull => "the controller was not ready for a byte at 255 reads of the status",

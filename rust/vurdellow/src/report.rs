@@ -49,7 +49,8 @@ impl Report {
     /// Adds a session: its events, a byte each ([`Event::code`](crate::Event::code)), and its mouse bytes, in packets of one identity.
     /// Refused with 32 where a number would be outside its range, with the report as it was.
     pub fn add(&mut self, identity: Identity, events: &[u8], mouse: &[u8]) -> Result<(), Refusal> {
-        let raw::vd_report_added { refusal, report } = raw::vd_report_add(self.numbers(), identity.number(), events, mouse);
+        let raw::vd_report_added { refusal, report } =
+            raw::vd_report_add(self.numbers(), identity.number(), events, mouse);
         *self = Report::of(report);
         Refusal::answered(refusal, 0).map_or(Ok(()), Err)
     }
@@ -110,7 +111,8 @@ impl LongReport {
     /// Adds a session, as [`Report::add`] does, within the wider limits.
     /// Refused with 32 where a number would be outside its range, with the report as it was.
     pub fn add(&mut self, identity: Identity, events: &[u8], mouse: &[u8]) -> Result<(), Refusal> {
-        let raw::vd_long_added { refusal, report } = raw::vd_long_report_add(self.numbers(), identity.number(), events, mouse);
+        let raw::vd_long_added { refusal, report } =
+            raw::vd_long_report_add(self.numbers(), identity.number(), events, mouse);
         *self = LongReport::of(report);
         Refusal::answered(refusal, 0).map_or(Ok(()), Err)
     }

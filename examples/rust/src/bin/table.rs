@@ -20,7 +20,13 @@ const USAGE: &str = "usage: table [--one] [FIRST SECOND MOUSE [IDENTITY]], with 
 
 fn print_event(out: &mut impl Write, event: Event) -> io::Result<()> {
     let letter = if event.is_press() { 'P' } else { 'R' };
-    write!(out, "side {}: {:02X} {letter} {:03X} ", event.side.number(), event.keycode.number(), event.modifiers.bits())?;
+    write!(
+        out,
+        "side {}: {:02X} {letter} {:03X} ",
+        event.side.number(),
+        event.keycode.number(),
+        event.modifiers.bits()
+    )?;
     match event.character() {
         Some(character) => writeln!(out, "{character:?}"),
         None => writeln!(out, "{:?}", event.keycode),
@@ -29,7 +35,13 @@ fn print_event(out: &mut impl Write, event: Event) -> io::Result<()> {
 
 fn print_packet(out: &mut impl Write, packet: Packet) -> io::Result<()> {
     write!(out, "mouse: x {} y {} wheel {}", packet.x, packet.y, packet.wheel)?;
-    let buttons = [(packet.left(), "left"), (packet.right(), "right"), (packet.middle(), "middle"), (packet.fourth(), "fourth"), (packet.fifth(), "fifth")];
+    let buttons = [
+        (packet.left(), "left"),
+        (packet.right(), "right"),
+        (packet.middle(), "middle"),
+        (packet.fourth(), "fourth"),
+        (packet.fifth(), "fifth"),
+    ];
     for (_, name) in buttons.iter().filter(|(pressed, _)| *pressed) {
         write!(out, " {name}")?;
     }
@@ -65,7 +77,12 @@ fn serve(out: &mut impl Write, table: &mut Dispatcher, [first, second, third]: [
     stuck.sort_by_key(|(side, _)| *side);
     stuck.dedup();
     for (side, refusal) in stuck {
-        writeln!(out, "side {} waits, with {} waiting bytes, and is {refusal}", side.number(), table.waiting_bytes(side))?;
+        writeln!(
+            out,
+            "side {} waits, with {} waiting bytes, and is {refusal}",
+            side.number(),
+            table.waiting_bytes(side)
+        )?;
     }
     Ok(())
 }
