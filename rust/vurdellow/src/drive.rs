@@ -14,9 +14,9 @@
 //!
 //! So the device sees the reads and writes of one uncut run, each once and in its place.
 
-use crate::refusal::{Outcome, Port, Refusal};
+use crate::refusal::{Outcome, Port};
 #[cfg(feature = "std")]
-use crate::LOG_BYTES;
+use crate::{Refusal, LOG_BYTES};
 #[cfg(feature = "std")]
 use std::time::{Duration, Instant};
 

@@ -426,10 +426,8 @@ fn patience_keeps_scripts_short() {
 
 #[test]
 fn a_silent_device_is_given_up() {
-    let mut patient = Patient::new(
-        Slow { looks: 0, taken_after: 0, answered_after: None, answer: None },
-        Duration::from_millis(20),
-    );
+    let mut patient =
+        Patient::new(Slow { looks: 0, taken_after: 0, answered_after: None, answer: None }, Duration::from_millis(20));
     let begin = std::time::Instant::now();
     let driven = drive(&mut patient, |script, log| keyboard::lamps(Lamps::CAPS, script, log));
     // One look before ED is sent, and 65,535 polls that find nothing.
