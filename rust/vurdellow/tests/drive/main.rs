@@ -363,6 +363,57 @@ fn handler_calls_over_devices_by_chance() {
     }
 }
 
+/// Drivers that do it wrong, each in one way.
+#[derive(Clone, Copy, Debug)]
+enum Wrong {
+    /// All writes are made at the end.
+    Late,
+    /// All pairs of each run are written, not the new ones.
+    Twice,
+    /// The status is read whatever port is named.
+    Port,
+    /// A byte is read before the writes are made that come before it.
+    Early,
+}
+
+fn drive_wrongly<R: Outcome>(wrong: Wrong, ports: &mut Device, operation: impl Fn(&[u8], &mut [u8]) -> R) {
+    let (mut script, mut log, mut written) = (Vec::new(), [0; 160], 0);
+    loop {
+        let outcome = operation(&script, &mut log);
+        let lack = outcome.lacks();
+        if let (Wrong::Early, Some(port)) = (wrong, lack) {
+            script.push(ports.read(port));
+        }
+        if lack.is_none() || !matches!(wrong, Wrong::Late) {
+            let from = if matches!(wrong, Wrong::Twice) { 0 } else { written };
+            for pair in log[2 * from..2 * outcome.pairs()].chunks_exact(2) {
+                ports.write(Port::from_number(pair[0]).unwrap(), pair[1]);
+            }
+            written = outcome.pairs();
+        }
+        match (wrong, lack) {
+            (_, None) => return,
+            _ if script.len() > 1_000 => return,
+            (Wrong::Early, _) => {}
+            (Wrong::Port, _) => script.push(ports.read(Port::Status)),
+            (_, Some(port)) => script.push(ports.read(port)),
+        }
+    }
+}
+
+#[test]
+fn wrong_drivers_are_found() {
+    for wrong in [Wrong::Late, Wrong::Twice, Wrong::Port, Wrong::Early] {
+        let found = |seed: &u64| {
+            let (mut device, mut other) = (Device::new(*seed), Device::new(*seed));
+            let _ = Direct { ports: &mut other, thrown: Vec::new() }.lamps(Way::First, 4);
+            drive_wrongly(wrong, &mut device, |script, log| keyboard::lamps(Lamps::CAPS, script, log));
+            device.seen != other.seen
+        };
+        assert!((0..100).filter(found).count() > 90, "{wrong:?}");
+    }
+}
+
 #[test]
 fn in_lent_room() {
     for seed in 0..200 {
