@@ -36,11 +36,11 @@ fn traces(folder: &Path, short: bool) -> io::Result<usize> {
         let made = traces::make(&std::fs::read_to_string(folder.join(name))?, anew, &own, short)?;
         println!("  {name}: {what}");
         for compared in &made.compared {
-            let (times, first) = (compared.times, &compared.first);
-            match compared.read.len() {
-                0..=160 => println!("    {times:3} {}: {first} read {}", compared.name, compared.read),
-                _ => println!("    {times:3} {}: {first} read {} bytes", compared.name, compared.read.len() / 2),
-            }
+            let read = match compared.read.len() {
+                0..=160 => compared.read.clone(),
+                digits => format!("{} bytes", digits / 2),
+            };
+            println!("    {:3} {}; first {}: read {read}", compared.times, compared.name, compared.first);
         }
         println!("    the longest script has {} bytes", made.longest);
         if made.by_hand + made.passed_over > 0 {
@@ -69,7 +69,7 @@ fn lamps() -> io::Result<usize> {
         for (at, caught) in lamps::show(way)?.iter().enumerate() {
             let script: Vec<String> = caught.script.iter().map(|byte| format!("{byte:02X}")).collect();
             let said = if caught.is_whole() { "Caps Lock, then A under it" } else { "OTHERWISE" };
-            println!("    {at}: read {}, {} waiting: {said}", script.join(" "), caught.waiting);
+            println!("    before access {at}: read {}, {} waiting: {said}", script.join(" "), caught.waiting);
             lost += usize::from(!caught.is_whole());
         }
     }

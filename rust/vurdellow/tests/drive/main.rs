@@ -323,10 +323,15 @@ fn one(kind: usize, seed: u64) -> usize {
     other.seen.len()
 }
 
+/// How many devices: as many as the variable DEVICES says, otherwise few enough for the gate.
+fn seeds() -> std::ops::Range<u64> {
+    0..std::env::var("DEVICES").map_or(400, |number| number.parse().expect("a number"))
+}
+
 #[test]
 fn every_operation_over_devices_by_chance() {
     let mut accesses = [0; KINDS];
-    for seed in 0..2_000 {
+    for seed in seeds() {
         for (kind, accesses) in accesses.iter_mut().enumerate() {
             *accesses += one(kind, seed);
         }
@@ -337,7 +342,7 @@ fn every_operation_over_devices_by_chance() {
 
 #[test]
 fn handler_calls_over_devices_by_chance() {
-    for seed in 0..1_000 {
+    for seed in seeds() {
         let mut handler = Handler::new(Keyboards::Two, Profile::Any);
         let mut remembered = [Remembered::default(), Remembered::default()];
         let mut device = Device::new(seed);
