@@ -109,7 +109,7 @@ pub fn drive<R: Outcome>(ports: &mut impl Ports, mut operation: impl FnMut(&[u8]
 /// The same in lent room, where nothing can be allocated. Gives how many bytes were read, too.
 ///
 /// It also ends, with the operation's lack, where the script has no room for one byte more, or the log for one pair more
-/// ([`LOG_BYTES`](crate::LOG_BYTES) suffice always). The device is then left in the middle of the exchange.
+/// ([`crate::LOG_BYTES`] suffice always). The device is then left in the middle of the exchange.
 pub fn drive_within<R: Outcome>(
     ports: &mut impl Ports,
     script: &mut [u8],
@@ -214,7 +214,10 @@ impl<P: Ports> Ports for Patient<P> {
             }
             return self.ports.read(Port::Data);
         }
-        let status = self.status_when(|status| given.map_or(true, |given| (status ^ given) & THAT_MATTER != 0));
+        let status = match given {
+            Some(given) => self.status_when(|status| (status ^ given) & THAT_MATTER != 0),
+            None => self.ports.read(Port::Status),
+        };
         self.given = Some(status);
         status
     }
