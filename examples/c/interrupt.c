@@ -6,6 +6,9 @@
    does), and keeps keyboard interrupts away until it is done: what the keyboard sends meanwhile is the exchange's to read. Keys among
    that are not lost, but wait in the record, and the thread handles them too.
 
+   The exchange takes whatever byte comes, a mouse's too. So a mouse that sends packets is kept quiet meanwhile, by the controller's commands
+   A7 and A8 or by vd_mouse_stop_packets.
+
    One record has one caller: while interrupts are kept away it is the thread's, otherwise the interrupt's. Whoever takes events keeps the
    interrupt away for as long. The machine, at the end, is made up, so that this runs by itself. */
 #include <stdio.h>
@@ -27,8 +30,8 @@ static void keyboard_interrupt(void)
     uint8_t byte;
     vd_handled call;
 
-    /* An interrupt may be left over from a byte that the exchange has read. */
-    if (!(inb(VD_STATUS_PORT) & 1))
+    /* An interrupt may be left over from a byte that the exchange has read; and bit 5 says that the byte is the mouse's. */
+    if ((inb(VD_STATUS_PORT) & 0x21) != 0x01)
         return;
     byte = inb(VD_DATA_PORT);
     call = vd_handle(keyboard, VD_HANDLER_WORDS, VD_SIDE_1, &byte, 1, NULL, 0);
