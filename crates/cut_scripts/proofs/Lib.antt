@@ -8,4 +8,7 @@ pub mod Coded
 pub mod Answers
 pub mod Entries
 pub mod Words
+pub mod Told
+pub mod MouseLeft
+pub mod KeyboardInit
 pub mod Worked

@@ -11,11 +11,12 @@ use Rattle.exchange.specs.Answer.{numberAnswered, numberEnded}
 use Rattle.keyboard_sides.specs.declared.Side.{Side}
 use Rattle.keyboard.specs.Handler.{Outcome, endOutcome, handle, effects, logLeft, handled}
 use Rattle.keyboard.specs.KeyboardLamps.{keyboardLamps}
+use Rattle.port_words.specs.Told.{portLacked}
 use Rattle.handler_words.specs.declared.HandledWords.{HandledWords}
 use Rattle.handler_words.specs.Layout.{wordsLength}
 use Rattle.handler_words.specs.Words.{stateOf}
 use Rattle.handler_words.specs.Arguments.{sideAt}
-use Rattle.handler_words.specs.Calls.{portLacked, wordsLeft, SideHandled, WordsHandled}
+use Rattle.handler_words.specs.Calls.{wordsLeft, SideHandled, WordsHandled}
 use Rattle.cut_scripts.specs.CutShort.{Handed, handed, nextPort, CutShort}
 use Rattle.cut_scripts.specs.Words.{WordsBack, wordsBack, twoWords}
 use Rattle.cut_scripts.proofs.CutShort.{handedBy, cut-short}

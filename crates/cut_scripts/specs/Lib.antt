@@ -5,3 +5,4 @@ pub mod SoFar
 pub mod Room
 pub mod Coded
 pub mod Words
+pub mod Told

@@ -24,12 +24,13 @@ use Rattle.keyboard.specs.KeyboardLamps.{keyboardLamps}
 use Rattle.keyboard.specs.Outcomes.{saidEvent, saidEffect}
 use Rattle.keyboard.proofs.Effects.{queued-well}
 use Rattle.keyboard.proofs.Refused.{record-as-passed}
+use Rattle.port_words.specs.Told.{portLacked}
 use Rattle.handler_words.specs.declared.FoundSide.{FoundSide}
 use Rattle.handler_words.specs.declared.HandledWords.{HandledWords}
 use Rattle.handler_words.specs.Layout.{keyboardFrom, wordsLength}
 use Rattle.handler_words.specs.Words.{bytesIn, eventAt, wordOf, keyboardIn, stateOf, recordOf}
 use Rattle.handler_words.specs.Arguments.{sideAt}
-use Rattle.handler_words.specs.Calls.{portLacked, numbersOf, withKeyboardAt, withEvent, wordsLeft, SideHandled, AtSide, WordsHandled}
+use Rattle.handler_words.specs.Calls.{numbersOf, withKeyboardAt, withEvent, wordsLeft, SideHandled, AtSide, WordsHandled}
 use Rattle.handler_words.specs.Parts.{saidSide, Narrow, Placed, reread}
 use Rattle.handler_words.proofs.Words.{keyboard-stored, withQueue, event-stored}
 use Rattle.handler_words.proofs.Left.{StateLeft, same, more, state-left}

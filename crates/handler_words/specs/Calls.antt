@@ -7,7 +7,6 @@ use mathlib.Core.Path.{_≡_}
 use Prim.Native.Nat.{ℕ, _+_}
 use lib.ListN.{length, set}
 use Rattle.bits.specs.Bits.{weigh}
-use Rattle.exchange.specs.Exchange.{noScript, noLog, End, yields, lacks, number}
 use Rattle.exchange.specs.Answer.{Answer, gives, refuses, numberAnswered, numberEnded}
 use Rattle.keycodes_ascii.specs.declared.KeyEvent.{KeyEvent}
 use Rattle.keycodes_ascii.specs.Keycode.{numberOf}
@@ -23,6 +22,7 @@ use Rattle.keyboard_record.specs.Taking.{taken}
 use Rattle.keyboard.specs.Answers.{ends2-3-21}
 use Rattle.keyboard.specs.Handler.{Effects, Called, effects, logLeft, handled}
 use Rattle.keyboard.specs.KeyboardLamps.{keyboardLamps}
+use Rattle.port_words.specs.Told.{portLacked}
 use Rattle.handler_words.specs.declared.HandledWords.{HandledWords}
 use Rattle.handler_words.specs.declared.TakenWords.{TakenWords}
 use Rattle.handler_words.specs.Layout.{keyboardFrom, startAt, countAt, lowSidesAt, highSidesAt, placesFrom, wordsLength}
@@ -30,12 +30,6 @@ use Rattle.handler_words.specs.Words.{actionNumber, lowBytes, highBytes,
 use Rattle.handler_words.specs.Arguments.{meansNothing, sideAt, sideNumber, tableAt}
 
 -- ---- the handler call
-
--- The port of the read that a script was too short for, and 0 where there was none.
-abbrev pub portLacked : {A : Type 0} → End A → ℕ
-portLacked (yields a) = 0
-portLacked (lacks (noScript p)) = number p
-portLacked (lacks noLog) = 0
 
 -- What a call answers, as numbers: the refusal's and that of the lamp exchange beside it, 0 where there is none; script bytes used and pairs written; bytes dropped; the port of a lack.
 abbrev pub numbersOf : Called → HandledWords

@@ -1,5 +1,6 @@
 // Mouse packets: three bytes at identity 0, four at identities 3 and 4.
 ghost use mathlib.Core.Path.{_≡_};
+ghost use lib.IntN.{pos};
 ghost use Rattle.bits.specs.Bits.{bit, weigh};
 ghost use Rattle.ps2_packet.specs.Signed.{twosComplement, lessIf};
 ghost use Rattle.ps2_packet.specs.Packet.{
@@ -97,22 +98,44 @@ impl MousePacketGeneric {
     pub fn x_movement(self) -> i16
         ensures { λ r. ⌜ r ≡ xMovement self ⌝ }
     {
-        moved(self.byte1, X_OVERFLOW, X_9TH_BIT, self.byte2)
+        self.wide_x_movement() as i16
     }
 
     pub fn y_movement(self) -> i16
+        ensures { λ r. ⌜ r ≡ yMovement self ⌝ }
+    {
+        self.wide_y_movement() as i16
+    }
+
+    // The movements in the width of their sums.
+    pub fn wide_x_movement(self) -> i64
+        ensures { λ r. ⌜ r ≡ xMovement self ⌝ }
+    {
+        moved(self.byte1, X_OVERFLOW, X_9TH_BIT, self.byte2)
+    }
+
+    pub fn wide_y_movement(self) -> i64
         ensures { λ r. ⌜ r ≡ yMovement self ⌝ }
     {
         moved(self.byte1, Y_OVERFLOW, Y_9TH_BIT, self.byte3)
     }
 }
 
-// A movement: `bit1to8`, or all ones on overflow, with the ninth bit. Byte 1 has these two bits where the caller says.
-fn moved(byte1: u8, overflow: u8, bit9: u8, bit1to8: u8) -> i16
+// A movement: `bit1to8`, or all ones on overflow, less 256 where the ninth bit is set. Byte 1 has these two bits where the caller says.
+// Nothing is chosen: bytes by chance would mislead a choice half the time.
+fn moved(byte1: u8, overflow: u8, bit9: u8, bit1to8: u8) -> i64
     ensures { λ r. ⌜ r ≡ movement (bit overflow byte1) (bit bit9 byte1) bit1to8 ⌝ }
 {
-    let low = if has(byte1, overflow) { 255 } else { bit1to8 };
-    to_2s_complement(low, has(byte1, bit9))
+    let ones = 255 * bit_of(byte1, overflow);
+    let low = wide(ones | bit1to8);
+    let sign = wide(bit_of(byte1, bit9));
+    low - 256 * sign
+}
+
+fn wide(byte: u8) -> i64
+    ensures { λ r. ⌜ r ≡ pos byte ⌝ }
+{
+    byte as i64
 }
 
 // The number of nine bits whose ninth, the sign, stands by itself.

@@ -248,6 +248,7 @@ pub fn mean_of(sum: i64, packets: u64) -> Mean
 // ---- the report in 32 bits
 
 // Presses for each key, packets, and sums of x and y.
+#[repr(C)]
 pub struct Report {
     pub presses: [u32; 94],
     pub packets: u32,

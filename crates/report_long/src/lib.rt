@@ -15,6 +15,7 @@ use report_totals::Totals;
 use report_totals::tally;
 
 // Presses for each key, packets, and sums of x and y.
+#[repr(C)]
 pub struct LongReport {
     pub totals: Totals,
 }

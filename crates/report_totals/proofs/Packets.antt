@@ -2,7 +2,8 @@
 -- Assumes nothing.
 use mathlib.Core.Path.{_≡_, refl, ap, sym, _∙_}
 use mathlib.Core.List.{List, [], _∷_}
-use Prim.Native.Nat.{ℕ, zero, suc, _+_, _-_, _*_, _≤_, _<_}
+use Prim.Native.Nat.{ℕ, zero, suc, _+_, _-_, _*_, _/_, _≤_, _<_}
+use native.Mathlib.Nat.{add-mul, one-mul}
 use native.Mathlib.Numerals.{add-one}
 use native.Mathlib.Omega.{arith}
 use lib.ListN.{length, getD, drop, length-drop}
@@ -25,6 +26,20 @@ pub length-high : (id : MouseId) → packetLength id ≤ 4
 length-high Identity.Zero = omega arith
 length-high Identity.Three = omega arith
 length-high Identity.Four = omega arith
+
+-- a whole packet is ahead where fewer were passed than there are, and none where all were
+pub whole-ahead : (id : MouseId) (n packets at : ℕ) → at ≡ packets * packetLength id → packets < n / packetLength id → at + packetLength id ≤ n
+whole-ahead Identity.Zero n packets at e h = omega arith
+whole-ahead Identity.Three n packets at e h = omega arith
+whole-ahead Identity.Four n packets at e h = omega arith
+
+pub none-ahead : (id : MouseId) (n packets at : ℕ) → at ≡ packets * packetLength id → n / packetLength id ≤ packets → n < at + packetLength id
+none-ahead Identity.Zero n packets at e h = omega arith
+none-ahead Identity.Three n packets at e h = omega arith
+none-ahead Identity.Four n packets at e h = omega arith
+
+pub next-place : (id : MouseId) {packet at : ℕ} (packets : ℕ) → at ≡ packets * packetLength id → packet ≡ packetLength id → at + packet ≡ (packets + 1) * packetLength id
+next-place id packets e p = rw (e, p, add-mul packets 1 (packetLength id), one-mul (packetLength id)) refl
 
 next : (l : List ℕ) (i j : ℕ) → j ≡ i + 1 → i < length l → drop i l ≡ getD l i 0 ∷ drop j l
 next l i j e h = let s : suc i ≡ j = omega arith in drop-cons l i 0 h ∙ ap (λ (k : ℕ). getD l i 0 ∷ drop k l) s

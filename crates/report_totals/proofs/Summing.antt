@@ -9,7 +9,7 @@ use lib.IntN.{ℤ, pos, negsuc, _+ℤ_, +ℤ-idl, +ℤ-idr, +ℤ-assoc}
 use lib.Dec.{leb→le}
 use lib.ListN.{length, getD, drop}
 use lib.Signed.{mag}
-use mir.Syntax.{w16, w64}
+use mir.Syntax.{w64}
 use mir.Val.{toZ, ofZ}
 use mir.Facts.{toZ-ofZ}
 use Rattle.bits.specs.Bits.{bit}
@@ -38,8 +38,12 @@ x-small a b c h k = mag-between (xMovement (generic a b c)) (movement-range (bit
 pub y-small : Small yMovement
 y-small a b c h k = mag-between (yMovement (generic a b c)) (movement-range (bit yOverflow a) (bit ySign a) c k)
 
-read-back : (z : ℤ) → mag z ≤ 255 → toZ w16 (ofZ w16 z) ≡ z
-read-back z h = toZ-ofZ {w = w16} {z = z} (record { sfits = omega arith })
+read-back : (z : ℤ) → mag z ≤ 255 → toZ w64 (ofZ w64 z) ≡ z
+read-back z h = toZ-ofZ {w = w64} {z = z} (record { sfits = omega arith })
+
+-- a movement that a call gave, read back from its bits
+pub read-small : (f : MousePacketGeneric → ℤ) {m : ℤ} {p : MousePacketGeneric} {a b c : ℕ} → Small f → m ≡ f p → p ≡ generic a b c → b < 256 → c < 256 → mag (toZ w64 (ofZ w64 m)) ≤ 255
+read-small f {a = a} {b} {c} little em ep h k = rw (em, ep, read-back _ (little a b c h k)) (little a b c h k)
 
 -- one sum, of x or of y
 pub record Sum (f : MousePacketGeneric → ℤ) (id : MouseId) (bytes : List ℕ) (at : ℕ) (s : ℤ) : Type 0 where
@@ -101,7 +105,7 @@ module _ {id : MouseId} {bytes : List ℕ} {at packets : ℕ} {x y : ℤ} (u : S
 
   -- the same of what calls gave, movements and sums read back from their bits
   pub summing-again : {packet : ℕ} {p : MousePacketGeneric} {xm ym x′ y′ : ℤ} → ((i : ℕ) → getD bytes i 0 < 256) → length bytes < tallyBytes → packet ≡ packetLength id → at + packet ≤ length bytes
-      → p ≡ generic (getD bytes at 0) (getD bytes (at + 1) 0) (getD bytes (at + 2) 0) → xm ≡ xMovement p → x′ ≡ x +ℤ toZ w16 (ofZ w16 xm) → ym ≡ yMovement p → y′ ≡ y +ℤ toZ w16 (ofZ w16 ym)
+      → p ≡ generic (getD bytes at 0) (getD bytes (at + 1) 0) (getD bytes (at + 2) 0) → xm ≡ xMovement p → x′ ≡ x +ℤ toZ w64 (ofZ w64 xm) → ym ≡ yMovement p → y′ ≡ y +ℤ toZ w64 (ofZ w64 ym)
       → Summing id bytes (at + packet) (packets + 1) (toZ w64 (ofZ w64 x′)) (toZ w64 (ofZ w64 y′))
   summing-again {x′ = x′} {y′ = y′} fit l e h ep exm ex eym ey =
       let here = generic (getD bytes at 0) (getD bytes (at + 1) 0) (getD bytes (at + 2) 0) in

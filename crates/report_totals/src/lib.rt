@@ -23,6 +23,7 @@ const KEYS: usize = 94;
 const TALLY_BYTES: usize = 18014398509481984;
 
 // Presses by keycode, packets, and sums of x and y.
+#[repr(C)]
 pub struct Totals {
     pub presses: [u64; 94],
     pub packets: u64,
@@ -80,11 +81,11 @@ fn tally_presses(codes: &[u8]) -> [u64; 94]
 }
 
 // A sum with a movement more. The sum is far enough from the ends.
-fn add_movement(sum: i64, movement: i16) -> i64
-    requires { ⌜ mag sum < 9223372036854710272 ⌝ }
+fn add_movement(sum: i64, movement: i64) -> i64
+    requires { ⌜ (mag sum < 9223372036854710272) × (mag movement ≤ 255) ⌝ }
     ensures { λ r. ⌜ r ≡ sum +ℤ movement ⌝ }
 {
-    sum + movement as i64
+    sum + movement
 }
 
 // The first three bytes of the packet at a place.
@@ -101,14 +102,15 @@ fn pass(id: MouseId, bytes: &[u8]) -> Moved
     ensures { λ r. ⌜ Movements id (now (bytes .entry)) (r .packets) (r .x) (r .y) ⌝ }
 {
     let packet = packet_length(id);
+    let whole = (bytes.len() / packet) as u64;
     let mut packets: u64 = 0;
     let mut x: i64 = 0;
     let mut y: i64 = 0;
     let mut at: usize = 0;
-    while at + packet <= bytes.len() {
+    while packets < whole {
         let p = packet_at(bytes, at);
-        x = add_movement(x, p.x_movement());
-        y = add_movement(y, p.y_movement());
+        x = add_movement(x, p.wide_x_movement());
+        y = add_movement(y, p.wide_y_movement());
         packets += 1;
         at += packet;
     }

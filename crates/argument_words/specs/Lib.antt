@@ -1,0 +1,2 @@
+-- What the numbers of an argument stand for.
+pub mod Arguments

@@ -1,0 +1,2 @@
+-- The laws of the controller's initialisation by numbers.
+pub mod Controller

@@ -1,0 +1,2 @@
+-- The controller's initialisation by numbers.
+pub mod Controller

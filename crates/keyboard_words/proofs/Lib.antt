@@ -1,0 +1,3 @@
+-- The laws of the keyboard's operations by numbers.
+pub mod Arguments
+pub mod Initialized

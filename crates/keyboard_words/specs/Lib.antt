@@ -1,0 +1,3 @@
+-- The keyboard's operations by numbers.
+pub mod Arguments
+pub mod Operations

@@ -1,0 +1,3 @@
+-- The laws of answers as numbers.
+pub mod Numbers
+pub mod Tells

@@ -1,0 +1,4 @@
+-- The laws of preferences as numbers.
+pub mod Record
+pub mod Writing
+pub mod Reading

@@ -1,0 +1,2 @@
+-- Reports as numbers.
+pub mod Words

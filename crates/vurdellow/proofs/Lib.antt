@@ -1,0 +1,2 @@
+-- The laws of the library's functions together.
+pub mod Events

@@ -1,0 +1,2 @@
+-- How the library's functions go together.
+pub mod Events
