@@ -40,7 +40,11 @@ fn traces(folder: &Path, short: bool) -> io::Result<usize> {
                 0..=160 => compared.read.clone(),
                 digits => format!("{} bytes", digits / 2),
             };
-            println!("    {:3} {}; first {}: read {read}", compared.times, compared.name, compared.first);
+            let with = match compared.first[compared.name.len()..].trim() {
+                "" => String::new(),
+                arguments => format!(", {arguments},"),
+            };
+            println!("    {:3} {}; the first{with} read {read}", compared.times, compared.name);
         }
         println!("    the longest script has {} bytes", made.longest);
         if made.by_hand + made.passed_over > 0 {
@@ -59,17 +63,21 @@ fn traces(folder: &Path, short: bool) -> io::Result<usize> {
 
 fn lamps() -> io::Result<usize> {
     let mut lost = 0;
-    println!("Caps Lock, and A while its lamp exchange runs: A comes before each read and write of the call, and behind the last");
+    println!(
+        "Caps Lock, and A while its lamp exchange runs: A comes before each of its reads and writes, and at the end"
+    );
     let ways = [
         (Way::Keyboard, "pressed at the keyboard, which answers the exchange first and sends A then"),
         (Way::Controller, "in the controller already, before the answers, so that the exchange reads it"),
     ];
     for (way, what) in ways {
         println!("  {what}");
-        for (at, caught) in lamps::show(way)?.iter().enumerate() {
+        let all = lamps::show(way)?;
+        for (at, caught) in all.iter().enumerate() {
+            let place = if at + 1 < all.len() { format!("before {at}") } else { "at the end".to_string() };
             let script: Vec<String> = caught.script.iter().map(|byte| format!("{byte:02X}")).collect();
             let said = if caught.is_whole() { "Caps Lock, then A under it" } else { "OTHERWISE" };
-            println!("    before access {at}: read {}, {} waiting: {said}", script.join(" "), caught.waiting);
+            println!("    {place}: read {}, {} waiting: {said}", script.join(" "), caught.waiting);
             lost += usize::from(!caught.is_whole());
         }
     }
