@@ -9,7 +9,7 @@
    how many pairs were written.
 
    A refusal is a number: 0 none, 1 to 33 as in docs/REFUSALS.md, and 255 where an argument stands for nothing (no such side, identity,
-   table ..): then nothing was read, written or changed, and all other fields of the answer are 0. */
+   table ..): then nothing was read, written or changed, and all other fields of the answer are 0, but that a report comes back as it was. */
 #ifndef VURDELLOW_H
 #define VURDELLOW_H
 
@@ -350,7 +350,7 @@ typedef struct vd_report {
     int32_t y;
 } vd_report;
 
-/* A report with a session more, or as it was where the session is refused (32). */
+/* A report with a session more, or as it was where that is refused. */
 typedef struct vd_report_added {
     uint32_t refusal;
     vd_report report;
@@ -364,7 +364,7 @@ typedef struct vd_long_report {
     int64_t y;
 } vd_long_report;
 
-/* A long report with a session more, or as it was where the session is refused (32). */
+/* A long report with a session more, or as it was where that is refused. */
 typedef struct vd_long_added {
     uint32_t refusal;
     vd_long_report report;
@@ -508,7 +508,7 @@ vd_salvaged vd_salvage(uint32_t identity, const uint8_t *bytes, size_t bytes_len
 
 /* Writes preferences as bytes.
    Refused 28, then 23, with the output as it was; 255 where the version is not 1 or 2. */
-vd_preferences_written vd_preferences_write(vd_preferences preferences, uint8_t *out, size_t out_length);
+vd_preferences_written vd_preferences_write(vd_preferences preferences, uint8_t *output, size_t output_length);
 
 /* Reads the four fields that records of both versions have: version is 1 in the answer, and repeat 0.
    Refused 27, 28 and 29. */

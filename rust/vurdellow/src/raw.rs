@@ -238,7 +238,7 @@ functions! {
     fn vd_type_text(text: &[u8], out: &mut [u8]) -> vd_written;
     fn vd_salvage(identity: u32, bytes: &[u8], packets: &mut [u8], positions: &mut [u64]) -> vd_salvaged;
 
-    fn vd_preferences_write(preferences: vd_preferences, out: &mut [u8]) -> vd_preferences_written;
+    fn vd_preferences_write(preferences: vd_preferences, output: &mut [u8]) -> vd_preferences_written;
     fn vd_preferences_read_1(input: &[u8]) -> vd_preferences_read;
     fn vd_preferences_read_2(input: &[u8]) -> vd_preferences_read;
     fn vd_preferences_apply(preferences: vd_preferences, script: &[u8], log: &mut [u8]) -> vd_answer;
