@@ -1,5 +1,4 @@
 -- The laws of the operations on bytes as numbers.
 pub mod Keys
 pub mod Known
-pub mod Rows
 pub mod Worked

@@ -46,8 +46,12 @@ use ps2_kept::KEPT_LIMIT;
 use ps2_kept::KeptBytes;
 use ps2_kept::none_kept;
 use ps2_keyboard::read_scancode;
+use ps2_keyboard::set_port_led_at_once;
 use ps2_keyboard::set_port_led_onto;
 use ps2_ports::DevicePort;
+
+// The script bytes of a lamp exchange in which both bytes are acknowledged at once: for each two status reads and FA.
+const AT_ONCE: usize = 6;
 
 // How a handler call ends: done, for lack of a byte or room, or with the refusal that document 01 numbers 19, 20 or 21, or document 02 numbers 31 or 33.
 pub enum HandlerAnswer {
@@ -248,7 +252,12 @@ fn lock_pressed(
     requires { ⌜ pressesFollowed Profile.Any «scan_code» ≡ true ⌝ }
     ensures { λ r. ⌜ PlaysOn keyboard kept (λ waiting. onKey (portRules Profile.Any port) waiting «scan_code» (modifiers .bits)) (now (script .entry)) (now (log .entry)) (saidKeyEffect r) (now (log .exit)) ⌝ }
 {
-    let lit = set_port_led_onto(script, log, port, leds(modifiers), kept);
+    let lamps = leds(modifiers);
+    let at_once = set_port_led_at_once(script, log, port, lamps);
+    if at_once != 0 {
+        return after_lamps(kept, scan_code, modifiers, false, AT_ONCE, at_once);
+    }
+    let lit = set_port_led_onto(script, log, port, lamps, kept);
     let used = lit.used;
     let pairs = lit.pairs;
     let waiting = lit.kept;

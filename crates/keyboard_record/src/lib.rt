@@ -1,9 +1,12 @@
 // The keyboard handler's record, its queue of events, and the taking from it: Theseus's `keyboard`, at a table with one keyboard or two.
 ghost use mathlib.Core.Path.{_≡_};
+ghost use lib.Dec.{leb};
 ghost use Rattle.exchange.specs.Answer.{numberAnswered};
 ghost use Rattle.exchange.specs.Left.{left};
+ghost use Rattle.keyboard_sides.specs.Sides.{countOf};
+ghost use Rattle.keyboard_record.specs.Limits.{share};
 ghost use Rattle.keyboard_record.specs.Record.{fresh, atTable, keyboardAt, withKeyboard, keyboardFormed, fair, wellFormed, callFormed};
-ghost use Rattle.keyboard_record.specs.Queue.{place, joined, saidRoom};
+ghost use Rattle.keyboard_record.specs.Queue.{waitingSides, room, place, joined, saidRoom};
 ghost use Rattle.keyboard_record.specs.Taking.{saidTaken, taken};
 use keyboard_modifiers::KeyboardModifiers;
 use keyboard_scancodes::KeyboardState;
@@ -127,10 +130,13 @@ fn keyboard_formed(keyboard: KeyboardState) -> bool
     keyboard.waiting.count as usize <= KEPT_LIMIT
 }
 
-// Whether neither side has more than its share of the first `count` events.
+// Whether neither side has more than its share of the first `count` events. Of so few that they are no more than a share, the sides needn't be counted.
 fn is_fair(sides: Sides, count: usize) -> bool
     ensures { λ r. ⌜ r ≡ fair sides count ⌝ }
 {
+    if count <= SHARE {
+        return true;
+    }
     if SHARE < sides.count_of(Side::First, count) {
         return false;
     }
@@ -214,7 +220,35 @@ impl HandlerState {
         }
     }
 
-    // Whether the queue takes one more event of a side, by its key: 33 is asked, then 31, then 20.
+    // Whether a side has all the places that its events may take.
+    fn has_share(self, side: Side) -> bool
+        ensures { λ r. ⌜ r ≡ leb share (countOf side (waitingSides self)) ⌝ }
+    {
+        if self.count < SHARE {
+            return false;
+        }
+        let sides = self.sides;
+        SHARE <= sides.count_of(side, self.count)
+    }
+
+    // Whether the queue takes one more event of a side, whatever its key: 31 is asked, then 20.
+    pub fn room_of(self, side: Side) -> Room
+        ensures { λ r. ⌜ saidRoom r ≡ room side self ⌝ }
+    {
+        let table = self.table;
+        let keyboards = table.keyboards;
+        if let Keyboards::Two = keyboards {
+            if self.has_share(side) {
+                return Room::SideFull;
+            }
+        }
+        if QUEUE_LENGTH <= self.count {
+            return Room::QueueFull;
+        }
+        Room::Free
+    }
+
+    // The same, by its key: 33 is asked first.
     fn room_for(self, side: Side, keycode: Keycode) -> Room
         ensures { λ r. ⌜ saidRoom r ≡ place side keycode self ⌝ }
     {
@@ -223,17 +257,7 @@ impl HandlerState {
         if !profile.allows(keycode) {
             return Room::OutsideProfile;
         }
-        let keyboards = table.keyboards;
-        if let Keyboards::Two = keyboards {
-            let sides = self.sides;
-            if SHARE <= sides.count_of(side, self.count) {
-                return Room::SideFull;
-            }
-        }
-        if QUEUE_LENGTH <= self.count {
-            return Room::QueueFull;
-        }
-        Room::Free
+        self.room_of(side)
     }
 
     // One more event of a side, of this key, where the queue takes it.

@@ -1,12 +1,16 @@
 // The command rule: a byte is sent to a device up to four times, until its response settles the matter. And what a reset waits for.
 ghost use mathlib.Core.Path.{_≡_};
+ghost use Prim.Native.Nat.{_+_, _≤_};
+ghost use lib.ListN.{length, set};
 ghost use Rattle.exchange.specs.Exchange.{toldEnd, yields, Reads};
 ghost use Rattle.exchange.specs.Answer.{andThen, renumbered};
 ghost use Rattle.ps2_answers.specs.Refusals.{numberOf, saidDone};
 ghost use Rattle.ps2_kept.specs.Kept.{keepingThrown};
 ghost use Rattle.ps2_kept.specs.Added.{keepingOnto};
 ghost use Rattle.ps2_kept.specs.Contracts.{PlaysKept};
+ghost use Rattle.ps2_ports.specs.declared.DevicePort.the-variants.{Port1, Port2};
 ghost use Rattle.ps2_command.specs.Command.{command as commandRule, commandToPort2, commandBy, attempt as attemptRule, saidAttempt, verdict as verdictRule};
+ghost use Rattle.ps2_command.specs.AtOnce.{atOnce, TwoWritten, TwoAtOnce};
 ghost use Rattle.ps2_command.specs.Replaced.{replacedBy};
 ghost use Rattle.ps2_command.specs.Search.{selfTestWithin};
 use ps2_answers::Completed;
@@ -19,11 +23,14 @@ use ps2_bytes::HostToDevice;
 use ps2_kept::KeptBytes;
 use ps2_kept::kept_at;
 use ps2_kept::none_kept;
+use ps2_layouts::ControllerToHostStatus;
 use ps2_polling::ResponseAnswer;
 use ps2_polling::Waiting;
 use ps2_polling::polling_send_receive_onto;
 use ps2_polling::read_test_result;
 use ps2_ports::DevicePort;
+use ps2_ports::PS2_COMMAND_AND_STATUS_PORT;
+use ps2_ports::PS2_DATA_PORT;
 use ps2_ports::write_command;
 
 // The attempts that a command has.
@@ -31,6 +38,9 @@ const ATTEMPTS: u8 = 4;
 
 // A device's byte for a self test that it passed.
 const SELF_TEST_PASSED: u8 = 0xAA;
+
+// A device's byte for a command that it accepts.
+const ACKNOWLEDGE: u8 = 0xFA;
 
 // What one attempt comes to: it settles the command, or another is to be made.
 pub enum Attempt {
@@ -213,6 +223,79 @@ pub fn command_pair_onto(
             pairs,
             kept,
         },
+    }
+}
+
+// Whether a script begins with a device's acknowledgement at once: the first status lets a byte be sent, and the first poll brings FA.
+fn acknowledges_at_once(script: &[u8]) -> bool
+    ensures { λ r. ⌜ r ≡ atOnce (now (script .entry)) ⌝ }
+{
+    if script.len() < 3 {
+        return false;
+    }
+    if ControllerToHostStatus::from_byte(script[0]).input_buffer_full() {
+        return false;
+    }
+    if !ControllerToHostStatus::from_byte(script[1]).output_buffer_full() {
+        return false;
+    }
+    script[2] == ACKNOWLEDGE
+}
+
+// Puts a pair into the log.
+fn put_pair(log: &mut [u8], at: usize, port: u8, value: u8)
+    requires { ⌜ at + 2 ≤ length (now log) ⌝ }
+    ensures { λ _. ⌜ now (log .exit) ≡ set (set (now (log .entry)) at port) (at + 1) value ⌝ }
+{
+    log[at] = port;
+    log[at + 1] = value;
+}
+
+// The pairs of two bytes for the device of the first port, and of the second, where the log has room for all of them.
+fn two_to_port1(log: &mut [u8], first: u8, second: u8) -> usize
+    ensures { λ r. ⌜ TwoWritten Port1 first second (now (log .entry)) r (now (log .exit)) ⌝ }
+{
+    if log.len() < 4 {
+        return 0;
+    }
+    put_pair(log, 0, PS2_DATA_PORT, first);
+    put_pair(log, 2, PS2_DATA_PORT, second);
+    2
+}
+
+fn two_to_port2(log: &mut [u8], first: u8, second: u8) -> usize
+    ensures { λ r. ⌜ TwoWritten Port2 first second (now (log .entry)) r (now (log .exit)) ⌝ }
+{
+    if log.len() < 8 {
+        return 0;
+    }
+    let next_to_port2 = HostToControllerCommand::WriteByteToPort2InputBuffer.to_byte();
+    put_pair(log, 0, PS2_COMMAND_AND_STATUS_PORT, next_to_port2);
+    put_pair(log, 2, PS2_DATA_PORT, first);
+    put_pair(log, 4, PS2_COMMAND_AND_STATUS_PORT, next_to_port2);
+    put_pair(log, 6, PS2_DATA_PORT, second);
+    4
+}
+
+// Two commands to a device that acknowledges both at once, and so throws nothing away: the pairs that they write. For any other device, and for a log without room, nothing is done, and there is none.
+pub fn command_pair_at_once(
+    script: &[u8],
+    log: &mut [u8],
+    port: DevicePort,
+    first: HostToDevice,
+    second: HostToDevice,
+) -> usize
+    ensures { λ r. ⌜ TwoAtOnce port (andThen (commandBy port first) (λ _. commandBy port second)) (now (script .entry)) (now (log .entry)) r (now (log .exit)) ⌝ }
+{
+    if !acknowledges_at_once(script) {
+        return 0;
+    }
+    if !acknowledges_at_once(&script[3..]) {
+        return 0;
+    }
+    match port {
+        DevicePort::Port1 => two_to_port1(log, first.to_byte(), second.to_byte()),
+        DevicePort::Port2 => two_to_port2(log, first.to_byte(), second.to_byte()),
     }
 }
 

@@ -6,6 +6,7 @@ ghost use Rattle.ps2_answers.specs.Answers.{saidByte, saidFull};
 ghost use Rattle.ps2_kept.specs.Kept.{keepingThrown};
 ghost use Rattle.ps2_kept.specs.Added.{keepingOnto};
 ghost use Rattle.ps2_kept.specs.Contracts.{PlaysKept};
+ghost use Rattle.ps2_command.specs.AtOnce.{TwoAtOnce};
 ghost use Rattle.ps2_keyboard.specs.Keyboard.{commandToKeyboard, resetKeyboard, setKeyboardLed, setPortLed, commandScancodeSet, getScancodeSet, setScancodeSet, readScancode, keyboardOutputBufferFull};
 ghost use Rattle.ps2_keyboard.specs.Parts.{setSearch};
 ghost use Rattle.ps2_keyboard.specs.Answers.{saidSet};
@@ -25,6 +26,7 @@ use ps2_bytes::ScancodeSetByte;
 use ps2_command::Commanded;
 use ps2_command::command_by;
 use ps2_command::command_pair;
+use ps2_command::command_pair_at_once;
 use ps2_command::command_pair_onto;
 use ps2_command::failing_as;
 use ps2_command::read_self_test_result;
@@ -134,6 +136,26 @@ pub fn set_port_led_onto(
         pairs: c.pairs,
         kept,
     }
+}
+
+// The same where the keyboard acknowledges both bytes at once: the pairs written, and none where it doesn't, or where the log has no room, and nothing is done.
+pub fn set_port_led_at_once(
+    script: &[u8],
+    log: &mut [u8],
+    port: DevicePort,
+    value: LEDState,
+) -> usize
+    ensures { λ r. ⌜ TwoAtOnce port (setPortLed port value) (now (script .entry)) (now (log .entry)) r (now (log .exit)) ⌝ }
+{
+    command_pair_at_once(
+        script,
+        log,
+        port,
+        HostToDevice::Keyboard(HostToKeyboardCommandOrData::KeyboardCommand(
+            HostToKeyboardCommand::SetLEDStatus,
+        )),
+        HostToDevice::Keyboard(HostToKeyboardCommandOrData::LEDState(value)),
+    )
 }
 
 // Sets the scancode set. That the keyboard then tells another one is no failure.

@@ -21,10 +21,10 @@ use ps2_layouts::ControllerConfigurationByte;
 use ps2_layouts::ControllerToHostStatus;
 
 // Data to and from the controller and its devices.
-const PS2_DATA_PORT: u8 = 0x60;
+pub const PS2_DATA_PORT: u8 = 0x60;
 
 // Commands to the controller, and its status.
-const PS2_COMMAND_AND_STATUS_PORT: u8 = 0x64;
+pub const PS2_COMMAND_AND_STATUS_PORT: u8 = 0x64;
 
 // The ports of the two devices.
 pub enum DevicePort {
