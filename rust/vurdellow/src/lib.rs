@@ -33,6 +33,7 @@
 mod bytes;
 mod controller;
 mod dispatcher;
+pub mod drive;
 mod handler;
 pub mod keyboard;
 mod keys;
