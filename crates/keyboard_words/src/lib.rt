@@ -64,7 +64,7 @@ enum FoundSet {
 
 // ---- what arguments stand for
 
-// The command that the wiki lists with a byte.
+// The command to the keyboard that is sent as this byte.
 fn command_of(byte: u32) -> FoundCommand
     ensures { λ r. ⌜ saidCommand r ≡ commandAt byte ⌝ }
 {
