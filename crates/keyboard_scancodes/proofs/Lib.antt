@@ -8,3 +8,5 @@ pub mod Keycodes
 pub mod LampBits
 pub mod Waiting
 pub mod Tournament
+pub mod KeyMasks
+pub mod Plain

@@ -5,5 +5,6 @@ pub mod Profile
 pub mod FlagsAfter
 pub mod Lamps
 pub mod Events
+pub mod Plain
 pub mod Waiting
 pub mod Remembered

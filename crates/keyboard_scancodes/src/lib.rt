@@ -4,6 +4,7 @@ ghost use mathlib.Core.Path.{_≡_};
 ghost use Rattle.keyboard_scancodes.specs.Strokes.{stroke, isPrefix, isSilent};
 ghost use Rattle.keyboard_scancodes.specs.FlagTable.{flagTable, pressesLock};
 ghost use Rattle.keyboard_scancodes.specs.Profile.{allows, isTournamentCode, followed, pressesFollowed};
+ghost use Rattle.keyboard_scancodes.specs.Plain.{isPlain};
 ghost use Rattle.keyboard_scancodes.specs.FlagsAfter.{flagsAfter, heldFlags, lockFlags};
 ghost use Rattle.keyboard_scancodes.specs.Lamps.{lampsLit};
 ghost use Rattle.keyboard_scancodes.specs.Waiting.{waitingIn};
@@ -67,6 +68,21 @@ const TOURNAMENT_ARROWS: u64 = 1 << (0x48 - 0x40)
     | 1 << (0x4D - 0x40)
     | 1 << (0x50 - 0x40);
 
+// The keys that have no flag, a bit for each keycode from 01 on: all but Control, the Shifts, Alt and Caps Lock;
+const PLAIN_KEYS: u64 = !(1 << 0x00
+    | 1 << CONTROL
+    | 1 << LEFT_SHIFT
+    | 1 << RIGHT_SHIFT
+    | 1 << ALT
+    | 1 << CAPS_LOCK);
+
+// and from keycode 40 to 5D: all but Num Lock, Scroll Lock and the Super keys.
+const PLAIN_KEYS_FROM_40: u64 = 0x3FFF_FFFF
+    & !(1 << (NUM_LOCK - 0x40)
+        | 1 << (SCROLL_LOCK - 0x40)
+        | 1 << (SUPER_KEY_LEFT - 0x40)
+        | 1 << (SUPER_KEY_RIGHT - 0x40));
+
 // Under which keys a game is played: any, or those that rated games allow.
 pub enum Profile {
     Any,
@@ -121,6 +137,17 @@ pub fn is_silent(scan_code: u8) -> bool
         return true;
     }
     scan_code == ACKNOWLEDGE
+}
+
+// A byte of a key that has no flag: whatever came before, its event is all that it gives.
+pub fn is_plain(scan_code: u8) -> bool
+    ensures { λ r. ⌜ r ≡ isPlain «scan_code» ⌝ }
+{
+    let code = scan_code % 128;
+    if code < 64 {
+        return PLAIN_KEYS & (1 << code) != 0;
+    }
+    PLAIN_KEYS_FROM_40 & (1 << (code - 64)) != 0
 }
 
 // The flags that a key holds down, by its press code: none where it is no such key's. A prefix directly before tells right Control from left, and right Alt, which is an Alt too.

@@ -2,19 +2,18 @@
 -- Assumes nothing.
 use borrow.Author.Needs.{needs}
 use mathlib.Core.Path.{_≡_, refl, sym, ap, _∙_}
-use mathlib.Core.Bool.{true, false, not, and-eq-true-iff}
+use mathlib.Core.Bool.{true, false, and-eq-true-iff}
 use mathlib.Core.List.{List, [], _∷_}
-use Prim.Native.Nat.{ℕ, _+_, _-_, _*_, _%_, _^_, _<_, _≤_}
+use Prim.Native.Nat.{ℕ, _+_, _-_, _<_, _≤_}
 use native.Mathlib.Omega.{arith}
-use lib.Bits.{bitAnd}
-use lib.Dec.{eqb, ltb}
+use lib.Dec.{ltb}
 use borrow.Author.Tests.{ne-eqb, ltb-true}
 use Rattle.bits.specs.Bits.{bit, odd}
 use Rattle.bits.proofs.Every.{agree-bool, each}
-use Rattle.bits.proofs.Masks.{one-shl, test-mask}
 use Rattle.keycodes_ascii.specs.declared.Keycode.{Keycode}
 use Rattle.keycodes_ascii.specs.Keycode.{numberOf}
 use Rattle.keyboard_scancodes.specs.Profile.{tournamentKeys, codeAmong, isTournamentCode}
+use Rattle.keyboard_scancodes.proofs.KeyMasks.{tested}
 use Rattle.keyboard_scancodes.proofs.is_tournament_key.Statement.{statement}
 use Rattle.keyboard_scancodes.proofs.is_tournament_key.Tie as tie
 
@@ -32,10 +31,6 @@ low = agree-bool (λ c. bit c keysMask) isTournamentCode 64 tt
 high : (code : ℕ) → code < 64 → bit code arrowsMask ≡ isTournamentCode (code + 64)
 unfolding bit odd codeAmong tournamentKeys
 high = agree-bool (λ c. bit c arrowsMask) (λ c. isTournamentCode (c + 64)) 64 tt
-
--- a mask's bit, as the code tests it
-tested : (mask code : ℕ) → code < 64 → not (eqb (bitAnd mask (1 * 2 ^ code % 2 ^ 64)) 0) ≡ bit code mask
-tested mask code h = ap (λ (m : ℕ). not (eqb (bitAnd mask m) 0)) (one-shl 64 code h) ∙ test-mask code mask
 
 -- every key's number is below 128, so none of the list is from there on
 
