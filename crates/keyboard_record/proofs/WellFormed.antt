@@ -53,7 +53,7 @@ formed-is k e =
 
 -- ---- the facts and the question
 
-abbrev AllFormed : Keyboards → HandlerState → Type 0
+abbrev pub AllFormed : Keyboards → HandlerState → Type 0
 AllFormed k s = (side : Side) → atTable k side ≡ true → Formed (keyboardAt side s)
 
 abbrev AllShared : Keyboards → HandlerState → Type 0

@@ -70,3 +70,14 @@ wellFormed s = queueFormed s && sidesFormed (s .table .keyboards) s
 -- Of a handler call 21 asks also "that a handler call's side is at the table".
 unfoldable pub callFormed : Side → HandlerState → Bool
 callFormed side s = atTable (s .table .keyboards) side && wellFormed s
+
+-- ---- room without a count of the sides
+
+-- The most events that one side may have waiting: at a table with one keyboard as many as there are places, with two its share.
+abbrev pub sideLimit : Keyboards → ℕ
+sideLimit Keyboards.One = queueLength
+sideLimit Keyboards.Two = share
+
+-- Whether a call finds its record well formed, and in it fewer events, of both sides, than its own may have.
+unfoldable pub isReady : Side → HandlerState → Bool
+isReady side s = callFormed side s && ltb (s .count) (sideLimit (s .table .keyboards))

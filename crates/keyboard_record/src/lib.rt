@@ -5,7 +5,7 @@ ghost use Rattle.exchange.specs.Answer.{numberAnswered};
 ghost use Rattle.exchange.specs.Left.{left};
 ghost use Rattle.keyboard_sides.specs.Sides.{countOf};
 ghost use Rattle.keyboard_record.specs.Limits.{share};
-ghost use Rattle.keyboard_record.specs.Record.{fresh, atTable, keyboardAt, withKeyboard, keyboardFormed, fair, wellFormed, callFormed};
+ghost use Rattle.keyboard_record.specs.Record.{fresh, atTable, keyboardAt, withKeyboard, keyboardFormed, fair, wellFormed, callFormed, isReady};
 ghost use Rattle.keyboard_record.specs.Queue.{waitingSides, room, place, joined, saidRoom};
 ghost use Rattle.keyboard_record.specs.Taking.{saidTaken, taken};
 use keyboard_modifiers::KeyboardModifiers;
@@ -180,6 +180,33 @@ impl HandlerState {
             return false;
         }
         self.well_formed()
+    }
+
+    // The same, and that one more event of the side finds a place even if all that wait are the side's, so that none has to be counted.
+    pub fn is_ready(self, side: Side) -> bool
+        ensures { λ r. ⌜ r ≡ isReady side self ⌝ }
+    {
+        let table = self.table;
+        let keyboards = table.keyboards;
+        if !keyboards.has(side) {
+            return false;
+        }
+        if QUEUE_LENGTH <= self.start {
+            return false;
+        }
+        if !keyboard_formed(self.first) {
+            return false;
+        }
+        match keyboards {
+            Keyboards::One => self.count < QUEUE_LENGTH,
+            Keyboards::Two => {
+                let second = self.second;
+                if !keyboard_formed(second) {
+                    return false;
+                }
+                self.count < SHARE
+            }
+        }
     }
 
     // What is remembered of a side's keyboard.

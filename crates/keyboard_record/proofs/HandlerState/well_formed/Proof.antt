@@ -4,9 +4,8 @@ use mathlib.Core.Path.{_≡_, refl, sym, _∙_}
 use mathlib.Core.Bool.{true, false}
 use borrow.Author.Needs.{needs}
 use borrow.Author.Tests.{lt-ltb, le-ltb, lt-leb, le-leb, not-true, not-false}
-use Rattle.keyboard_record.specs.declared.HandlerState.{HandlerState}
-use Rattle.keyboard_record.specs.declared.Keyboards.{Keyboards}
 use Rattle.keyboard_record.specs.Record.{keyboardFormed, sidesFormed, wellFormed}
+use Rattle.keyboard_record.proofs.Ready.{first-asked}
 use Rattle.keyboard_record.proofs.HandlerState.well_formed.Statement.{statement}
 use Rattle.keyboard_record.proofs.HandlerState.well_formed.Tie as tie
 
@@ -23,11 +22,6 @@ queue : (c : tie.Else2) → wellFormed (c .before .before .before .before .args 
     ≡ sidesFormed (c .before .before .before .before .args .self .table .keyboards) (c .before .before .before .before .args .self)
 unfolding wellFormed
 queue c = rw (lt-ltb _ 128 (c .before .before .if1 .left), le-leb _ 128 (c .if2 .left))
-
--- without the first side's keyboard no table is well formed
-first-asked : (k : Keyboards) (s : HandlerState) → keyboardFormed (s .first) ≡ false → sidesFormed k s ≡ false
-first-asked Keyboards.One s e = e
-first-asked Keyboards.Two s e = rw e
 
 returns-3 : tie.Need-returns-3
 returns-3 c =
