@@ -16,7 +16,7 @@ use Rattle.handler_words.specs.declared.HandledWords.{HandledWords}
 use Rattle.handler_words.specs.Layout.{wordsLength}
 use Rattle.handler_words.specs.Words.{stateOf}
 use Rattle.handler_words.specs.Arguments.{sideAt}
-use Rattle.handler_words.specs.Calls.{wordsLeft, SideHandled, WordsHandled}
+use Rattle.handler_words.specs.Calls.{wordsLeft, SideHandled, AtSide, WordsHandled}
 use Rattle.cut_scripts.specs.CutShort.{Handed, handed, nextPort, CutShort}
 use Rattle.cut_scripts.specs.Words.{WordsBack, wordsBack, twoWords}
 use Rattle.cut_scripts.proofs.CutShort.{handedBy, cut-short}
@@ -48,18 +48,26 @@ module _ (ws : List ℕ) (n : ℕ) (script log : List ℕ) where
   side-cut side c c′ =
       cut-short (tellWords side ws) (handle keyboardLamps side (stateOf ws)) n script log (handed-words side script c) (handed-words side (take n script) c′)
 
-  module _ {r r′ : HandledWords} {us us′ l l′ : List ℕ} (m : ℕ) (c : WordsHandled ws m script log r us l) (c′ : WordsHandled ws m (take n script) log r′ us′ l′) where
-    -- for a side, on 144 numbers
-    pub handle-words-cut : {side : Side} → sideAt m ≡ some side → length ws ≡ wordsLength
-        → CutShort n (twoWords ws (nextPort n (handle keyboardLamps side (stateOf ws)) script log)) log (handedWords r us l) (handedWords r′ us′ l′)
-    handle-words-cut {side} q h = side-cut side ((rw q at (c .is)) .0 h) ((rw q at (c′ .is)) .0 h)
-
-    -- any other side and any other length is refused before a byte is read, so with fewer bytes all the same is handed back
+  module _ {r r′ : HandledWords} {us us′ l l′ : List ℕ} where
     same-back : {x : HandledWords} → (r ≡ x) × (us ≡ ws) × (l ≡ log) → (r′ ≡ x) × (us′ ≡ ws) × (l′ ≡ log) → handedWords r′ us′ l′ ≡ handedWords r us l
     same-back p q = rw (p .0, p .1, p .2, q .0, q .1, q .2)
 
-    pub no-side-same : sideAt m ≡ none → handedWords r′ us′ l′ ≡ handedWords r us l
-    no-side-same q = same-back (rw q at (c .is)) (rw q at (c′ .is))
+    -- for a side: on 144 numbers; any other length is refused before a byte is read, so with fewer bytes all the same is handed back
+    module _ {side : Side} (c : AtSide (some side) ws script log r us l) (c′ : AtSide (some side) ws (take n script) log r′ us′ l′) where
+      pub handle-at-cut : length ws ≡ wordsLength → CutShort n (twoWords ws (nextPort n (handle keyboardLamps side (stateOf ws)) script log)) log (handedWords r us l) (handedWords r′ us′ l′)
+      handle-at-cut h = side-cut side (c .0 h) (c′ .0 h)
 
-    pub other-length-same : {side : Side} → sideAt m ≡ some side → (length ws ≡ wordsLength → ⊥) → handedWords r′ us′ l′ ≡ handedWords r us l
-    other-length-same q h = same-back ((rw q at (c .is)) .1 h) ((rw q at (c′ .is)) .1 h)
+      pub at-other-length-same : (length ws ≡ wordsLength → ⊥) → handedWords r′ us′ l′ ≡ handedWords r us l
+      at-other-length-same h = same-back (c .1 h) (c′ .1 h)
+
+    -- by the number of a side; one that stands for nothing is refused in the same way
+    module _ (m : ℕ) (c : WordsHandled ws m script log r us l) (c′ : WordsHandled ws m (take n script) log r′ us′ l′) where
+      pub handle-words-cut : {side : Side} → sideAt m ≡ some side → length ws ≡ wordsLength
+          → CutShort n (twoWords ws (nextPort n (handle keyboardLamps side (stateOf ws)) script log)) log (handedWords r us l) (handedWords r′ us′ l′)
+      handle-words-cut {side} q = handle-at-cut {side} (rw q at (c .is)) (rw q at (c′ .is))
+
+      pub no-side-same : sideAt m ≡ none → handedWords r′ us′ l′ ≡ handedWords r us l
+      no-side-same q = same-back (rw q at (c .is)) (rw q at (c′ .is))
+
+      pub other-length-same : {side : Side} → sideAt m ≡ some side → (length ws ≡ wordsLength → ⊥) → handedWords r′ us′ l′ ≡ handedWords r us l
+      other-length-same {side} q = at-other-length-same {side} (rw q at (c .is)) (rw q at (c′ .is))

@@ -21,8 +21,7 @@ use Rattle.keyboard.specs.KeyboardLamps.{keyboardLamps}
 use Rattle.handler_words.specs.declared.HandledWords.{HandledWords}
 use Rattle.handler_words.specs.Layout.{wordsLength}
 use Rattle.handler_words.specs.Words.{recordOf}
-use Rattle.handler_words.specs.Arguments.{sideAt, sideNumber}
-use Rattle.handler_words.specs.Calls.{refusing, SideHandled, WordsHandled}
+use Rattle.handler_words.specs.Calls.{refusing, SideHandled, AtSide}
 use Rattle.dispatcher.specs.declared.Places.{Places}
 use Rattle.dispatcher.specs.declared.Source.{Source}
 use Rattle.dispatcher.specs.Sources.{placeOf, withPlace, unused}
@@ -47,10 +46,6 @@ place-stands (Source.Keyboard Side.First) ws = refl
 place-stands (Source.Keyboard Side.Second) ws = refl
 place-stands Source.Mouse ws = refl
 
-side-known : (side : Side) → sideAt (sideNumber side) ≡ some side
-side-known Side.First = refl
-side-known Side.Second = refl
-
 -- the unused bytes of a source, in the form in which they are lent
 abbrev bytesIn : Source → List ℕ → List ℕ → List ℕ
 bytesIn source ws script = unused (placeIn source ws) script
@@ -59,12 +54,12 @@ bytesIn source ws script = unused (placeIn source ws) script
 
 module _ (side : Side) (ws script log : List ℕ) (n : length ws ≡ dispatcherLength) (place from : ℕ) (at : place ≡ placeIn (Source.Keyboard side) ws)
     (is : unused from script ≡ unused place script) {number : ℕ} (k : number ≡ sourceNumber (Source.Keyboard side)) {call : HandledWords} {us log′ : List ℕ}
-    (w : WordsHandled (handlerIn ws) number (part from script) log call us log′) where
+    (w : AtSide (some side) (handlerIn ws) (part from script) log call us log′) where
   given-bytes : part from script ≡ bytesIn (Source.Keyboard side) ws script
   given-bytes = part-drop from script ∙ is ∙ ap (λ (m : ℕ). unused m script) at
 
   handled-side : SideHandled side (handlerIn ws) (bytesIn (Source.Keyboard side) ws script) log call us log′
-  handled-side = rw given-bytes at ((rw (k, side-known side) at (w .is)) .0 (handler-length ws n))
+  handled-side = rw given-bytes at (w .0 (handler-length ws n))
 
   -- the place that it moves on to is a number of 64 bits
   pub keyboard-used : call .used ≤ length script - place

@@ -21,7 +21,7 @@ use dispatcher::Waits;
 use handler_words::HANDLER_WORDS;
 use handler_words::HandledWords;
 use handler_words::fresh_words;
-use handler_words::handle_words;
+use handler_words::handle_at;
 use keyboard_sides::Side;
 use port_words::PacketWords;
 use port_words::packet_words;
@@ -222,7 +222,7 @@ fn serve_keyboard(words: &mut [u64], side: Side, script: &[u8], log: &mut [u8]) 
     let number = source_number(source);
     let place = place_in(words, source);
     let from = start(place, script);
-    let call = handle_words(&mut words[..HANDLER_WORDS], number, &script[from..], log);
+    let call = handle_at(&mut words[..HANDLER_WORDS], side, &script[from..], log);
     put_turn(words, source, place + call.used);
     StepWords {
         refusal: call.refusal,

@@ -45,7 +45,7 @@ use Rattle.handler_words.specs.declared.HandledWords.{HandledWords}
 use Rattle.handler_words.specs.Layout.{keyboardFrom, countAt, placesFrom, wordsLength}
 use Rattle.handler_words.specs.Words.{actionNumber, eventAt, wordOf, keyboardIn, stateOf}
 use Rattle.handler_words.specs.Calls.{refusing, withKeyboardAt, withSides}
-use Rattle.handler_words.specs.Parts.{Narrow, KeyAlone, KeyQueued, KeyHandled}
+use Rattle.handler_words.specs.Parts.{Narrow, KeyAlone, followedBy, byteUsed, PlainKey, KeyQueued, KeyHandled}
 use Rattle.handler_words.proofs.Calls.{as-passed, moved-on}
 
 -- for its keyboard
@@ -73,9 +73,6 @@ queued-dropped side s (gives none) lit n = refl
 queued-dropped side s (gives (some e)) lit n = refl
 queued-dropped side s (refuses m) lit n = refl
 
-abbrev pub followedBy : ℕ → KeyboardState
-followedBy flags = keyboardOf false flags (waitingOf [])
-
 abbrev pub outcomeAlone : Side → HandlerState → ℕ → ℕ → Outcome
 outcomeAlone side s b flags = queued side (withKeyboard side (followedBy flags) s) (keyEvent b flags) (gives success) 0
 
@@ -94,14 +91,14 @@ module _ (side : Side) (s : HandlerState) (script : List ℕ) (w : callFormed si
   begun =
       let b = getD script 0 0 in
       let t = withKeyboard side (followedBy flags) s in
-      formed-call side s (b ∷ drop 1 script) log w (sym (a .any-key)) refl refl
-      (key-alone (portOf side) (keyboardAt side s) b (a .none-waits) (a .sounds) (a .no-lamps) f (drop 1 script) log)
+      formed-call side s (b ∷ drop 1 script) log w (sym (a .taken .any-key)) refl refl
+      (key-alone (portOf side) (keyboardAt side s) b (a .taken .none-waits) (a .sounds) (a .no-lamps) f (drop 1 script) log)
       (rw (queued-lamps side t (keyEvent b flags) (gives success) 0, queued-dropped side t (keyEvent b flags) (gives success) 0))
 
   pub alone-effects : (effectsAlone side s (getD script 0 0) flags ≡ effects keyboardLamps side s script log) × (log ≡ logLeft keyboardLamps side s script log)
   alone-effects =
       subst (λ (l : List ℕ). (effectsAlone side s (getD script 0 0) flags ≡ effects keyboardLamps side s l log) × (log ≡ logLeft keyboardLamps side s l log))
-      (sym (first-byte script (a .some-byte))) begun
+      (sym (first-byte script (a .taken .some-byte))) begun
 
 -- ---- the event of a key's byte
 
@@ -176,7 +173,7 @@ module _ (side : Side) (ws script : List ℕ) where
     pub handled-alone : {at : ℕ} → at ≡ keyboardFrom side → {k : KeyboardState} → k ≡ followedBy flags → {us : List ℕ} → (us ≡ withKeyboardAt at k ws) × Narrow k
         → {left : HandlerState} → left ≡ withKeyboard side (followedBy flags) (stateOf ws)
         → {n : ℕ} {ws′ : List ℕ} → KeyQueued (queued side left (keyEvent (getD script 0 0) flags) (gives success) 0) (freePlace left) us n ws′
-        → KeyHandled side ws script (record { refusal = n; lamps = 0; used = 1; pairs = 0; dropped = 0; port = 0 }) ws′
+        → KeyHandled side ws script (byteUsed n) ws′
     handled-alone p q u l {n} {ws′} x =
         let s = stateOf ws in
         let b = getD script 0 0 in

@@ -5,6 +5,7 @@ pub mod Words
 pub mod Left
 pub mod Calls
 pub mod Alone
+pub mod Plain
 pub mod Taken
 pub mod Cleared
 pub mod Fresh

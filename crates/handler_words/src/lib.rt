@@ -23,8 +23,8 @@ ghost use Rattle.port_words.specs.Told.{portLacked};
 ghost use Rattle.handler_words.specs.Layout.{keyboardFrom, countAt, placesFrom, wordsLength};
 ghost use Rattle.handler_words.specs.Words.{bytesIn, numberOfBytes, actionNumber, eventAt, wordOf, keyboardsOf, keyboardsNumber, profileOf, profileNumber, keyboardIn, stateOf, wordsOf};
 ghost use Rattle.handler_words.specs.Arguments.{sideAt, sideNumber, laidWith, tableAt};
-ghost use Rattle.handler_words.specs.Calls.{refusing, withKeyboardAt, withSides, withEvent, SideHandled, WordsHandled, takenNumbers, withQueueAt, WordsTaken, WordsFresh};
-ghost use Rattle.handler_words.specs.Parts.{saidSide, saidTable, Narrow, Placed, reread, KeyAlone, KeyQueued, KeyHandled};
+ghost use Rattle.handler_words.specs.Calls.{refusing, withKeyboardAt, withSides, withEvent, SideHandled, AtSide, WordsHandled, takenNumbers, withQueueAt, WordsTaken, WordsFresh};
+ghost use Rattle.handler_words.specs.Parts.{saidSide, saidTable, Narrow, Placed, reread, FromScript, KeyAlone, followedBy, byteUsed, PlainKey, KeyQueued, KeyHandled};
 use argument_words::MEANS_NOTHING;
 use keyboard::HandlerAnswer;
 use keyboard::NewEvent;
@@ -39,6 +39,7 @@ use keyboard_scancodes::KeyboardState;
 use keyboard_scancodes::Profile;
 use keyboard_scancodes::WaitingBytes;
 use keyboard_scancodes::is_lock_press;
+use keyboard_scancodes::is_plain;
 use keyboard_scancodes::is_silent;
 use keyboard_scancodes::modifiers_after;
 use keyboard_sides::Side;
@@ -434,28 +435,38 @@ fn queue_key(
     }
 }
 
-// What most calls are: none waits, and the script's first byte is a key's and asks for no lamp exchange, at a table without the profile. It is followed, and its event is queued where there is room.
-fn handle_key(words: &mut [u64], side: Side, script: &[u8]) -> HandledWords
-    requires { ⌜ (length (now words) ≡ wordsLength) × KeyAlone side (stateOf (now words)) (now script) ⌝ }
-    ensures { λ r. ⌜ KeyHandled side (now (words .entry)) (now (script .entry)) r (now (words .exit)) ⌝ }
+// Whether a call takes the script's first byte, since none waits, at a table without the profile.
+fn is_from_script(words: &[u64], side: Side, script: &[u8]) -> bool
+    requires { ⌜ length (now words) ≡ wordsLength ⌝ }
+    ensures { λ r. ⌜ (r ≡ true → FromScript side (stateOf (now (words .entry))) (now (script .entry))) ⌝ }
 {
-    let state = state_in(words);
-    if !state.call_formed(side) {
-        return refused(21);
+    if script.len() == 0 {
+        return false;
     }
-    let scan_code = script[0];
-    let modifiers = modifiers_after(Profile::Any, state.keyboard_at(side), scan_code);
-    let followed = KeyboardState {
+    if words[PROFILE_AT] != 0 {
+        return false;
+    }
+    low_byte(words[keyboard_at(side) + 2]) == 0
+}
+
+// A keyboard just after a key's byte that left these flags, where no byte waits.
+fn followed(modifiers: KeyboardModifiers) -> KeyboardState
+    ensures { λ r. ⌜ r ≡ followedBy (modifiers .bits) ⌝ }
+{
+    KeyboardState {
         waiting: WaitingBytes {
             bytes: [0; KEPT_LIMIT],
             count: 0,
         },
         prefix: false,
         modifiers,
-    };
-    put_keyboard(words, keyboard_at(side), followed);
-    let left = state.with_keyboard(side, followed);
-    let refusal = queue_key(words, left, side, scan_code, modifiers);
+    }
+}
+
+// A call that used the script's first byte, and asked for no lamp exchange.
+fn byte_used(refusal: u32) -> HandledWords
+    ensures { λ r. ⌜ r ≡ byteUsed refusal ⌝ }
+{
     HandledWords {
         refusal,
         lamps: 0,
@@ -466,18 +477,29 @@ fn handle_key(words: &mut [u64], side: Side, script: &[u8]) -> HandledWords
     }
 }
 
+// A call in which none waits, and the script's first byte is a key's and asks for no lamp exchange, at a table without the profile. It is followed, and its event is queued where there is room.
+fn handle_key(words: &mut [u64], side: Side, script: &[u8]) -> HandledWords
+    requires { ⌜ (length (now words) ≡ wordsLength) × KeyAlone side (stateOf (now words)) (now script) ⌝ }
+    ensures { λ r. ⌜ KeyHandled side (now (words .entry)) (now (script .entry)) r (now (words .exit)) ⌝ }
+{
+    let state = state_in(words);
+    if !state.call_formed(side) {
+        return refused(21);
+    }
+    let scan_code = script[0];
+    let modifiers = modifiers_after(Profile::Any, state.keyboard_at(side), scan_code);
+    let keyboard = followed(modifiers);
+    put_keyboard(words, keyboard_at(side), keyboard);
+    let left = state.with_keyboard(side, keyboard);
+    byte_used(queue_key(words, left, side, scan_code, modifiers))
+}
+
 // Whether a call is such a one.
 fn is_key_alone(words: &[u64], side: Side, script: &[u8]) -> bool
     requires { ⌜ length (now words) ≡ wordsLength ⌝ }
     ensures { λ r. ⌜ (r ≡ true → KeyAlone side (stateOf (now (words .entry))) (now (script .entry))) ⌝ }
 {
-    if script.len() == 0 {
-        return false;
-    }
-    if words[PROFILE_AT] != 0 {
-        return false;
-    }
-    if low_byte(words[keyboard_at(side) + 2]) != 0 {
+    if !is_from_script(words, side, script) {
         return false;
     }
     let scan_code = script[0];
@@ -521,6 +543,61 @@ fn handle_side(words: &mut [u64], side: Side, script: &[u8], log: &mut [u8]) -> 
     handled
 }
 
+// What most calls are: the same, of a key that has no flag, on a record that has a place for its event.
+fn handle_plain(words: &mut [u64], side: Side, script: &[u8]) -> HandledWords
+    requires { ⌜ PlainKey side (now words) (now script) ⌝ }
+    ensures { λ r. ⌜ KeyHandled side (now (words .entry)) (now (script .entry)) r (now (words .exit)) ⌝ }
+{
+    let scan_code = script[0];
+    let state = state_in(words);
+    let keyboard = state.keyboard_at(side);
+    let modifiers = keyboard.modifiers;
+    put_keyboard(words, keyboard_at(side), followed(modifiers));
+    let count = state.count;
+    let place = (state.start + count) % QUEUE_LENGTH;
+    let sides = state.sides;
+    let word = key_word(scan_code, modifiers);
+    put_place(words, place, word, count + 1, sides.with_side(side, count));
+    byte_used(0)
+}
+
+// Whether a call is such a one.
+fn is_plain_key(words: &[u64], side: Side, script: &[u8]) -> bool
+    ensures { λ r. ⌜ (r ≡ true → PlainKey side (now (words .entry)) (now (script .entry))) ⌝ }
+{
+    if words.len() != HANDLER_WORDS {
+        return false;
+    }
+    if !is_from_script(words, side, script) {
+        return false;
+    }
+    if !is_plain(script[0]) {
+        return false;
+    }
+    let state = state_in(words);
+    state.is_ready(side)
+}
+
+// Any other call for a side.
+fn handle_other(words: &mut [u64], side: Side, script: &[u8], log: &mut [u8]) -> HandledWords
+    ensures { λ r. ⌜ AtSide (some side) (now (words .entry)) (now (script .entry)) (now (log .entry)) r (now (words .exit)) (now (log .exit)) ⌝ }
+{
+    if words.len() != HANDLER_WORDS {
+        return refused(21);
+    }
+    handle_side(words, side, script, log)
+}
+
+// A handler call on a lent record, for a side: 21 where it has not 144 numbers. A function with two callers is compiled into neither, and a large answer copied from one to the other: so the dispatcher, which knows the side, calls this one and not the next.
+pub fn handle_at(words: &mut [u64], side: Side, script: &[u8], log: &mut [u8]) -> HandledWords
+    ensures { λ r. ⌜ AtSide (some side) (now (words .entry)) (now (script .entry)) (now (log .entry)) r (now (words .exit)) (now (log .exit)) ⌝ }
+{
+    if is_plain_key(words, side, script) {
+        return handle_plain(words, side, script);
+    }
+    handle_other(words, side, script, log)
+}
+
 // The side that a number stands for.
 fn side_of(side: u32) -> FoundSide
     ensures { λ r. ⌜ saidSide r ≡ sideAt side ⌝ }
@@ -555,10 +632,10 @@ pub fn handle_words(words: &mut [u64], side: u32, script: &[u8], log: &mut [u8])
     let found = side_of(side);
     match found {
         FoundSide::Side(known) => {
-            if words.len() != HANDLER_WORDS {
-                return refused(21);
+            if is_plain_key(words, known, script) {
+                return handle_plain(words, known, script);
             }
-            handle_side(words, known, script, log)
+            handle_other(words, known, script, log)
         }
         FoundSide::Nothing => refused(MEANS_NOTHING),
     }

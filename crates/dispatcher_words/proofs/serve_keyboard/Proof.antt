@@ -8,8 +8,8 @@ use Rattle.dispatcher_words.proofs.Turns.{keyboard-used, keyboard-turn}
 use Rattle.dispatcher_words.proofs.serve_keyboard.Statement.{statement}
 use Rattle.dispatcher_words.proofs.serve_keyboard.Tie as tie
 
-slice-aggregate-handle-words : tie.Need-slice-aggregate-handle-words
-slice-aggregate-handle-words c =
+slice-aggregate-handle-at : tie.Need-slice-aggregate-handle-at
+slice-aggregate-handle-at c =
     let x = c .before .before .before .before .before .before .before .before in
     sym (handler-length (x .args .words .now) (x .pre))
 
@@ -20,7 +20,7 @@ add-put-turn c =
     let p = s .before in
     let k = p .before .before in
     let x = k .before .before .before .before in
-    omega (arith, keyboard-used (x .args .side) (x .args .words .now) (x .args .script .now) (x .args .log .now) (x .pre) (p .place-in .result) (s .start .result) (p .place-in .ensures) (s .start .ensures .1) (k .source-number .ensures) (h .handle-words .ensures), x .good)
+    omega (arith, keyboard-used (x .args .side) (x .args .words .now) (x .args .script .now) (x .args .log .now) (x .pre) (p .place-in .result) (s .start .result) (p .place-in .ensures) (s .start .ensures .1) (k .source-number .ensures) (h .handle-at .ensures), x .good)
 
 returns : tie.Need-returns
 returns c =
@@ -30,7 +30,7 @@ returns c =
     let p = s .before in
     let k = p .before .before in
     let x = k .before .before .before .before in
-    keyboard-turn (x .args .side) (x .args .words .now) (x .args .script .now) (x .args .log .now) (x .pre) (p .place-in .result) (s .start .result) (p .place-in .ensures) (s .start .ensures .1) (k .source-number .ensures) (h .handle-words .ensures) (h .handle-words .kept .0) (c .refusing-packet-words .ensures) (t .put-turn .ensures)
+    keyboard-turn (x .args .side) (x .args .words .now) (x .args .script .now) (x .args .log .now) (x .pre) (p .place-in .result) (s .start .result) (p .place-in .ensures) (s .start .ensures .1) (k .source-number .ensures) (h .handle-at .ensures) (h .handle-at .kept .0) (c .refusing-packet-words .ensures) (t .put-turn .ensures)
 
 pub serve-keyboard-spec : {M : Type 1} → statement M
 serve-keyboard-spec =
@@ -40,7 +40,7 @@ serve-keyboard-spec =
     (λ c κs. search needs)
     (λ c κs. search needs)
     (λ c. search needs)
-    slice-aggregate-handle-words
+    slice-aggregate-handle-at
     (λ c. search needs)
     (λ c. search needs)
     (λ c. search needs)
