@@ -313,28 +313,78 @@ pub fn answer(call: &Call) -> Answer {
     Answer::Bytes { end, used, bytes: out }
 }
 
-/// Makes a call so many times for measuring.
-pub fn repeat(call: &Call, times: u64) {
-    let mut out = vec![0; call.room];
-    match &call.op {
-        Op::ReadPreferences(1) => (0..times).for_each(|_| {
-            let _ = black_box(read_preferences_1(black_box(&call.script)));
-        }),
-        Op::ReadPreferences(_) => (0..times).for_each(|_| {
-            let _ = black_box(read_preferences_2(black_box(&call.script)));
-        }),
-        Op::WritePreferences(told) => {
-            let record = record_of(told);
-            (0..times).for_each(|_| {
-                let _ = black_box(write_preferences(black_box(record), black_box(&mut out)));
-            })
-        }
-        Op::ConvertSet2 => (0..times).for_each(|_| {
-            let _ = black_box(convert_set2(black_box(&call.script), black_box(&mut out)));
-        }),
-        Op::TypeText => (0..times).for_each(|_| {
-            let _ = black_box(type_text(black_box(&call.script), black_box(&mut out)));
-        }),
-        _ => unreachable!("{} takes no lent bytes", call.op.name()),
+/// The operations as a program calls those of a library: none is made a part of its caller.
+mod called {
+    use super::*;
+
+    #[inline(never)]
+    pub(super) fn convert_set2(stream: &[u8], out: &mut [u8]) -> Converted {
+        super::convert_set2(stream, out)
     }
+
+    #[inline(never)]
+    pub(super) fn type_text(text: &[u8], out: &mut [u8]) -> Result<usize, NotTyped> {
+        super::type_text(text, out)
+    }
+
+    #[inline(never)]
+    pub(super) fn write_preferences(preferences: Preferences, out: &mut [u8]) -> Result<usize, NotWritten> {
+        super::write_preferences(preferences, out)
+    }
+
+    #[inline(never)]
+    pub(super) fn read_preferences_1(input: &[u8]) -> Result<Fields, NotRead> {
+        super::read_preferences_1(input)
+    }
+
+    #[inline(never)]
+    pub(super) fn read_preferences_2(input: &[u8]) -> Result<Preferences, NotRead> {
+        super::read_preferences_2(input)
+    }
+}
+
+/// Makes a call so many times for measuring, its answer left where the operation puts it. The operations are those of this module, or
+/// those of another that has the same names.
+macro_rules! repeat {
+    ($call:expr, $times:expr, $($operations:ident)::+) => {{
+        use $($operations)::+ as operations;
+        let (call, times): (&Call, u64) = ($call, $times);
+        let mut out = vec![0; call.room];
+        match &call.op {
+            Op::ReadPreferences(1) => (0..times).for_each(|_| {
+                let answer = operations::read_preferences_1(black_box(&call.script));
+                black_box(&answer);
+            }),
+            Op::ReadPreferences(_) => (0..times).for_each(|_| {
+                let answer = operations::read_preferences_2(black_box(&call.script));
+                black_box(&answer);
+            }),
+            Op::WritePreferences(told) => {
+                let record = record_of(told);
+                (0..times).for_each(|_| {
+                    let answer = operations::write_preferences(black_box(record), black_box(&mut out));
+                    black_box(&answer);
+                })
+            }
+            Op::ConvertSet2 => (0..times).for_each(|_| {
+                let answer = operations::convert_set2(black_box(&call.script), black_box(&mut out));
+                black_box(&answer);
+            }),
+            Op::TypeText => (0..times).for_each(|_| {
+                let answer = operations::type_text(black_box(&call.script), black_box(&mut out));
+                black_box(&answer);
+            }),
+            _ => unreachable!("{} takes no lent bytes", call.op.name()),
+        }
+    }};
+}
+
+/// The operations are a part of the loop, as the port's are in its own program.
+pub fn repeat(call: &Call, times: u64) {
+    repeat!(call, times, crate::plain)
+}
+
+/// The operations are called, as an export is.
+pub fn repeat_called(call: &Call, times: u64) {
+    repeat!(call, times, crate::plain::called)
 }

@@ -21,6 +21,14 @@ mod recording;
 #[path = "../../session/src/plain.rs"]
 mod session;
 
+/// Makes a call, whose answer is left where the call puts it: a copy of it would wait for the call's own stores.
+macro_rules! made {
+    ($call:expr) => {{
+        let answer = $call;
+        black_box(&answer);
+    }};
+}
+
 /// The calls of a row for one side of a table with two keyboards: each gives an event, and the side has places for so many.
 const SHARE: usize = 96;
 /// The rows of a measure.
@@ -73,7 +81,7 @@ fn handle_row(
 ) {
     vd::handler_fresh(black_box(words), keyboards, 0);
     for _ in 0..times {
-        black_box(vd::handle(words, side, script, log));
+        made!(vd::handle(words, side, script, log));
     }
 }
 
@@ -81,7 +89,7 @@ fn step_row(words: &mut [u64; DISPATCHER_WORDS], scripts: [&[u8]; 3], log: &mut 
     vd::dispatcher_fresh(black_box(words), 2, 0, 0);
     let [first, second, third] = scripts;
     for _ in 0..times {
-        black_box(vd::dispatcher_step(words, first, second, third, log));
+        made!(vd::dispatcher_step(words, first, second, third, log));
     }
 }
 
@@ -133,7 +141,7 @@ fn handler_calls(rounds: usize) {
             measures.time(&format!("vd-take{ready}"), ROWS * IN_A_ROW, || {
                 rows(&mut || {
                     black_box(&mut words).copy_from_slice(&full);
-                    (0..times).for_each(|_| _ = black_box(vd::take(&mut words)));
+                    (0..times).for_each(|_| made!(vd::take(&mut words)));
                 })
             });
         }
@@ -228,13 +236,13 @@ impl BytesCall {
         let preferences = self.preferences();
         let times = 0..self.times;
         match &self.call.op {
-            Op::ConvertSet2 => times.for_each(|_| _ = black_box(vd::convert_set2(black_box(script), black_box(out)))),
-            Op::TypeText => times.for_each(|_| _ = black_box(vd::type_text(black_box(script), black_box(out)))),
+            Op::ConvertSet2 => times.for_each(|_| made!(vd::convert_set2(black_box(script), black_box(out)))),
+            Op::TypeText => times.for_each(|_| made!(vd::type_text(black_box(script), black_box(out)))),
             Op::WritePreferences(_) => {
-                times.for_each(|_| _ = black_box(vd::preferences_write(black_box(preferences), black_box(out))))
+                times.for_each(|_| made!(vd::preferences_write(black_box(preferences), black_box(out))))
             }
-            Op::ReadPreferences(1) => times.for_each(|_| _ = black_box(vd::preferences_read_1(black_box(script)))),
-            _ => times.for_each(|_| _ = black_box(vd::preferences_read_2(black_box(script)))),
+            Op::ReadPreferences(1) => times.for_each(|_| made!(vd::preferences_read_1(black_box(script)))),
+            _ => times.for_each(|_| made!(vd::preferences_read_2(black_box(script)))),
         }
     }
 }
@@ -271,7 +279,7 @@ fn measure_bytes(rounds: usize, calls: &[BytesCall]) {
     Measures::rounds(rounds, |measures| {
         for one in calls {
             let BytesCall { name, call, times } = one;
-            measures.time(&format!("{name}-rust"), *times, || plain::repeat(call, *times as u64));
+            measures.time(&format!("{name}-rust"), *times, || plain::repeat_called(call, *times as u64));
             let out = &mut out[..call.room];
             measures.time(&format!("{name}-port"), *times, || one.repeat(out));
         }
@@ -317,10 +325,10 @@ fn recordings(rounds: usize) {
     Measures::rounds(rounds, |measures| {
         for (name, id, recording) in &recordings {
             measures.time(&format!("{name}-rust"), 1, || {
-                black_box(recording::salvage(*id, black_box(recording), &mut packets, &mut positions));
+                made!(recording::salvage(*id, black_box(recording), &mut packets, &mut positions))
             });
             measures.time(&format!("{name}-port"), 1, || {
-                black_box(vd::salvage(*id as u32, black_box(recording), &mut packets, &mut positions));
+                made!(vd::salvage(*id as u32, black_box(recording), &mut packets, &mut positions))
             });
         }
     });
@@ -341,10 +349,10 @@ fn sessions(rounds: usize) {
     Measures::rounds(rounds, |measures| {
         for (name, id, mouse) in &sessions {
             measures.time(&format!("{name}-rust"), 1, || {
-                black_box(session::report(*id, black_box(&events), black_box(mouse)));
+                made!(session::report(*id, black_box(&events), black_box(mouse)))
             });
             measures.time(&format!("{name}-port"), 1, || {
-                black_box(vd::report_add(vd::report_empty(), *id as u32, black_box(&events), black_box(mouse)));
+                made!(vd::report_add(vd::report_empty(), *id as u32, black_box(&events), black_box(mouse)))
             });
         }
     });
