@@ -10,7 +10,7 @@ use borrow.Author.Tests.{eqb-true}
 use Rattle.bits.specs.Bits.{putBit}
 use Rattle.bits.proofs.Every.{agree}
 use Rattle.exchange.specs.Answer.{gives, refuses}
-use Rattle.scancode_set2.specs.Table.{entryOf, orNone}
+use Rattle.scancode_set2.specs.Table.{entryOf}
 use Rattle.scancode_set2.specs.Codes.{isPrefix, Code, alone, afterF0, endsAfterF0}
 use Rattle.scancode_set2.specs.Convert.{withTopBit, byEntry, becomes, orNoByte}
 use Rattle.scancode_set2.proofs.Table.{entry-press}
@@ -100,25 +100,3 @@ zero-refused c (a-byte b h q) z = absurd (omega (arith, sym z ∙ ap orNoByte q)
 pub byte-given : (c : Code) → Way c → (orNoByte (becomes c) ≡ 0 → ⊥) → becomes c ≡ gives (orNoByte (becomes c))
 byte-given c (no-byte q) n = absurd (n (ap orNoByte q))
 byte-given c (a-byte b h q) n = q ∙ ap gives (sym (ap orNoByte q))
-
--- a code's byte by its entry
-pub pressed-entry : (c : ℕ) → isPrefix c ≡ false → orNoByte (becomes (alone c)) ≡ orNone (entryOf c)
-pressed-entry c p = ap orNoByte (alone-entry c p) ∙ by (entryOf c)
-  where
-    by : (x : Option ℕ) → orNoByte (byEntry (λ e. e) x) ≡ orNone x
-    by none = refl
-    by (some e) = refl
-
-pub released-none : (c : ℕ) → orNone (entryOf c) ≡ 0 → orNoByte (becomes (afterF0 c)) ≡ 0
-released-none c z = by (after-is c)
-  where
-    by : After c → orNoByte (becomes (afterF0 c)) ≡ 0
-    by (is-release e q) = absurd (omega (arith, entry-press c e .0, sym z ∙ ap orNone e))
-    by (is-no-release e q) = ap orNoByte q
-
-pub released-some : (c : ℕ) → (orNone (entryOf c) ≡ 0 → ⊥) → orNoByte (becomes (afterF0 c)) ≡ withTopBit (orNone (entryOf c))
-released-some c n = by (after-is c)
-  where
-    by : After c → orNoByte (becomes (afterF0 c)) ≡ withTopBit (orNone (entryOf c))
-    by (is-release e q) = ap orNoByte q ∙ ap withTopBit (sym (ap orNone e))
-    by (is-no-release e q) = absurd (n (ap orNone e))

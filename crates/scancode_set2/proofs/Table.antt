@@ -13,7 +13,7 @@ use borrow.Author.Tests.{le-leb, lt-leb, ltb-true, ltb-false, ne-eqb}
 use Rattle.bits.specs.Table.{listed}
 use Rattle.bits.proofs.Every.{every, every-at, agree, each}
 use Rattle.scancode_set1.specs.Set1.{set1, set1AfterE0}
-use Rattle.scancode_set2.specs.Table.{printed, isUsed, entryOf, orNone, Tabulates}
+use Rattle.scancode_set2.specs.Table.{printed, isUsed, entryOf, orNone}
 use Rattle.scancode_set2.specs.Set2.{set2, set2AfterE0}
 
 -- ---- which codes have an entry
@@ -98,15 +98,3 @@ set2-set1 = tt
 pub set2-set1-after-e0 : T (each (isKeyOf set1AfterE0) set2AfterE0)
 unfolding isKeyOf entryOf printed
 set2-set1-after-e0 = tt
-
--- ---- the code's table
-
--- the entries of the codes from c on, as numbers
-abbrev entries : ℕ → ℕ → List ℕ
-entries zero c = []
-entries (suc n) c = orNone (entryOf c) ∷ entries n (suc c)
-
--- a list with these numbers from code 00 on has every code's entry
-pub tabulates : Tabulates (entries 256 0)
-unfolding entryOf printed
-tabulates = record { at = agree (λ (c : ℕ). getD (entries 256 0) c 0) (λ (c : ℕ). orNone (entryOf c)) 256 tt }

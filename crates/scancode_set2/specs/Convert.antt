@@ -3,7 +3,7 @@
 use mathlib.Core.Bool.{true, cond}
 use mathlib.Core.List.{List, [], _∷_, _++_}
 use mathlib.Core.Option.{Option, none, some}
-use Prim.Native.Nat.{ℕ, zero, suc, _+_}
+use Prim.Native.Nat.{ℕ, zero, suc, _+_, _*_}
 use lib.ListN.{length, drop}
 use Rattle.bits.specs.Bits.{putBit}
 use Rattle.exchange.specs.Answer.{Answer, gives, refuses}
@@ -31,6 +31,10 @@ becomes endsAfterF0 = refuses 24
 abbrev pub orNoByte : Answer ℕ → ℕ
 orNoByte (gives b) = b
 orNoByte (refuses n) = 0x00
+
+-- Both bytes of a code as one number: after F0 in the high byte, by itself in the low one.
+unfoldable pub bothBytes : ℕ → ℕ
+bothBytes c = orNoByte (becomes (alone c)) + 256 * orNoByte (becomes (afterF0 c))
 
 -- What a conversion comes to: how it ended, the bytes of the stream that it used, and the bytes that it wrote.
 pub record Converted : Type 0 where

@@ -3,8 +3,7 @@
 use mathlib.Core.Bool.{Bool, cond, _&&_, _||_}
 use mathlib.Core.List.{List, [], _∷_}
 use mathlib.Core.Option.{Option, none, some}
-use mathlib.Core.Path.{_≡_}
-use Prim.Native.Nat.{ℕ, _<_}
+use Prim.Native.Nat.{ℕ}
 use lib.Dec.{eqb, leb}
 use lib.ListN.{getD}
 
@@ -33,7 +32,3 @@ entryOf c = cond (isUsed c) (some (getD printed c 0)) none
 abbrev pub orNone : Option ℕ → ℕ
 orNone (some e) = e
 orNone none = 0x00
-
--- A list of numbers that has, at the place of each code, the code's entry.
-pub record Tabulates (table : List ℕ) : Type 0 where
-  pub at : (c : ℕ) → c < 256 → getD table c 0 ≡ orNone (entryOf c)

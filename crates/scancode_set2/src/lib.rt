@@ -1,10 +1,7 @@
 // Keyboards that speak scan code set 2: their key stream converted to set 1, by the 8042's translation table.
 ghost use mathlib.Core.Path.{_≡_};
-ghost use Prim.Native.Nat.{_<_};
 ghost use Rattle.exchange.specs.Answer.{numberAnswered};
-ghost use Rattle.scancode_set2.specs.Table.{entryOf, orNone, Tabulates};
-ghost use Rattle.scancode_set2.specs.Codes.{Code};
-ghost use Rattle.scancode_set2.specs.Convert.{becomes, orNoByte, outcome, converted, saidConverted};
+ghost use Rattle.scancode_set2.specs.Convert.{bothBytes, outcome, converted, saidConverted};
 
 // How a conversion ends: done, or with the refusal that request 2.2 numbers 22, 23 or 24.
 pub enum ConvertAnswer {
@@ -38,43 +35,20 @@ pub struct Conversion {
 // F0, which stands before the code of a key that is released.
 const BREAK: u8 = 0xF0;
 
-// In set 1 a key's release is its press with the top bit set.
-const RELEASED: u8 = 0x80;
-
-// What the table has for a code that has no entry.
+// What stands for the byte of a code that has no entry.
 const NO_ENTRY: u8 = 0x00;
-
-// The press byte of set 1 for each code of set 2, in rows of sixteen.
-const TABLE: [u8; 256] = *b"\
-    \x00\x43\x41\x3F\x3D\x3B\x3C\x58\x64\x44\x42\x40\x3E\x0F\x29\x59\
-    \x65\x38\x2A\x70\x1D\x10\x02\x5A\x66\x71\x2C\x1F\x1E\x11\x03\x5B\
-    \x67\x2E\x2D\x20\x12\x05\x04\x5C\x68\x39\x2F\x21\x14\x13\x06\x5D\
-    \x69\x31\x30\x23\x22\x15\x07\x5E\x6A\x72\x32\x24\x16\x08\x09\x5F\
-    \x6B\x33\x25\x17\x18\x0B\x0A\x60\x6C\x34\x35\x26\x27\x19\x0C\x61\
-    \x6D\x73\x28\x74\x1A\x0D\x62\x6E\x3A\x36\x1C\x1B\x75\x2B\x63\x76\
-    \x55\x56\x77\x78\x79\x7A\x0E\x7B\x7C\x4F\x7D\x4B\x47\x7E\x7F\x6F\
-    \x52\x53\x50\x4C\x4D\x48\x01\x45\x57\x4E\x51\x4A\x37\x49\x46\x54\
-    \x00\x00\x00\x41\x54\x00\x00\x00\x00\x00\x00\x00\x00\x00\x00\x00\
-    \x00\x00\x00\x00\x00\x00\x00\x00\x00\x00\x00\x00\x00\x00\x00\x00\
-    \x00\x00\x00\x00\x00\x00\x00\x00\x00\x00\x00\x00\x00\x00\x00\x00\
-    \x00\x00\x00\x00\x00\x00\x00\x00\x00\x00\x00\x00\x00\x00\x00\x00\
-    \x00\x00\x00\x00\x00\x00\x00\x00\x00\x00\x00\x00\x00\x00\x00\x00\
-    \x00\x00\x00\x00\x00\x00\x00\x00\x00\x00\x00\x00\x00\x00\x00\x00\
-    \x00\x00\x00\x00\x00\x00\x00\x00\x00\x00\x00\x00\x00\x00\x00\x00\
-    \x00\x00\x00\x00\x00\x00\x00\x00\x00\x00\x00\x00\x00\x00\x00\x00";
 
 // Converts a set 2 key stream to set 1, from the start of both slices on. Behind the bytes written the output stays as it was.
 pub fn convert(stream: &[u8], out: &mut [u8]) -> Conversion
     ensures { λ r. ⌜ outcome (saidConverted (r .answer)) (r .used) (r .written) (now (out .exit)) ≡ converted (now (stream .entry)) (now (out .entry)) ⌝ }
 {
-    // An array that is indexed lies on the stack: once for the call, and not for each code.
-    let table = TABLE;
     let mut used: usize = 0;
     let mut written: usize = 0;
     while used < stream.len() {
         let code = stream[used];
-        let byte: u8;
+        let key: u8;
         let width: usize;
+        let shift: u16;
         if code == BREAK {
             if stream.len() - used == 1 {
                 return Conversion {
@@ -83,12 +57,15 @@ pub fn convert(stream: &[u8], out: &mut [u8]) -> Conversion
                     written,
                 };
             }
-            byte = released(&table, stream[used + 1]);
+            key = stream[used + 1];
             width = 2;
+            shift = 8;
         } else {
-            byte = pressed(&table, code);
+            key = code;
             width = 1;
+            shift = 0;
         }
+        let byte = ((both_bytes(key) >> shift) % 256) as u8;
         if byte == NO_ENTRY {
             return Conversion {
                 answer: ConvertAnswer::NoEntry,
@@ -114,33 +91,143 @@ pub fn convert(stream: &[u8], out: &mut [u8]) -> Conversion
     }
 }
 
-// The byte for F0 and a code.
-fn released(table: &[u8; 256], code: u8) -> u8
-    requires { ⌜ Tabulates (now table) ⌝ }
-    ensures { λ r. ⌜ r ≡ orNoByte (becomes (Code.afterF0 code)) ⌝ }
-{
-    let byte = entry(table, code);
-    if byte == NO_ENTRY {
-        return NO_ENTRY;
-    }
-    byte | RELEASED
-}
-
-// The byte for a code by itself: E0 and E1 pass through.
-fn pressed(table: &[u8; 256], code: u8) -> u8
-    requires { ⌜ Tabulates (now table) ⌝ }
-    ensures { λ r. ⌜ r ≡ orNoByte (becomes (Code.alone code)) ⌝ }
+// For each code of set 2, the bytes of set 1 that it becomes: after F0 in the high byte, by itself in the low one.
+// A `match` that is asked in one place becomes a load; an array that is indexed would be put on the stack at each call.
+fn both_bytes(code: u8) -> u16
+    ensures { λ r. ⌜ r ≡ bothBytes code ⌝ }
 {
     match code {
-        0xE0 => code,
-        0xE1 => code,
-        _ => entry(table, code),
+        0x01 => 0xC343,
+        0x02 => 0xC141,
+        0x03 => 0xBF3F,
+        0x04 => 0xBD3D,
+        0x05 => 0xBB3B,
+        0x06 => 0xBC3C,
+        0x07 => 0xD858,
+        0x08 => 0xE464,
+        0x09 => 0xC444,
+        0x0A => 0xC242,
+        0x0B => 0xC040,
+        0x0C => 0xBE3E,
+        0x0D => 0x8F0F,
+        0x0E => 0xA929,
+        0x0F => 0xD959,
+        0x10 => 0xE565,
+        0x11 => 0xB838,
+        0x12 => 0xAA2A,
+        0x13 => 0xF070,
+        0x14 => 0x9D1D,
+        0x15 => 0x9010,
+        0x16 => 0x8202,
+        0x17 => 0xDA5A,
+        0x18 => 0xE666,
+        0x19 => 0xF171,
+        0x1A => 0xAC2C,
+        0x1B => 0x9F1F,
+        0x1C => 0x9E1E,
+        0x1D => 0x9111,
+        0x1E => 0x8303,
+        0x1F => 0xDB5B,
+        0x20 => 0xE767,
+        0x21 => 0xAE2E,
+        0x22 => 0xAD2D,
+        0x23 => 0xA020,
+        0x24 => 0x9212,
+        0x25 => 0x8505,
+        0x26 => 0x8404,
+        0x27 => 0xDC5C,
+        0x28 => 0xE868,
+        0x29 => 0xB939,
+        0x2A => 0xAF2F,
+        0x2B => 0xA121,
+        0x2C => 0x9414,
+        0x2D => 0x9313,
+        0x2E => 0x8606,
+        0x2F => 0xDD5D,
+        0x30 => 0xE969,
+        0x31 => 0xB131,
+        0x32 => 0xB030,
+        0x33 => 0xA323,
+        0x34 => 0xA222,
+        0x35 => 0x9515,
+        0x36 => 0x8707,
+        0x37 => 0xDE5E,
+        0x38 => 0xEA6A,
+        0x39 => 0xF272,
+        0x3A => 0xB232,
+        0x3B => 0xA424,
+        0x3C => 0x9616,
+        0x3D => 0x8808,
+        0x3E => 0x8909,
+        0x3F => 0xDF5F,
+        0x40 => 0xEB6B,
+        0x41 => 0xB333,
+        0x42 => 0xA525,
+        0x43 => 0x9717,
+        0x44 => 0x9818,
+        0x45 => 0x8B0B,
+        0x46 => 0x8A0A,
+        0x47 => 0xE060,
+        0x48 => 0xEC6C,
+        0x49 => 0xB434,
+        0x4A => 0xB535,
+        0x4B => 0xA626,
+        0x4C => 0xA727,
+        0x4D => 0x9919,
+        0x4E => 0x8C0C,
+        0x4F => 0xE161,
+        0x50 => 0xED6D,
+        0x51 => 0xF373,
+        0x52 => 0xA828,
+        0x53 => 0xF474,
+        0x54 => 0x9A1A,
+        0x55 => 0x8D0D,
+        0x56 => 0xE262,
+        0x57 => 0xEE6E,
+        0x58 => 0xBA3A,
+        0x59 => 0xB636,
+        0x5A => 0x9C1C,
+        0x5B => 0x9B1B,
+        0x5C => 0xF575,
+        0x5D => 0xAB2B,
+        0x5E => 0xE363,
+        0x5F => 0xF676,
+        0x60 => 0xD555,
+        0x61 => 0xD656,
+        0x62 => 0xF777,
+        0x63 => 0xF878,
+        0x64 => 0xF979,
+        0x65 => 0xFA7A,
+        0x66 => 0x8E0E,
+        0x67 => 0xFB7B,
+        0x68 => 0xFC7C,
+        0x69 => 0xCF4F,
+        0x6A => 0xFD7D,
+        0x6B => 0xCB4B,
+        0x6C => 0xC747,
+        0x6D => 0xFE7E,
+        0x6E => 0xFF7F,
+        0x6F => 0xEF6F,
+        0x70 => 0xD252,
+        0x71 => 0xD353,
+        0x72 => 0xD050,
+        0x73 => 0xCC4C,
+        0x74 => 0xCD4D,
+        0x75 => 0xC848,
+        0x76 => 0x8101,
+        0x77 => 0xC545,
+        0x78 => 0xD757,
+        0x79 => 0xCE4E,
+        0x7A => 0xD151,
+        0x7B => 0xCA4A,
+        0x7C => 0xB737,
+        0x7D => 0xC949,
+        0x7E => 0xC646,
+        0x7F => 0xD454,
+        0x83 => 0xC141,
+        0x84 => 0xD454,
+        0xE0 => 0x00E0,
+        0xE1 => 0x00E1,
+        _ => 0,
     }
-}
-
-fn entry(table: &[u8; 256], code: u8) -> u8
-    requires { ⌜ Tabulates (now table) ⌝ }
-    ensures { λ r. ⌜ r ≡ orNone (entryOf code) ⌝ }
-{
-    table[code as usize]
 }

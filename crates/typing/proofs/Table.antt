@@ -24,9 +24,9 @@ entry-at zero from c h = absurd (not-suc-le-zero h)
 entry-at (suc n) from zero h = rw (add-zero from)
 entry-at (suc n) from (suc c) h = rw (add-suc from c, ← suc-add) (entry-at n (suc from) c (omega arith))
 
--- a list with these numbers from 00 on has every byte's key
-pub tabulates : Tabulates (entries 256 0)
-tabulates = record { at = λ c h. rw (zero-add c) at (entry-at 256 0 c h) }
+-- a list with these numbers from 00 on has the key of every byte below 80
+pub tabulates : Tabulates (entries 0x80 0)
+tabulates = record { at = λ c h. rw (zero-add c) at (entry-at 0x80 0 c h) }
 
 -- ---- what a number says
 

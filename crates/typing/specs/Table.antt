@@ -19,6 +19,6 @@ abbrev pub orNone : Option Key → ℕ
 orNone none = 0x00
 orNone (some k) = marked (k .shift) (numberOf (k .keycode))
 
--- A list of numbers that has, at the place of each byte, the byte's key.
+-- A list of numbers that has, at the place of each byte below 80 (hexadecimal), the byte's key.
 pub record Tabulates (table : List ℕ) : Type 0 where
-  pub at : (c : ℕ) → c < 256 → getD table c 0 ≡ orNone (keyOf c)
+  pub at : (c : ℕ) → c < 0x80 → getD table c 0 ≡ orNone (keyOf c)

@@ -53,8 +53,11 @@ const NEEDS_SHIFT: u8 = 0x80;
 
 const NO_KEY: u8 = 0x00;
 
-// The key of each character, in rows of sixteen.
-const KEYS: [u8; 256] = *b"\
+// No character from here on has a key.
+const END_OF_KEYS: u8 = 0x80;
+
+// The key of each character before that, in rows of sixteen.
+const KEYS: [u8; 128] = *b"\
     \x00\x00\x00\x00\x00\x00\x00\x00\x0E\x0F\x1C\x00\x00\x00\x00\x00\
     \x00\x00\x00\x00\x00\x00\x00\x00\x00\x00\x00\x01\x00\x00\x00\x00\
     \x39\x82\xA8\x84\x85\x86\x88\x28\x8A\x8B\x37\x4E\x33\x0C\x34\x35\
@@ -62,15 +65,7 @@ const KEYS: [u8; 256] = *b"\
     \x83\x9E\xB0\xAE\xA0\x92\xA1\xA2\xA3\x97\xA4\xA5\xA6\xB2\xB1\x98\
     \x99\x90\x93\x9F\x94\x96\xAF\x91\xAD\x95\xAC\x1A\x2B\x1B\x87\x8C\
     \x29\x1E\x30\x2E\x20\x12\x21\x22\x23\x17\x24\x25\x26\x32\x31\x18\
-    \x19\x10\x13\x1F\x14\x16\x2F\x11\x2D\x15\x2C\x9A\xAB\x9B\xA9\x00\
-    \x00\x00\x00\x00\x00\x00\x00\x00\x00\x00\x00\x00\x00\x00\x00\x00\
-    \x00\x00\x00\x00\x00\x00\x00\x00\x00\x00\x00\x00\x00\x00\x00\x00\
-    \x00\x00\x00\x00\x00\x00\x00\x00\x00\x00\x00\x00\x00\x00\x00\x00\
-    \x00\x00\x00\x00\x00\x00\x00\x00\x00\x00\x00\x00\x00\x00\x00\x00\
-    \x00\x00\x00\x00\x00\x00\x00\x00\x00\x00\x00\x00\x00\x00\x00\x00\
-    \x00\x00\x00\x00\x00\x00\x00\x00\x00\x00\x00\x00\x00\x00\x00\x00\
-    \x00\x00\x00\x00\x00\x00\x00\x00\x00\x00\x00\x00\x00\x00\x00\x00\
-    \x00\x00\x00\x00\x00\x00\x00\x00\x00\x00\x00\x00\x00\x00\x00\x00";
+    \x19\x10\x13\x1F\x14\x16\x2F\x11\x2D\x15\x2C\x9A\xAB\x9B\xA9\x00";
 
 // Writes the scancodes of a text to the start of an output: each key's press and release, with those of Shift around a key that needs it.
 // What is not written stays as it was; a refusal writes nothing.
@@ -104,15 +99,18 @@ fn refusal(answer: TypingAnswer) -> Typing
 }
 
 // The key of a character.
-fn key_of(keys: &[u8; 256], character: u8) -> u8
+fn key_of(keys: &[u8; 128], character: u8) -> u8
     requires { ⌜ Tabulates (now keys) ⌝ }
     ensures { λ r. ⌜ r ≡ orNone (keyOf character) ⌝ }
 {
+    if END_OF_KEYS <= character {
+        return NO_KEY;
+    }
     keys[character as usize]
 }
 
 // Asks every character for its key, and counts those that need Shift.
-fn count_shifted(keys: &[u8; 256], text: &[u8]) -> Counted
+fn count_shifted(keys: &[u8; 128], text: &[u8]) -> Counted
     requires { ⌜ Tabulates (now keys) ⌝ }
     ensures { λ r. ⌜ r ≡ countOf (keysOf (now (text .entry))) ⌝ }
 {
@@ -132,7 +130,7 @@ fn count_shifted(keys: &[u8; 256], text: &[u8]) -> Counted
 }
 
 // Writes the scancodes of a text that is accepted, and answers how many they are.
-fn put_keys(keys: &[u8; 256], text: &[u8], out: &mut [u8]) -> usize
+fn put_keys(keys: &[u8; 128], text: &[u8], out: &mut [u8]) -> usize
     requires { ⌜ Tabulates (now keys) × Accepted (length (now out)) (now text) ⌝ }
     ensures { λ r. ⌜ outcome (gives success) r (now (out .exit)) ≡ leaves (now (out .entry)) (typed (length (now (out .entry))) (now (text .entry))) ⌝ }
 {

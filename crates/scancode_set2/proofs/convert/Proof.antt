@@ -1,64 +1,70 @@
 -- `scancode_set2::convert` meets its contract. The loop's invariant is how far the conversion has come; each return is where nothing more is converted.
 -- Assumes nothing.
-use Prim.Native.Nat.{_-_}
+use Prim.Native.Nat.{_-_, _/_, _%_, _^_}
 use mathlib.Core.Logic.{⊎-elim}
 use native.Mathlib.Omega.{arith}
+use borrow.Author.Needs.{needs}
 use lib.ListN.{length}
-use Rattle.scancode_set2.specs.Table.{entryOf, printed, Tabulates}
-use Rattle.scancode_set2.proofs.Table.{tabulates}
+use Rattle.scancode_set2.proofs.Bytes.{shift-alone, shift-after}
 use Rattle.scancode_set2.proofs.Codes.{cut-at}
 use Rattle.scancode_set2.proofs.Progress.{Reached, reached-start, reached-end, stop-done, stop-22, stop-23, stop-24, Stands, stands-alone, stands-after, goes-on}
-use Rattle.scancode_set2.proofs.pressed.Reads as pressed-reads
-use Rattle.scancode_set2.proofs.released.Reads as released-reads
+use Rattle.scancode_set2.proofs.both_bytes.Reads as both-bytes-reads
 use Rattle.scancode_set2.proofs.convert.Reads as reads
 use Rattle.scancode_set2.proofs.convert.Lts as lts
 use Rattle.scancode_set2.proofs.convert.Statement.{statement}
 use Rattle.scancode_set2.proofs.convert.Tie as tie
 
 abbrev Inv-loop : tie.InvT-loop
-Inv-loop stream out₀ table used₀ written₀ out used written = Reached stream out₀ used written out × Tabulates table
+Inv-loop stream out₀ used₀ written₀ out used written = Reached stream out₀ used written out
 
 abbrev μ-loop : tie.MeasureT-loop
-μ-loop stream out₀ table used₀ written₀ out used written = length stream - used
+μ-loop stream out₀ used₀ written₀ out used written = length stream - used
 
 loop-holds : tie.Need-loop-holds Inv-loop μ-loop
-unfolding entryOf printed
-loop-holds c = (reached-start _ _, tabulates)
+loop-holds c = reached-start _ _
 
 same-length : tie.Need-same-length Inv-loop μ-loop
-same-length c = c .before .before .before .before .loop .inv .0 .same
+same-length c = c .before .before .before .before .loop .inv .same
 
 -- F0 at the end
 returns : tie.Need-returns Inv-loop μ-loop
 returns c =
     let l = c .before .before .before .before .loop in
     let stream = c .before .before .before .before .before .before .before .args .stream .now in
-    reached-end (l .inv .0) (stop-24 stream (l .used) _ (cut-at stream (l .used) (c .before .before .before .loop-test .taken) (c .before .if1 .taken) (c .if2 .taken)))
+    reached-end (l .inv) (stop-24 stream (l .used) _ (cut-at stream (l .used) (c .before .before .before .loop-test .taken) (c .before .if1 .taken) (c .if2 .taken)))
+
+shr-byte : tie.Need-shr-byte Inv-loop μ-loop
+shr-byte c = ⊎-elim (λ w. omega arith) (λ w. omega arith) (c .before .before .if1 .came)
 
 -- where the two kinds of code meet: one of so many bytes stands at the place, and becomes the byte
-stands : (c : lts.Joined1 (released-reads.Asked, released-reads.Learnt, pressed-reads.Asked, pressed-reads.Learnt) reads.Pre reads.Post Inv-loop μ-loop)
-    → Stands (c .before .before .before .before .before .before .args .stream .now) (c .before .before .before .loop .used) (c .if1 .byte) (c .if1 .width)
+stands : (c : lts.After-row-known (both-bytes-reads.Asked, both-bytes-reads.Learnt) reads.Pre reads.Post Inv-loop μ-loop)
+    → Stands
+    (c .before .before .before .before .before .before .before .before .args .stream .now)
+    (c .before .before .before .before .before .loop .used)
+    (c .before .both-bytes .result / 2 ^ c .before .before .if1 .shift % 256)
+    (c .before .before .if1 .width)
 stands c =
-    let h = c .before .before .loop-test .taken in
+    let h = c .before .before .before .before .loop-test .taken in
+    let known = c .before .before .before .shared-slice-known2 .given in
     ⊎-elim
-    (λ w. rw (w .5, w .6) (stands-after _ _ _ h (w .0 .taken) (w .1 .left) (w .4 .ensures)))
-    (λ w. rw (w .3, w .4) (stands-alone _ _ _ h (w .0 .left) (w .2 .ensures)))
-    (c .if1 .came)
+    (λ w. rw (c .before .both-bytes .ensures, w .3, w .4, w .5) (stands-after _ _ _ h (w .0 .taken) (w .1 .left) (shift-after _ (known _ .fits))))
+    (λ w. rw (c .before .both-bytes .ensures, w .1, w .2, w .3) (stands-alone _ _ _ h (w .0 .left) (shift-alone _ (known _ .fits))))
+    (c .before .before .if1 .came)
 
 same-length-2 : tie.Need-same-length-2 Inv-loop μ-loop
-same-length-2 c = c .before .before .before .before .loop .inv .0 .same
+same-length-2 c = c .before .before .before .before .before .before .loop .inv .same
 
 -- a code without an entry
 returns-2 : tie.Need-returns-2 Inv-loop μ-loop
-returns-2 c = reached-end (c .before .before .before .before .loop .inv .0) (stop-22 (stands (c .before)) _ (c .if3 .taken))
+returns-2 c = reached-end (c .before .before .before .before .before .before .loop .inv) (stop-22 (stands (c .before)) _ (c .if3 .taken))
 
 same-length-3 : tie.Need-same-length-3 Inv-loop μ-loop
-same-length-3 c = c .before .before .before .before .before .loop .inv .0 .same
+same-length-3 c = c .before .before .before .before .before .before .before .loop .inv .same
 
 -- a full output
 returns-3 : tie.Need-returns-3 Inv-loop μ-loop
 returns-3 c =
-    let r = c .before .before .before .before .before .loop .inv .0 in
+    let r = c .before .before .before .before .before .before .before .loop .inv in
     reached-end r (stop-23 (stands (c .before .before)) (c .before .if3 .left) _ (omega (arith, r .same)))
 
 add-used : tie.Need-add-used Inv-loop μ-loop
@@ -69,14 +75,14 @@ loop-less c = omega (arith, stands (c .before .before .before) .some-bytes, stan
 
 loop-again : tie.Need-loop-again Inv-loop μ-loop
 loop-again c =
-    let l = c .before .before .before .before .before .before .loop in
-    (goes-on (stands (c .before .before .before)) (c .before .before .if3 .left) (l .inv .0) (c .before .if4 .left), l .inv .1)
+    let l = c .before .before .before .before .before .before .before .before .loop in
+    goes-on (stands (c .before .before .before)) (c .before .before .if3 .left) (l .inv) (c .before .if4 .left)
 
 same-length-4 : tie.Need-same-length-4 Inv-loop μ-loop
-same-length-4 c = c .before .loop .inv .0 .same
+same-length-4 c = c .before .loop .inv .same
 
 returns-4 : tie.Need-returns-4 Inv-loop μ-loop
-returns-4 c = reached-end (c .before .loop .inv .0) (stop-done _ _ _ (c .loop-test .left))
+returns-4 c = reached-end (c .before .loop .inv) (stop-done _ _ _ (c .loop-test .left))
 
 pub convert-spec : {M : Type 1} → statement M
 convert-spec =
@@ -91,8 +97,9 @@ convert-spec =
     returns
     (λ c. omega arith)
     (λ c. omega arith)
-    (λ c κs. c .before .before .before .before .before .before .loop .inv .1)
-    (λ c κs. c .before .before .before .before .loop .inv .1)
+    (λ c κs. search needs)
+    shr-byte
+    (λ c. search needs)
     same-length-2
     returns-2
     same-length-3

@@ -1,11 +1,17 @@
--- `typing::key_of` meets its contract: the lent table has the key of every byte.
+-- `typing::key_of` meets its contract: no byte from 80 on has a key, and the lent table has that of every other.
 -- Assumes nothing.
 use borrow.Author.Needs.{needs}
+use mathlib.Core.Path.{sym, ap}
+use Rattle.typing.specs.Table.{orNone}
+use Rattle.typing.proofs.Typable.{typable-above}
 use Rattle.typing.proofs.key_of.Statement.{statement}
 use Rattle.typing.proofs.key_of.Tie as tie
 
 returns : tie.Need-returns
-returns c = c .before .pre .at (c .before .args .character) (search needs)
+returns c = sym (ap orNone (typable-above (c .before .args .character) (search needs) (c .if1 .taken)))
+
+returns-2 : tie.Need-returns-2
+returns-2 c = c .before .before .pre .at (c .before .before .args .character) (search needs)
 
 pub key-of-spec : {M : Type 1} → statement M
-key-of-spec = tie.close (tie.spec (λ c. search needs) returns)
+key-of-spec = tie.close (tie.spec returns (λ c. search needs) returns-2)
