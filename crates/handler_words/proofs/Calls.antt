@@ -2,11 +2,13 @@
 -- Assumes nothing.
 use mathlib.Core.Path.{_≡_, refl, sym, ap, subst, _∙_}
 use mathlib.Core.Bool.{true, false, _||_}
+use mathlib.Core.Logic.{_≢_}
 use mathlib.Core.List.{List}
 use mathlib.Core.Option.{Option, none, some}
 use Prim.Native.Nat.{ℕ, _+_, _%_}
 use lib.Dec.{eqb}
 use lib.ListN.{length, set, length-set}
+use borrow.Author.Tests.{ne-eqb}
 use Rattle.exchange.specs.Answer.{numberAnswered, numberEnded}
 use Rattle.keycodes_ascii.specs.declared.KeyEvent.{KeyEvent}
 use Rattle.keyboard_scancodes.specs.declared.KeyboardState.{KeyboardState}
@@ -25,13 +27,12 @@ use Rattle.keyboard.specs.Outcomes.{saidEvent, saidEffect}
 use Rattle.keyboard.proofs.Effects.{queued-well}
 use Rattle.keyboard.proofs.Refused.{record-as-passed}
 use Rattle.port_words.specs.Told.{portLacked}
-use Rattle.handler_words.specs.declared.FoundSide.{FoundSide}
 use Rattle.handler_words.specs.declared.HandledWords.{HandledWords}
 use Rattle.handler_words.specs.Layout.{keyboardFrom, wordsLength}
 use Rattle.handler_words.specs.Words.{bytesIn, eventAt, wordOf, keyboardIn, stateOf, recordOf}
-use Rattle.handler_words.specs.Arguments.{sideAt}
+use Rattle.handler_words.specs.Arguments.{sideNumber}
 use Rattle.handler_words.specs.Calls.{numbersOf, withKeyboardAt, withEvent, wordsLeft, SideHandled, AtSide, WordsHandled}
-use Rattle.handler_words.specs.Parts.{saidSide, Narrow, Placed, reread}
+use Rattle.handler_words.specs.Parts.{Narrow, Placed, reread}
 use Rattle.handler_words.proofs.Words.{keyboard-stored, withQueue, event-stored}
 use Rattle.handler_words.proofs.Left.{StateLeft, same, more, state-left}
 
@@ -134,9 +135,10 @@ module _ (side : Side) (ws s l : List ℕ) (x : Effect) {state : HandlerState} (
 
 -- ---- by the side that a number stands for
 
-module _ {ws : List ℕ} {n : ℕ} {s l : List ℕ} {answer : HandledWords} {ws′ l′ : List ℕ} {f : FoundSide} (q : saidSide f ≡ sideAt n) where
-  pub at-known : {side : Side} → f ≡ FoundSide.Side side → AtSide (some side) ws s l answer ws′ l′ → WordsHandled ws n s l answer ws′ l′
-  at-known e a = record { is = rw (← q, e) a }
+module _ {ws : List ℕ} {n : ℕ} {s l : List ℕ} {answer : HandledWords} {ws′ l′ : List ℕ} where
+  pub at-number : (side : Side) → n ≡ sideNumber side → AtSide (some side) ws s l answer ws′ l′ → WordsHandled ws n s l answer ws′ l′
+  at-number Side.First e a = record { is = rw e a }
+  at-number Side.Second e a = record { is = rw e a }
 
-  pub at-nothing : f ≡ FoundSide.Nothing → AtSide none ws s l answer ws′ l′ → WordsHandled ws n s l answer ws′ l′
-  at-nothing e a = record { is = rw (← q, e) a }
+  pub at-nothing : n ≢ sideNumber Side.First → n ≢ sideNumber Side.Second → AtSide none ws s l answer ws′ l′ → WordsHandled ws n s l answer ws′ l′
+  at-nothing e f a = record { is = rw (ne-eqb n (sideNumber Side.First) e, ne-eqb n (sideNumber Side.Second) f) a }

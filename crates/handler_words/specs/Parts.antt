@@ -23,17 +23,11 @@ use Rattle.keyboard_record.specs.Limits.{queueLength}
 use Rattle.keyboard_record.specs.Record.{keyboardAt, isReady}
 use Rattle.keyboard.specs.declared.NewEvent.{NewEvent}
 use Rattle.keyboard.specs.Handler.{Outcome}
-use Rattle.handler_words.specs.declared.FoundSide.{FoundSide}
 use Rattle.handler_words.specs.declared.FoundTable.{FoundTable}
 use Rattle.handler_words.specs.declared.HandledWords.{HandledWords}
 use Rattle.handler_words.specs.Layout.{wordsLength}
 use Rattle.handler_words.specs.Calls.{withEvent, SideHandled}
 use Rattle.handler_words.specs.Words.{byteLimit, flagsLimit, bytesIn, eventAt, wordOf, lowBytes, highBytes, stateOf}
-
--- The side that was found.
-abbrev pub saidSide : FoundSide → Option Side
-saidSide (FoundSide.Side side) = some side
-saidSide FoundSide.Nothing = none
 
 -- The table that was found.
 abbrev pub saidTable : FoundTable → Option Table

@@ -24,7 +24,7 @@ ghost use Rattle.handler_words.specs.Layout.{keyboardFrom, countAt, plac
 ghost use Rattle.handler_words.specs.Words.{bytesIn, numberOfBytes, actionNumber, eventAt, wordOf, keyboardsOf, keyboardsNumber, profileOf, profileNumber, keyboardIn, stateOf, wordsOf};
 ghost use Rattle.handler_words.specs.Arguments.{sideAt, sideNumber, laidWith, tableAt};
 ghost use Rattle.handler_words.specs.Calls.{refusing, withKeyboardAt, withSides, withEvent, SideHandled, AtSide, WordsHandled, takenNumbers, withQueueAt, WordsTaken, WordsFresh};
-ghost use Rattle.handler_words.specs.Parts.{saidSide, saidTable, Narrow, Placed, reread, FromScript, KeyAlone, followedBy, byteUsed, PlainKey, KeyQueued, KeyHandled};
+ghost use Rattle.handler_words.specs.Parts.{saidTable, Narrow, Placed, reread, FromScript, KeyAlone, followedBy, byteUsed, PlainKey, KeyQueued, KeyHandled};
 use argument_words::MEANS_NOTHING;
 use keyboard::HandlerAnswer;
 use keyboard::NewEvent;
@@ -88,12 +88,6 @@ pub struct HandledWords {
     pub pairs: usize,
     pub dropped: u32,
     pub port: u32,
-}
-
-// The side that a number stands for, if any.
-enum FoundSide {
-    Side(Side),
-    Nothing,
 }
 
 // What a taking answers, as numbers: the refusal, 0 where there is none; the side of the event taken, 0 where there is none; its keycode, action and flags.
@@ -598,19 +592,6 @@ pub fn handle_at(words: &mut [u64], side: Side, script: &[u8], log: &mut [u8]) -
     handle_other(words, side, script, log)
 }
 
-// The side that a number stands for.
-fn side_of(side: u32) -> FoundSide
-    ensures { λ r. ⌜ saidSide r ≡ sideAt side ⌝ }
-{
-    if side == 1 {
-        return FoundSide::Side(Side::First);
-    }
-    if side == 2 {
-        return FoundSide::Side(Side::Second);
-    }
-    FoundSide::Nothing
-}
-
 // A call that is refused before anything is read.
 fn refused(refusal: u32) -> HandledWords
     ensures { λ r. ⌜ r ≡ refusing refusal ⌝ }
@@ -629,15 +610,21 @@ fn refused(refusal: u32) -> HandledWords
 pub fn handle_words(words: &mut [u64], side: u32, script: &[u8], log: &mut [u8]) -> HandledWords
     ensures { λ r. ⌜ WordsHandled (now (words .entry)) side (now (script .entry)) (now (log .entry)) r (now (words .exit)) (now (log .exit)) ⌝ }
 {
-    let found = side_of(side);
-    match found {
-        FoundSide::Side(known) => {
-            if is_plain_key(words, known, script) {
-                return handle_plain(words, known, script);
+    // each side by itself: most of what a call asks goes by the side
+    match side {
+        1 => {
+            if is_plain_key(words, Side::First, script) {
+                return handle_plain(words, Side::First, script);
             }
-            handle_other(words, known, script, log)
+            handle_other(words, Side::First, script, log)
         }
-        FoundSide::Nothing => refused(MEANS_NOTHING),
+        2 => {
+            if is_plain_key(words, Side::Second, script) {
+                return handle_plain(words, Side::Second, script);
+            }
+            handle_other(words, Side::Second, script, log)
+        }
+        _ => refused(MEANS_NOTHING),
     }
 }
 

@@ -48,7 +48,7 @@ pub fn convert(stream: &[u8], out: &mut [u8]) -> Conversion
         let code = stream[used];
         let key: u8;
         let width: usize;
-        let shift: u16;
+        let shift: u32;
         if code == BREAK {
             if stream.len() - used == 1 {
                 return Conversion {
@@ -93,7 +93,7 @@ pub fn convert(stream: &[u8], out: &mut [u8]) -> Conversion
 
 // For each code of set 2, the bytes of set 1 that it becomes: after F0 in the high byte, by itself in the low one.
 // A `match` that is asked in one place becomes a load; an array that is indexed would be put on the stack at each call.
-fn both_bytes(code: u8) -> u16
+fn both_bytes(code: u8) -> u32
     ensures { λ r. ⌜ r ≡ bothBytes code ⌝ }
 {
     match code {
