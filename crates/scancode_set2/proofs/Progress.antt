@@ -1,6 +1,6 @@
 -- How far a conversion has come: what is left of the stream, converted into what is left of the output, makes the whole.
 -- Assumes nothing.
-use mathlib.Core.Path.{_≡_, refl, sym, ap, ap₂, _∙_}
+use mathlib.Core.Path.{_≡_, refl, sym, ap, ap₂, subst, _∙_}
 use mathlib.Core.List.{List, [], _∷_, _++_, append-nil, append-assoc}
 use Prim.Native.Nat.{ℕ, suc, _+_, _-_, _<_, _≤_}
 use native.Mathlib.Nat.{add-zero, zero-add, add-assoc, sub-zero}
@@ -46,6 +46,9 @@ pub record Reached (stream before : List ℕ) (used written : ℕ) (out : List �
   pub same : length out ≡ length before
   pub all : convertStream stream (length before) ≡ behind used (take written out) (convertStream (drop used stream) (length before - written))
   pub rest : drop written out ≡ drop written before
+
+pub so-far : {stream before out : List ℕ} {used n written : ℕ} → used ≡ n → Reached stream before used written out → Reached stream before n written out
+so-far {stream} {before} {out} {written = written} e = subst (λ (m : ℕ). Reached stream before m written out) e
 
 pub reached-start : (stream out : List ℕ) → Reached stream out 0 0 out
 reached-start stream out =
@@ -109,6 +112,9 @@ module _ (stream : List ℕ) (used byte : ℕ) (h : used < length stream) where
   pub stands-after : getD stream used 0 ≡ breakByte → (length stream - used ≡ 1 → ⊥) → byte ≡ orNoByte (becomes (afterF0 (getD stream (used + 1) 0))) → Stands stream used byte 2
   stands-after e n q =
       record { code = afterF0 (getD stream (used + 1) 0); is = after-at stream used h e n; wide = refl; some-bytes = omega arith; within = omega arith; way = after-way (getD stream (used + 1) 0); says = q }
+
+pub so-wide : {stream : List ℕ} {used byte bytes n : ℕ} → bytes ≡ n → Stands stream used byte bytes → Stands stream used byte n
+so-wide {stream} {used} {byte} e = subst (Stands stream used byte) e
 
 module _ {stream : List ℕ} {used byte bytes : ℕ} (h : Stands stream used byte bytes) where
   abbrev others : List Code

@@ -46,23 +46,24 @@ pub fn convert(stream: &[u8], out: &mut [u8]) -> Conversion
     let mut written: usize = 0;
     while used < stream.len() {
         let code = stream[used];
+        let after = used + 1;
         let key: u8;
-        let width: usize;
+        let next: usize;
         let shift: u32;
         if code == BREAK {
-            if stream.len() - used == 1 {
+            if after == stream.len() {
                 return Conversion {
                     answer: ConvertAnswer::EndsAfterF0,
                     used,
                     written,
                 };
             }
-            key = stream[used + 1];
-            width = 2;
+            key = stream[after];
+            next = after + 1;
             shift = 8;
         } else {
             key = code;
-            width = 1;
+            next = after;
             shift = 0;
         }
         let byte = ((both_bytes(key) >> shift) % 256) as u8;
@@ -82,7 +83,7 @@ pub fn convert(stream: &[u8], out: &mut [u8]) -> Conversion
         }
         out[written] = byte;
         written += 1;
-        used += width;
+        used = next;
     }
     Conversion {
         answer: ConvertAnswer::Done,

@@ -7,7 +7,7 @@ use borrow.Author.Needs.{needs}
 use lib.ListN.{length}
 use Rattle.scancode_set2.proofs.Bytes.{shift-alone, shift-after}
 use Rattle.scancode_set2.proofs.Codes.{cut-at}
-use Rattle.scancode_set2.proofs.Progress.{Reached, reached-start, reached-end, stop-done, stop-22, stop-23, stop-24, Stands, stands-alone, stands-after, goes-on}
+use Rattle.scancode_set2.proofs.Progress.{Reached, reached-start, reached-end, stop-done, stop-22, stop-23, stop-24, Stands, stands-alone, stands-after, so-wide, goes-on, so-far}
 use Rattle.scancode_set2.proofs.both_bytes.Reads as both-bytes-reads
 use Rattle.scancode_set2.proofs.convert.Reads as reads
 use Rattle.scancode_set2.proofs.convert.Lts as lts
@@ -31,24 +31,24 @@ returns : tie.Need-returns Inv-loop μ-loop
 returns c =
     let l = c .before .before .before .before .loop in
     let stream = c .before .before .before .before .before .before .before .args .stream .now in
-    reached-end (l .inv) (stop-24 stream (l .used) _ (cut-at stream (l .used) (c .before .before .before .loop-test .taken) (c .before .if1 .taken) (c .if2 .taken)))
+    reached-end (l .inv) (stop-24 stream (l .used) _ (cut-at stream (l .used) (c .before .before .before .loop-test .taken) (c .before .if1 .taken) (omega (arith, c .if2 .taken))))
 
 shr-byte : tie.Need-shr-byte Inv-loop μ-loop
 shr-byte c = ⊎-elim (λ w. omega arith) (λ w. omega arith) (c .before .before .if1 .came)
 
--- where the two kinds of code meet: one of so many bytes stands at the place, and becomes the byte
+-- where the two kinds of code meet: a code stands at the place, of the bytes up to the next, and becomes the byte
 stands : (c : lts.After-row-known (both-bytes-reads.Asked, both-bytes-reads.Learnt) reads.Pre reads.Post Inv-loop μ-loop)
     → Stands
     (c .before .before .before .before .before .before .before .before .args .stream .now)
     (c .before .before .before .before .before .loop .used)
     (c .before .both-bytes .result / 2 ^ c .before .before .if1 .shift % 256)
-    (c .before .before .if1 .width)
+    (c .before .before .if1 .next - c .before .before .before .before .before .loop .used)
 stands c =
     let h = c .before .before .before .before .loop-test .taken in
     let known = c .before .before .before .shared-slice-known2 .given in
     ⊎-elim
-    (λ w. rw (c .before .both-bytes .ensures, w .3, w .4, w .5) (stands-after _ _ _ h (w .0 .taken) (w .1 .left) (shift-after _ (known _ .fits))))
-    (λ w. rw (c .before .both-bytes .ensures, w .1, w .2, w .3) (stands-alone _ _ _ h (w .0 .left) (shift-alone _ (known _ .fits))))
+    (λ w. rw (c .before .both-bytes .ensures, w .3, w .4, w .5) (so-wide (omega arith) (stands-after _ _ _ h (w .0 .taken) (λ e. w .1 .left (omega (arith, e))) (shift-after _ (known _ .fits)))))
+    (λ w. rw (c .before .both-bytes .ensures, w .1, w .2, w .3) (so-wide (omega arith) (stands-alone _ _ _ h (w .0 .left) (shift-alone _ (known _ .fits)))))
     (c .before .before .if1 .came)
 
 same-length-2 : tie.Need-same-length-2 Inv-loop μ-loop
@@ -67,16 +67,14 @@ returns-3 c =
     let r = c .before .before .before .before .before .before .before .loop .inv in
     reached-end r (stop-23 (stands (c .before .before)) (c .before .if3 .left) _ (omega (arith, r .same)))
 
-add-used : tie.Need-add-used Inv-loop μ-loop
-add-used c = record { fits = omega (arith, stands (c .before .before .before) .within) }
-
 loop-less : tie.Need-loop-less Inv-loop μ-loop
-loop-less c = omega (arith, stands (c .before .before .before) .some-bytes, stands (c .before .before .before) .within)
+loop-less c = omega (arith, stands (c .before .before) .some-bytes, stands (c .before .before) .within)
 
 loop-again : tie.Need-loop-again Inv-loop μ-loop
 loop-again c =
-    let l = c .before .before .before .before .before .before .before .before .loop in
-    goes-on (stands (c .before .before .before)) (c .before .before .if3 .left) (l .inv) (c .before .if4 .left)
+    let l = c .before .before .before .before .before .before .before .loop in
+    let s = stands (c .before .before) in
+    so-far (omega (arith, s .some-bytes)) (goes-on s (c .before .if3 .left) (l .inv) (c .if4 .left))
 
 same-length-4 : tie.Need-same-length-4 Inv-loop μ-loop
 same-length-4 c = c .before .loop .inv .same
@@ -106,7 +104,6 @@ convert-spec =
     returns-3
     (λ c. omega arith)
     (λ c. omega arith)
-    add-used
     loop-less
     loop-again
     same-length-4
