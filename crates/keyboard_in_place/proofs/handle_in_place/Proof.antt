@@ -2,6 +2,7 @@
 -- The borrow of the record is opened and the record copied out for `handle`; the record that `handle` returned is stored where the first one lay, and the borrow is closed at it.
 -- The side is plain data, passed on as it is. The script is Copy. The log goes to `handle` at its own lifetime, share and ghost name, and is given up for good: what `handle` says of the last log is what is said here.
 -- All that the proof knows of `handle` is that it meets its contract.
+-- Where a cell holds a struct its type is given by name, `{τ = T′.mir}`: left to be found it is spelled out, which takes hundreds of megabytes at each such step.
 -- Assumes nothing.
 use mathlib.Core.Path.{_≡_, refl, ap}
 use Prim.Native.Nat.{ℕ, zero}
@@ -237,23 +238,23 @@ module _ {M : Type 1} (𝓤 : URA M) (H : Heap 𝓤) (A : Atoms 𝓤) (W : Given
         move ! (1 ∷ []) $ peeks ! T.the-row (Is T.the-row) (shows 𝓤 H A T.the-row) h (valT h ∷ []) (λ was. move ! (1 ∷ 0 ∷ []) $
         -- handle(*handler, side, script, log), with the record copied into _6 and the log lent again as _8:
         -- [the record's cell; what the record owns; the open borrow; obs; auth; _8; …; _0; …; the slices' tokens; the script; the log; the script; the side]
-        assigns ! (of-opd ! (load ! (from ! (hop ! (look ! 19 refl) (stop !))) (look-raw ! 0 refl))) (from ! (stop !)) (init ! 9 refl (LL.lawful T.the-type T′.the-laws 𝓤 H A W .typed h _ was .0)) $
+        assigns ! (of-opd ! (load ! (from ! (hop ! (look ! 19 refl) (stop !))) (look-raw ! 0 refl))) (from ! (stop !)) (init ! 9 {τ = T′.mir} refl (LL.lawful T.the-type T′.the-laws 𝓤 H A W .typed h _ was .0)) $
         assigns ! (addr ! (from ! (fld ! refl (hop ! (look-in ! 13 (sub ! 0 refl (whole !))) (stop !))))) (from ! (stop !)) (init ! 7 refl (tt, tt)) $
         assigns ! (agg ! (and-then ! (load ! (from ! (stop !)) (look ! 7 refl)) (and-then ! (field-of ! 13 refl refl refl) (no-more !)))) (from ! (stop !)) (init ! 5 refl (tt, (tt, (record { fits = room .0 }, tt)))) $
         move ! (23 ∷ 1 ∷ 27 ∷ 24 ∷ 25 ∷ []) $ group ! 5 $ use1 W (raw (Handle 𝓤 H A at-mem run .pre to-handle)) goes-handle $
-        calls-at ! fm (Handle 𝓤 H A at-mem run) known to-handle (and-then ! (load ! (from ! (stop !)) (look ! 9 refl)) (and-then ! (load ! (from ! (stop !)) (look ! 17 refl)) (and-then ! (load ! (from ! (stop !)) (look ! 15 refl)) (and-then ! (load ! (from ! (stop !)) (look ! 5 refl)) (no-more !))))) (λ v.
+        calls-at ! fm (Handle 𝓤 H A at-mem run) known to-handle (and-then ! (load ! (from ! (stop !)) (look ! 9 {τ = T′.mir} refl)) (and-then ! (load ! (from ! (stop !)) (look ! 17 refl)) (and-then ! (load ! (from ! (stop !)) (look ! 15 refl)) (and-then ! (load ! (from ! (stop !)) (look ! 5 refl)) (no-more !))))) (λ v.
         use1 W (later (some (λ (r : Handled). (Toks ⊛ ‵ (S.the-row .own r (v ∷ []))) ⊛ raw (ensured 𝓤 H A handle.ended (handle.clauses 𝓤 H A at-mem run) (κₛ, (κₗ, tt)) (h, (side, (s, (l, tt)))) tt r)))) (id⊢ 𝓤 _) $ await ! tt $ pick ! (λ r.
         -- what `handle` ensures, at some last log
         split ! $ move ! (1 ∷ []) $ use1 W (some (λ (zs : Unit {0} × (Unit {0} × (Unit {0} × (List ℕ × Unit {0})))). ‵ (lasts handle.ended (κₛ, (κₗ, tt)) (h, (side, (s, (l, tt)))) zs) ⊛ raw (fact 𝓤 (Said r (zs .1 .1 .1 .0))))) (id⊢ 𝓤 _) $ pick ! (λ zs.
         split ! $ move ! (1 ∷ []) $ heard ! (Said r (zs .1 .1 .1 .0)) (λ e. fsplit ! $ drop ! $ fsplit ! $ drop ! $ fsplit ! $ drop ! $ fsplit ! $ fsplit ! $ move ! (1 ∷ []) $ feqL ! (λ fits.
         -- [the last log; true; the slices' tokens and the result; the record's cell; the open borrow; obs; auth; _8; …; _0; …; the script]
         move ! (2 ∷ []) $ split ! $ move ! (1 ∷ []) $ peeks ! S.the-row (Is S.the-row) (shows 𝓤 H A S.the-row) r (v ∷ []) (λ is.
-        land ! (from ! (stop !)) (init ! 14 refl (LL.lawful S.the-type S′.the-laws 𝓤 H A W .typed r _ is .0)) $
+        land ! (from ! (stop !)) (init ! 14 {τ = S′.mir} refl (LL.lawful S.the-type S′.the-laws 𝓤 H A W .typed r _ is .0)) $
         rewrite ! 14 (λ (u : Val). ‵ (fat fullShare S′.mir l₅ 0 u)) (ap only (LL.tells S.the-type S′.the-laws r (v ∷ []) is)) refl $ drop ! $
         -- *handler = done.handler, and the result:
         -- [the slices' tokens; the last log; true; the record's cell; the open borrow; obs; auth; _8; …; _0; …; the script]
-        assigns ! (of-opd ! (the-record ! 13 r refl refl)) (from ! (hop ! (look ! 21 refl) (stop !))) (store-raw ! 3 refl (LL.lawful T.the-type T′.the-laws 𝓤 H A W .typed (r .handler) _ (record-is r v is) .0)) $
-        assigns ! (made ! 13 r refl refl) (from ! (stop !)) (init ! 23 refl (LL.lawful P.the-type P′.the-laws 𝓤 H A W .typed (inPlace r) _ (rest-is r v is) .0)) $
+        assigns ! (of-opd ! (the-record ! 13 r refl refl)) (from ! (hop ! (look ! 21 refl) (stop !))) (store-raw ! 3 {τ = T′.mir} refl (LL.lawful T.the-type T′.the-laws 𝓤 H A W .typed (r .handler) _ (record-is r v is) .0)) $
+        assigns ! (made ! 13 r refl refl) (from ! (stop !)) (init ! 23 {τ = P′.mir} refl (LL.lawful P.the-type P′.the-laws 𝓤 H A W .typed (inPlace r) _ (rest-is r v is) .0)) $
         owned ! T.the-row (Is T.the-row) (LL.makes T.the-type T′.the-plain 𝓤 H A) (r .handler) _ (record-is r v is) $ move ! (4 ∷ 0 ∷ 5 ∷ 6 ∷ 7 ∷ []) $ closes ! tt T.the-row (r .handler) (valT (r .handler) ∷ []) b o $
         -- [obs; the borrow; its token; the slices' tokens; the last log; true; _8; …; _0; …; the script]
         returns ! (look ! 22 refl) $ forget ! 6 refl $ forget ! 8 refl $ forget ! 10 refl $ forget ! 12 refl $ forget ! 14 refl $ forget ! 16 refl $ forget ! 18 refl $ forget ! 20 refl $ forget ! 22 refl $
