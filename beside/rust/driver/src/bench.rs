@@ -339,7 +339,7 @@ fn exports_rows(table: &mut Table, measured: &dyn Fn(&str) -> io::Result<Spread>
     ];
     for (name, row) in bytes {
         let both = (measured(&format!("vd-{name}-rust"))?, measured(&format!("vd-{name}-port"))?);
-        table.row(row, Ok(both), "as below, through the export");
+        table.row(row, Ok(both), "as below, but by a call on either side");
     }
     Ok(())
 }
@@ -419,14 +419,14 @@ pub fn bench(port: Paths, tablekeys: &str, rounds: usize) -> io::Result<ExitCode
             "letters pressed and released, one in eight with Shift, and as many cursor keys; the Rust is plain Rust for the same job (beside/rust/driver/src/plain.rs)",
         ),
         ("`convert`, 600 bytes of set 2", one(&conversion(600)), "the same, shorter"),
-        ("`convert`, 6 bytes of set 2", one(&conversion(6)), "the same, two keys: the table, which is put on the stack at each call, is most of it"),
+        ("`convert`, 6 bytes of set 2", one(&conversion(6)), "the same, two keys"),
         (
             "`type_text`, 16,000 characters",
             one(&typing(16000)),
             "small letters and spaces, one in eight a capital; the Rust is plain Rust for the same job (beside/rust/driver/src/plain.rs)",
         ),
         ("`type_text`, 160 characters", one(&typing(160)), "the same, shorter"),
-        ("`type_text`, 2 characters", one(&typing(2)), "the same: the table, which is put on the stack at each call, is most of it"),
+        ("`type_text`, 2 characters", one(&typing(2)), "the same: the table of 128 bytes, which is put on the stack at each call, is most of it"),
         (
             "`write_preferences`, version 1",
             one("prefs_write 1 2,100,3,5 room=9"),

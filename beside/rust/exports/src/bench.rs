@@ -348,9 +348,8 @@ fn sessions(rounds: usize) {
     }
     Measures::rounds(rounds, |measures| {
         for (name, id, mouse) in &sessions {
-            measures.time(&format!("{name}-rust"), 1, || {
-                made!(session::report(*id, black_box(&events), black_box(mouse)))
-            });
+            measures
+                .time(&format!("{name}-rust"), 1, || made!(session::report(*id, black_box(&events), black_box(mouse))));
             measures.time(&format!("{name}-port"), 1, || {
                 made!(vd::report_add(vd::report_empty(), *id as u32, black_box(&events), black_box(mouse)))
             });
