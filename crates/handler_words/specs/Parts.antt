@@ -69,7 +69,7 @@ followedBy flags = keyboardOf false flags (waitingOf [])
 abbrev pub byteUsed : ℕ → HandledWords
 byteUsed n = record { refusal = n; lamps = 0; used = 1; pairs = 0; dropped = 0; port = 0 }
 
--- A call like that on 144 numbers, whose byte is of a key that has no flag, where the record is ready for its event.
+-- Such a call on 144 numbers, whose byte is of a key that has no flag, where the record is ready for its event.
 pub record PlainKey (side : Side) (ws script : List ℕ) : Type 0 where
   pub long : length ws ≡ wordsLength
   pub alone : KeyAlone side (stateOf ws) script

@@ -537,7 +537,7 @@ fn handle_side(words: &mut [u64], side: Side, script: &[u8], log: &mut [u8]) -> 
     handled
 }
 
-// What most calls are: the same, of a key that has no flag, on a record that has a place for its event.
+// What most calls are: the script's first byte is taken, it is of a key that has no flag, and the record is ready for its event, which is queued.
 fn handle_plain(words: &mut [u64], side: Side, script: &[u8]) -> HandledWords
     requires { ⌜ PlainKey side (now words) (now script) ⌝ }
     ensures { λ r. ⌜ KeyHandled side (now (words .entry)) (now (script .entry)) r (now (words .exit)) ⌝ }
@@ -572,7 +572,7 @@ fn is_plain_key(words: &[u64], side: Side, script: &[u8]) -> bool
     state.is_ready(side)
 }
 
-// Any other call for a side.
+// Any other call for a side: 21 where there are not 144 numbers.
 fn handle_other(words: &mut [u64], side: Side, script: &[u8], log: &mut [u8]) -> HandledWords
     ensures { λ r. ⌜ AtSide (some side) (now (words .entry)) (now (script .entry)) (now (log .entry)) r (now (words .exit)) (now (log .exit)) ⌝ }
 {
