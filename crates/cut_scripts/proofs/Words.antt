@@ -64,10 +64,10 @@ module _ (ws : List ℕ) (n : ℕ) (script log : List ℕ) where
     module _ (m : ℕ) (c : WordsHandled ws m script log r us l) (c′ : WordsHandled ws m (take n script) log r′ us′ l′) where
       pub handle-words-cut : {side : Side} → sideAt m ≡ some side → length ws ≡ wordsLength
           → CutShort n (twoWords ws (nextPort n (handle keyboardLamps side (stateOf ws)) script log)) log (handedWords r us l) (handedWords r′ us′ l′)
-      handle-words-cut {side} q = handle-at-cut {side} (rw q at (c .is)) (rw q at (c′ .is))
+      handle-words-cut {side} q = handle-at-cut {side = side} (rw q at (c .is)) (rw q at (c′ .is))
 
       pub no-side-same : sideAt m ≡ none → handedWords r′ us′ l′ ≡ handedWords r us l
       no-side-same q = same-back (rw q at (c .is)) (rw q at (c′ .is))
 
       pub other-length-same : {side : Side} → sideAt m ≡ some side → (length ws ≡ wordsLength → ⊥) → handedWords r′ us′ l′ ≡ handedWords r us l
-      other-length-same {side} q = at-other-length-same {side} (rw q at (c .is)) (rw q at (c′ .is))
+      other-length-same {side} q = at-other-length-same {side = side} (rw q at (c .is)) (rw q at (c′ .is))
