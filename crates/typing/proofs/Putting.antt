@@ -17,6 +17,7 @@ use Rattle.typing.specs.Table.{orNone}
 use Rattle.typing.proofs.Texts.{Keyed, no-text, one-key, keyed}
 use Rattle.typing.proofs.Table.{key, Entry, no-entry, plain, shifted, entry}
 use Rattle.typing.proofs.Lengths.{typed-fits}
+use Rattle.typing.proofs.Typable.{key-below}
 
 -- ---- an output of which a part is written
 
@@ -98,6 +99,10 @@ module _ {text before out : List ℕ} {i at : ℕ} (h : Putting text before i at
   module _ (l : i < length text) where
     next : Next (getD text i 0) (drop (i + 1) text) (h .left)
     next = next-key (subst (λ (t : List ℕ). Keyed t (h .left)) (rw (add-one i) (drop-cons text i 0 l)) (h .left-keys))
+
+    -- a byte of the text is in the table
+    pub putting-below : getD text i 0 < 256 → getD text i 0 < 0x80
+    putting-below b = key-below b (next .is-one)
 
     left-first : scancodes (h .left) ≡ strokesOf (next .one) ++ scancodes (next .others)
     left-first = ap scancodes (next .all) ∙ scancodes-first (next .one) (next .others)

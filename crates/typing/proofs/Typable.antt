@@ -2,9 +2,10 @@
 -- Assumes nothing.
 use mathlib.Core.Path.{_≡_, refl, sym, _∙_}
 use mathlib.Core.Bool.{Bool, true, false, xor, false≢true}
-use mathlib.Core.Option.{Option, none, some}
+use mathlib.Core.Option.{Option, none, some, Option·none-ne-some}
 use Prim.Native.Nat.{ℕ, _<_, _≤_}
 use native.Mathlib.Omega.{arith}
+use native.Mathlib.Decide.{decLt}
 use borrow.Author.Tests.{lt-leb, le-leb, ne-eqb}
 use Rattle.bits.specs.Bits.{bit, odd, putBit}
 use Rattle.bits.proofs.Every.{agree-bool}
@@ -32,3 +33,10 @@ typable-above c l h = by (keyOf c) (typable c l ∙ above-tilde c h)
     by : (o : Option Key) → hasKey o ≡ false → o ≡ none
     by none e = refl
     by (some k) e = absurd (false≢true (sym e))
+
+pub key-below : {c : ℕ} {k : Key} → c < 256 → keyOf c ≡ some k → c < 0x80
+key-below {c} {k} l e = by (decLt c 0x80)
+  where
+    by : Dec (c < 0x80) → c < 0x80
+    by (yes h) = h
+    by (no n) = absurd (Option·none-ne-some k (sym (typable-above c l (omega arith)) ∙ e))

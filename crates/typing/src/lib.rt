@@ -1,5 +1,6 @@
 // Text turned into scancodes of set 1: the strokes by which a keyboard would type it.
 ghost use mathlib.Core.Path.{_≡_};
+ghost use Prim.Native.Nat.{_<_};
 ghost use lib.ListN.{length};
 ghost use Rattle.exchange.specs.Answer.{numberAnswered, gives};
 ghost use Rattle.ps2_answers.specs.Refusals.{success};
@@ -106,6 +107,14 @@ fn key_of(keys: &[u8; 128], character: u8) -> u8
     if END_OF_KEYS <= character {
         return NO_KEY;
     }
+    key_in(keys, character)
+}
+
+// The key of a character that the table has.
+fn key_in(keys: &[u8; 128], character: u8) -> u8
+    requires { ⌜ Tabulates (now keys) × (character < 0x80) ⌝ }
+    ensures { λ r. ⌜ r ≡ orNone (keyOf character) ⌝ }
+{
     keys[character as usize]
 }
 
@@ -129,7 +138,7 @@ fn count_shifted(keys: &[u8; 128], text: &[u8]) -> Counted
     Counted::Shifted(shifted)
 }
 
-// Writes the scancodes of a text that is accepted, and answers how many they are.
+// Writes the scancodes of a text that is accepted, and answers how many they are. The table has every character of it.
 fn put_keys(keys: &[u8; 128], text: &[u8], out: &mut [u8]) -> usize
     requires { ⌜ Tabulates (now keys) × Accepted (length (now out)) (now text) ⌝ }
     ensures { λ r. ⌜ outcome (gives success) r (now (out .exit)) ≡ leaves (now (out .entry)) (typed (length (now (out .entry))) (now (text .entry))) ⌝ }
@@ -137,7 +146,7 @@ fn put_keys(keys: &[u8; 128], text: &[u8], out: &mut [u8]) -> usize
     let mut at: usize = 0;
     let mut i: usize = 0;
     while i < text.len() {
-        let key = key_of(keys, text[i]);
+        let key = key_in(keys, text[i]);
         if NEEDS_SHIFT <= key {
             let code = key - NEEDS_SHIFT;
             out[at] = SHIFT_PRESSED;

@@ -10,8 +10,5 @@ use Rattle.typing.proofs.key_of.Tie as tie
 returns : tie.Need-returns
 returns c = sym (ap orNone (typable-above (c .before .args .character) (search needs) (c .if1 .taken)))
 
-returns-2 : tie.Need-returns-2
-returns-2 c = c .before .before .pre .at (c .before .before .args .character) (search needs)
-
 pub key-of-spec : {M : Type 1} → statement M
-key-of-spec = tie.close (tie.spec returns (λ c. search needs) returns-2)
+key-of-spec = tie.close (tie.spec returns (λ c κs. search needs) (λ c. search needs))
