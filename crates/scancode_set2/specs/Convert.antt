@@ -3,7 +3,9 @@
 use mathlib.Core.Bool.{true, cond}
 use mathlib.Core.List.{List, [], _∷_, _++_}
 use mathlib.Core.Option.{Option, none, some}
-use Prim.Native.Nat.{ℕ, zero, suc, _+_, _*_}
+use mathlib.Core.Path.{_≡_}
+use Prim.Native.Nat.{ℕ, zero, suc, _+_, _/_, _%_, _^_}
+use lib.Dec.{ltb}
 use lib.ListN.{length, drop}
 use Rattle.bits.specs.Bits.{putBit}
 use Rattle.exchange.specs.Answer.{Answer, gives, refuses}
@@ -32,9 +34,13 @@ abbrev pub orNoByte : Answer ℕ → ℕ
 orNoByte (gives b) = b
 orNoByte (refuses n) = 0x00
 
--- Both bytes of a code as one number: after F0 in the high byte, by itself in the low one.
-unfoldable pub bothBytes : ℕ → ℕ
-bothBytes c = orNoByte (becomes (alone c)) + 256 * orNoByte (becomes (afterF0 c))
+-- Both bytes of a code in one number: its byte after F0 from bit 8 on; its byte by itself from bit 0 on, or from bit 24 on where the code has the top bit.
+abbrev pub aloneFrom : ℕ → ℕ
+aloneFrom c = cond (ltb c 0x80) 0 24
+
+pub record BothBytes (c n : ℕ) : Type 0 where
+  pub by-itself : n / 2 ^ aloneFrom c % 256 ≡ orNoByte (becomes (alone c))
+  pub after-f0 : n / 2 ^ 8 % 256 ≡ orNoByte (becomes (afterF0 c))
 
 -- What a conversion comes to: how it ended, the bytes of the stream that it used, and the bytes that it wrote.
 pub record Converted : Type 0 where

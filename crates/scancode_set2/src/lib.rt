@@ -1,7 +1,7 @@
 // Keyboards that speak scan code set 2: their key stream converted to set 1, by the 8042's translation table.
 ghost use mathlib.Core.Path.{_≡_};
 ghost use Rattle.exchange.specs.Answer.{numberAnswered};
-ghost use Rattle.scancode_set2.specs.Convert.{bothBytes, outcome, converted, saidConverted};
+ghost use Rattle.scancode_set2.specs.Convert.{BothBytes, outcome, converted, saidConverted};
 
 // How a conversion ends: done, or with the refusal that request 2.2 numbers 22, 23 or 24.
 pub enum ConvertAnswer {
@@ -38,6 +38,16 @@ const BREAK: u8 = 0xF0;
 // What stands for the byte of a code that has no entry.
 const NO_ENTRY: u8 = 0x00;
 
+// From here on a code has the top bit: F0, E0 and E1, and two keys.
+const TOP_BIT: u8 = 0x80;
+
+// Where a code's bytes lie in the number that it has for both: the byte after F0, the byte by itself, and that of a code with the top bit.
+const AFTER_F0: u32 = 8;
+
+const ALONE: u32 = 0;
+
+const ALONE_WITH_TOP_BIT: u32 = 24;
+
 // Converts a set 2 key stream to set 1, from the start of both slices on. Behind the bytes written the output stays as it was.
 pub fn convert(stream: &[u8], out: &mut [u8]) -> Conversion
     ensures { λ r. ⌜ outcome (saidConverted (r .answer)) (r .used) (r .written) (now (out .exit)) ≡ converted (now (stream .entry)) (now (out .entry)) ⌝ }
@@ -50,7 +60,12 @@ pub fn convert(stream: &[u8], out: &mut [u8]) -> Conversion
         let key: u8;
         let next: usize;
         let shift: u32;
-        if code == BREAK {
+        // asked by the top bit first, so that the processor sees E0 and F0 come and guesses what follows them
+        if code < TOP_BIT {
+            key = code;
+            next = after;
+            shift = ALONE;
+        } else if code == BREAK {
             if after == stream.len() {
                 return Conversion {
                     answer: ConvertAnswer::EndsAfterF0,
@@ -60,11 +75,11 @@ pub fn convert(stream: &[u8], out: &mut [u8]) -> Conversion
             }
             key = stream[after];
             next = after + 1;
-            shift = 8;
+            shift = AFTER_F0;
         } else {
             key = code;
             next = after;
-            shift = 0;
+            shift = ALONE_WITH_TOP_BIT;
         }
         let byte = ((both_bytes(key) >> shift) % 256) as u8;
         if byte == NO_ENTRY {
@@ -92,10 +107,11 @@ pub fn convert(stream: &[u8], out: &mut [u8]) -> Conversion
     }
 }
 
-// For each code of set 2, the bytes of set 1 that it becomes: after F0 in the high byte, by itself in the low one.
-// A `match` that is asked in one place becomes a load; an array that is indexed would be put on the stack at each call.
+// For each code of set 2, the bytes of set 1 that it becomes, by itself and after F0.
+// A `match` that is asked in one place becomes a load; an array that is indexed would be put on the stack at each call. 80 has no byte; where it is
+// named, with a number that says so, the arms are from the least code to the greatest, and the compiler asks nothing before it loads.
 fn both_bytes(code: u8) -> u32
-    ensures { λ r. ⌜ r ≡ bothBytes code ⌝ }
+    ensures { λ r. ⌜ BothBytes code r ⌝ }
 {
     match code {
         0x01 => 0xC343,
@@ -225,10 +241,11 @@ fn both_bytes(code: u8) -> u32
         0x7D => 0xC949,
         0x7E => 0xC646,
         0x7F => 0xD454,
-        0x83 => 0xC141,
-        0x84 => 0xD454,
-        0xE0 => 0x00E0,
-        0xE1 => 0x00E1,
+        0x80 => 0x00010000,
+        0x83 => 0x4100C100,
+        0x84 => 0x5400D400,
+        0xE0 => 0xE0000000,
+        0xE1 => 0xE1000000,
         _ => 0,
     }
 }
