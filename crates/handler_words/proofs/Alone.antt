@@ -1,7 +1,7 @@
 -- A call whose byte is a key's and asks for no lamp exchange, where none waits: what it gives back.
 -- Assumes nothing.
 use mathlib.Core.Path.{_≡_, refl, sym, ap, subst, _∙_}
-use mathlib.Core.Bool.{true, false, cond, _||_}
+use mathlib.Core.Bool.{Bool, true, false, cond, _||_, true≢false}
 use mathlib.Core.Logic.{⊎-elim}
 use mathlib.Core.List.{List, [], _∷_}
 use mathlib.Core.Option.{Option, none, some}
@@ -9,7 +9,7 @@ use Prim.Native.Nat.{ℕ, _+_, _*_, _/_, _%_, _<_}
 use native.Mathlib.Omega.{arith}
 use lib.Dec.{eqb}
 use lib.ListN.{length, getD, set, drop}
-use borrow.Author.Tests.{ltb-true, ltb-false, leb-true}
+use borrow.Author.Tests.{ltb-true, ltb-false, leb-true, ne-eqb}
 use Rattle.exchange.specs.Exchange.{yields, afterRead, played, play}
 use Rattle.exchange.specs.Answer.{Answer, gives, refuses}
 use Rattle.ps2_answers.specs.Refusals.{Success, success}
@@ -45,7 +45,7 @@ use Rattle.handler_words.specs.declared.HandledWords.{HandledWords}
 use Rattle.handler_words.specs.Layout.{keyboardFrom, countAt, placesFrom, wordsLength}
 use Rattle.handler_words.specs.Words.{actionNumber, eventAt, wordOf, keyboardIn, stateOf}
 use Rattle.handler_words.specs.Calls.{refusing, withKeyboardAt, withSides}
-use Rattle.handler_words.specs.Parts.{Narrow, KeyAlone, followedBy, byteUsed, PlainKey, KeyQueued, KeyHandled}
+use Rattle.handler_words.specs.Parts.{Narrow, Says, KeyAlone, followedBy, byteUsed, KeyQueued, KeyHandled}
 use Rattle.handler_words.proofs.Calls.{as-passed, moved-on}
 
 -- for its keyboard
@@ -135,6 +135,9 @@ module _ (side : Side) (s : HandlerState) (b flags place : ℕ) (ws : List ℕ) 
 
 -- ---- whether a call is such a one, by its numbers
 
+pub says-no : {P : Type 0} → (P → ⊥) → Says P false
+says-no n = record { is-so = λ e. absurd (true≢false (sym e)); is-not = λ _. n }
+
 pub waits-in : (side : Side) (ws : List ℕ) → keyboardAt side (stateOf ws) .waiting .count ≡ getD ws (keyboardFrom side + 2) 0 % 256
 unfolding stateOf keyboardIn
 waits-in Side.First ws = refl
@@ -143,6 +146,14 @@ waits-in Side.Second ws = refl
 pub profile-in : (ws : List ℕ) → getD ws 11 0 ≡ 0 → stateOf ws .table .profile ≡ Profile.Any
 unfolding stateOf
 profile-in ws e = rw e
+
+pub profile-not-in : (ws : List ℕ) → (getD ws 11 0 ≡ 0 → ⊥) → stateOf ws .table .profile ≡ Profile.Any → ⊥
+unfolding stateOf
+profile-not-in ws n e = true≢false (ap isTournament (rw (ne-eqb (getD ws 11 0) 0 n) at e))
+  where
+    isTournament : Profile → Bool
+    isTournament Profile.Any = false
+    isTournament Profile.Tournament = true
 
 -- ---- such a call
 

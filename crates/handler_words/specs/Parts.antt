@@ -3,7 +3,7 @@
 use mathlib.Core.Option.{Option, none, some}
 use mathlib.Core.Path.{_≡_}
 use Prim.Native.Nat.{ℕ, _<_, _≤_}
-use mathlib.Core.Bool.{true, false, _||_}
+use mathlib.Core.Bool.{Bool, true, false, _||_}
 use mathlib.Core.List.{List, []}
 use lib.Dec.{eqb}
 use lib.ListN.{length, getD}
@@ -49,6 +49,11 @@ pub record Placed (start count : ℕ) (n : NewEvent) : Type 0 where
 abbrev pub reread : Option KeyEvent → Option KeyEvent
 reread none = none
 reread (some e) = some (eventAt (wordOf e))
+
+-- What the answer to a question says: true that it is so, and false that it is not.
+pub record Says (P : Type 0) (answer : Bool) : Type 0 where
+  pub is-so : answer ≡ true → P
+  pub is-not : answer ≡ false → P → ⊥
 
 -- A call that takes the script's first byte, since none waits, at a table without the profile.
 pub record FromScript (side : Side) (s : HandlerState) (script : List ℕ) : Type 0 where

@@ -24,7 +24,7 @@ ghost use Rattle.handler_words.specs.Layout.{keyboardFrom, countAt, plac
 ghost use Rattle.handler_words.specs.Words.{bytesIn, numberOfBytes, actionNumber, eventAt, wordOf, keyboardsOf, keyboardsNumber, profileOf, profileNumber, keyboardIn, stateOf, wordsOf};
 ghost use Rattle.handler_words.specs.Arguments.{sideAt, sideNumber, laidWith, tableAt};
 ghost use Rattle.handler_words.specs.Calls.{refusing, withKeyboardAt, withSides, withEvent, SideHandled, AtSide, WordsHandled, takenNumbers, withQueueAt, WordsTaken, WordsFresh};
-ghost use Rattle.handler_words.specs.Parts.{saidTable, Narrow, Placed, reread, FromScript, KeyAlone, followedBy, byteUsed, PlainKey, KeyQueued, KeyHandled};
+ghost use Rattle.handler_words.specs.Parts.{saidTable, Narrow, Placed, reread, Says, FromScript, KeyAlone, followedBy, byteUsed, PlainKey, KeyQueued, KeyHandled};
 use argument_words::MEANS_NOTHING;
 use keyboard::HandlerAnswer;
 use keyboard::NewEvent;
@@ -432,7 +432,7 @@ fn queue_key(
 // Whether a call takes the script's first byte, since none waits, at a table without the profile.
 fn is_from_script(words: &[u64], side: Side, script: &[u8]) -> bool
     requires { ⌜ length (now words) ≡ wordsLength ⌝ }
-    ensures { λ r. ⌜ (r ≡ true → FromScript side (stateOf (now (words .entry))) (now (script .entry))) ⌝ }
+    ensures { λ r. ⌜ Says (FromScript side (stateOf (now (words .entry))) (now (script .entry))) r ⌝ }
 {
     if script.len() == 0 {
         return false;
@@ -491,7 +491,7 @@ fn handle_key(words: &mut [u64], side: Side, script: &[u8]) -> HandledWords
 // Whether a call is such a one.
 fn is_key_alone(words: &[u64], side: Side, script: &[u8]) -> bool
     requires { ⌜ length (now words) ≡ wordsLength ⌝ }
-    ensures { λ r. ⌜ (r ≡ true → KeyAlone side (stateOf (now (words .entry))) (now (script .entry))) ⌝ }
+    ensures { λ r. ⌜ Says (KeyAlone side (stateOf (now (words .entry))) (now (script .entry))) r ⌝ }
 {
     if !is_from_script(words, side, script) {
         return false;
@@ -557,7 +557,7 @@ fn handle_plain(words: &mut [u64], side: Side, script: &[u8]) -> HandledWords
 
 // Whether a call is such a one.
 fn is_plain_key(words: &[u64], side: Side, script: &[u8]) -> bool
-    ensures { λ r. ⌜ (r ≡ true → PlainKey side (now (words .entry)) (now (script .entry))) ⌝ }
+    ensures { λ r. ⌜ Says (PlainKey side (now (words .entry)) (now (script .entry))) r ⌝ }
 {
     if words.len() != HANDLER_WORDS {
         return false;

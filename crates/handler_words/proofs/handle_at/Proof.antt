@@ -6,10 +6,10 @@ use Rattle.handler_words.proofs.handle_at.Statement.{statement}
 use Rattle.handler_words.proofs.handle_at.Tie as tie
 
 handle-plain-requires : tie.Need-handle-plain-requires
-handle-plain-requires c κs = c .before .before .is-plain-key .ensures (c .before .if1 .taken)
+handle-plain-requires c κs = c .before .before .is-plain-key .ensures .is-so (c .before .if1 .taken)
 
 returns : tie.Need-returns
-returns c = plain-at (c .before .before .before .before .before .is-plain-key .ensures (c .before .before .before .before .if1 .taken)) (c .before .before .handle-plain .ensures)
+returns c = plain-at (c .before .before .before .before .before .is-plain-key .ensures .is-so (c .before .before .before .before .if1 .taken)) (c .before .before .handle-plain .ensures)
 
 returns-2 : tie.Need-returns-2
 returns-2 c = c .before .before .before .before .handle-other .ensures

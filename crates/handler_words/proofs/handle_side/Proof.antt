@@ -9,7 +9,7 @@ use Rattle.handler_words.proofs.handle_side.Tie as tie
 handle-key-requires : tie.Need-handle-key-requires
 handle-key-requires c κs =
     let t = c .before in
-    (t .before .before .before .before .before .before .pre, t .before .is-key-alone .ensures (t .if1 .taken))
+    (t .before .before .before .before .before .before .pre, t .before .is-key-alone .ensures .is-so (t .if1 .taken))
 
 -- none waited, and a key's byte was followed
 returns : tie.Need-returns

@@ -9,20 +9,20 @@ use Rattle.handler_words.proofs.handle_words.Statement.{statement}
 use Rattle.handler_words.proofs.handle_words.Tie as tie
 
 handle-plain-requires : tie.Need-handle-plain-requires
-handle-plain-requires c κs = c .before .before .is-plain-key .ensures (c .before .if1 .taken)
+handle-plain-requires c κs = c .before .before .is-plain-key .ensures .is-so (c .before .if1 .taken)
 
 returns : tie.Need-returns
 returns c =
     let i = c .before .before .before .before .before in
-    at-number Side.First (i .before .before .match .keys1) (plain-at (i .is-plain-key .ensures (c .before .before .before .before .if1 .taken)) (c .before .before .handle-plain .ensures))
+    at-number Side.First (i .before .before .match .keys1) (plain-at (i .is-plain-key .ensures .is-so (c .before .before .before .before .if1 .taken)) (c .before .before .handle-plain .ensures))
 
 handle-plain-requires-2 : tie.Need-handle-plain-requires-2
-handle-plain-requires-2 c κs = c .before .before .is-plain-key2 .ensures (c .before .if2 .taken)
+handle-plain-requires-2 c κs = c .before .before .is-plain-key2 .ensures .is-so (c .before .if2 .taken)
 
 returns-2 : tie.Need-returns-2
 returns-2 c =
     let i = c .before .before .before .before .before in
-    at-number Side.Second (i .before .before .match .keys2) (plain-at (i .is-plain-key2 .ensures (c .before .before .before .before .if2 .taken)) (c .before .before .handle-plain2 .ensures))
+    at-number Side.Second (i .before .before .match .keys2) (plain-at (i .is-plain-key2 .ensures .is-so (c .before .before .before .before .if2 .taken)) (c .before .before .handle-plain2 .ensures))
 
 returns-3 : tie.Need-returns-3
 returns-3 c = at-number Side.First (c .before .before .before .before .before .before .before .before .before .before .match .keys1) (c .before .before .before .before .handle-other .ensures)
