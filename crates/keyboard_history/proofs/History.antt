@@ -1,7 +1,7 @@
 -- The history rule (demand 3, with requests 2.3, 2.9 and 2.13), for every lamp exchange, at a table with one keyboard or two, under either profile, and for every list of calls.
 -- Assumes nothing.
 use mathlib.Core.Path.{_≡_, refl, ap, ap₂, sym, subst, _∙_}
-use mathlib.Core.Bool.{Bool, true, false, not}
+use mathlib.Core.Bool.{Bool, true, false, not, and-false}
 use mathlib.Core.List.{List, [], _++_, append-nil, append-assoc}
 use mathlib.Core.Logic.{⊎-elim}
 use mathlib.Core.Option.{Option, none}
@@ -34,7 +34,7 @@ use Rattle.keyboard_history.specs.Row.{Given, events, lessMet, anyMet, g
 use Rattle.keyboard_history.specs.Run.{leaves, after, answers, takings, eventsTaken, ownNumber, reported}
 use Rattle.keyboard_history.specs.History.{History}
 use Rattle.keyboard_history.proofs.Row.{less-none, met-none, less-append, events-append, own-given, other-given, more-given, taken-first}
-use Rattle.keyboard_history.proofs.Own.{same-side, which-side, and-false, own-more, own-other, own-absent}
+use Rattle.keyboard_history.proofs.Own.{same-side, which-side, own-more, own-other, own-absent}
 use Rattle.keyboard_history.proofs.AsKeyboard.{AsKeyboard}
 use Rattle.keyboard_history.proofs.AsSaid.{As, as-fresh, as-well, as-taken, as-left-out, as-ends, as-drops, own-keyboard, other-keyboard, as-handled, absent-call}
 

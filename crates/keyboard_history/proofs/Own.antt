@@ -1,7 +1,7 @@
 -- The calls of a side: one more of its own, one of the other side's, one of a side that is not at the table.
 -- Assumes nothing.
 use mathlib.Core.Path.{_≡_, refl, sym}
-use mathlib.Core.Bool.{Bool, true, false, _&&_, true≢false}
+use mathlib.Core.Bool.{true, false, and-false, true≢false}
 use mathlib.Core.List.{List}
 use mathlib.Core.Logic.{_⊎_, inl, inr}
 use Prim.Native.Nat.{ℕ}
@@ -22,10 +22,6 @@ which-side Side.First Side.First = inl refl
 which-side Side.First Side.Second = inr (refl, refl)
 which-side Side.Second Side.First = inr (refl, refl)
 which-side Side.Second Side.Second = inl refl
-
-pub and-false : (b : Bool) → (b && false) ≡ false
-and-false true = refl
-and-false false = refl
 
 module _ (keyboards : Keyboards) (past : Past Call) (side : Side) (s l : List ℕ) where
   pub own-more : atTable keyboards side ≡ true → own keyboards side (past ▸ handling side s l) ≡ own keyboards side past ▸ lent s l

@@ -1,7 +1,7 @@
 -- A record that is ready for one more event of a side: it is well formed, and the event finds a place.
 -- Assumes nothing.
 use mathlib.Core.Path.{_≡_, refl, sym, subst}
-use mathlib.Core.Bool.{Bool, true, false, _&&_, and-eq-true-iff, true≢false}
+use mathlib.Core.Bool.{Bool, true, false, _&&_, and-false, and-eq-true-iff, true≢false}
 use Prim.Native.Nat.{ℕ, _<_, _≤_}
 use native.Mathlib.Omega.{arith}
 use lib.Dec.{ltb}
@@ -37,10 +37,6 @@ ready-says side s e =
     (p .0, room-free side s (record { share-left = λ t. omega (arith, l .1 t, few side s); count-in = l .0 }))
 
 -- ---- the questions that tell it
-
-and-false : (a : Bool) → (a && false) ≡ false
-and-false true = refl
-and-false false = refl
 
 guarded : (a t : Bool) → (t ≡ true → a ≡ true) → t ≡ (a && t)
 guarded a true h = rw (h refl)

@@ -1,7 +1,7 @@
 -- The byte of a key that has no flag: it is no silent one, its key has an event, and neither flags nor lamps follow it.
 -- Assumes nothing.
 use mathlib.Core.Path.{_≡_, refl}
-use mathlib.Core.Bool.{Bool, true, false, not, _&&_, _||_, and-eq-true-iff}
+use mathlib.Core.Bool.{Bool, true, false, not, _&&_, _||_, and-false, and-eq-true-iff}
 use mathlib.Core.List.{List, [], _∷_}
 use Prim.Native.Nat.{ℕ, _%_, _<_, _≤_}
 use native.Mathlib.Omega.{arith}
@@ -16,10 +16,6 @@ use Rattle.keyboard_scancodes.specs.Plain.{hasFlag, isPlainCode, isPlain
 use Rattle.keyboard_scancodes.specs.FlagsAfter.{flagsAfter}
 use Rattle.keyboard_scancodes.proofs.Flags.{touches, untouched}
 use Rattle.keyboard_scancodes.proofs.Tests.{neither-holds}
-
-and-false : (a : Bool) → (a && false) ≡ false
-and-false true = refl
-and-false false = refl
 
 -- a code that no row has: its strokes are of no row's key, and press no lock
 no-row : (s : Stroke) (rows : List FlagRow) → hasFlag rows (s .code) ≡ false → (touches rows s ≡ false) × (pressesLock rows s ≡ false)
