@@ -129,19 +129,19 @@ impl Table {
     }
 }
 
-/// Measures both sides in turn: nanoseconds for each of so many calls.
-fn measure(
+/// Makes some measures in turn, so many rounds: nanoseconds for each of so many calls.
+fn measure<const N: usize>(
     calls: f64,
     rounds: usize,
-    mut rust: impl FnMut() -> io::Result<f64>,
-    mut port: impl FnMut() -> io::Result<f64>,
-) -> io::Result<(Spread, Spread)> {
-    let (mut of_rust, mut of_port) = (Vec::new(), Vec::new());
+    mut measures: [&mut dyn FnMut() -> io::Result<f64>; N],
+) -> io::Result<[Spread; N]> {
+    let mut measured = [const { Vec::new() }; N];
     for _ in 0..rounds {
-        of_rust.push(rust()? * 1e9 / calls);
-        of_port.push(port()? * 1e9 / calls);
+        for (one, values) in measures.iter_mut().zip(&mut measured) {
+            values.push(one()? * 1e9 / calls);
+        }
     }
-    Ok((Spread::of(of_rust), Spread::of(of_port)))
+    Ok(measured.map(Spread::of))
 }
 
 /// Measures calls, each made so often that a side takes long enough. The Rust makes them here. The port's program repeats each
@@ -165,7 +165,9 @@ fn measure_calls(oracle: &mut Oracle, lines: &[String], port: Paths, rounds: usi
     }
     // Both make as many calls.
     let made = (calls.len() as u64 * (times - 1)) as f64;
-    let (rust, port) = measure(made, rounds, || Ok(by_rust(times - 1)), || Ok(by_port(times)? - by_port(1)?))?;
+    let [rust, port, once] =
+        measure(made, rounds, [&mut || Ok(by_rust(times - 1)), &mut || by_port(times), &mut || by_port(1)])?;
+    let port = port.without(1.0, once);
     if port.median < rust.median / 100.0 {
         return Err(io::Error::other("the port's program does not repeat the call"));
     }
@@ -300,8 +302,10 @@ fn exports_rows(table: &mut Table, measured: &dyn Fn(&str) -> io::Result<Spread>
         let of = |what: &str| rows(&format!("vd-{name}-{what}"));
         let contents = format!(
             "100 calls in a row from a fresh record on, which is lent as numbers and changed where it lies, nothing taken; the Rust's reading of \
-             the byte and `handle_keyboard_input`, called with no frame. By its frame, less an empty handler's, the Rust's took {}",
-            of("framed")?
+             the byte and `handle_keyboard_input`, called with no frame. By its frame, less an empty handler's, the Rust's took {}. On a record whose third and fourth number lie \
+             on two pages the export took {}",
+            of("framed")?,
+            of("across")?
         );
         table.row(&format!("`vd_handle`, {call}"), Ok((of("rust")?, of("one")?)), &contents);
         for (side, number) in [("first", 1), ("second", 2)] {
@@ -450,8 +454,12 @@ pub fn bench(port: Paths, tablekeys: &str, rounds: usize) -> io::Result<ExitCode
             Err(io::Error::other("the two sides write different lines"))
         }
         _ => {
-            let beyond_start = |program: &[&str]| Ok(run(program, &keys)?.0 - run(program, &[])?.0);
-            measure(1.0, 5 * rounds, || beyond_start(&rust), || beyond_start(&port))
+            let time = |program: &[&str], keys: &[u8]| Ok(run(program, keys)?.0);
+            let (mut rust_all, mut rust_none) = (|| time(&rust, &keys), || time(&rust, &[]));
+            let (mut port_all, mut port_none) = (|| time(&port, &keys), || time(&port, &[]));
+            let [of_rust, rust_start, of_port, port_start] =
+                measure(1.0, 5 * rounds, [&mut rust_all, &mut rust_none, &mut port_all, &mut port_none])?;
+            Ok((of_rust.without(1.0, rust_start), of_port.without(1.0, port_start)))
         }
     };
     let frame = measured("key-frame")?;

@@ -29,6 +29,21 @@ macro_rules! made {
     }};
 }
 
+/// Numbers as a caller should place them: the first sixteen, of which every call writes some, lie on one page.
+#[repr(align(128))]
+struct Placed<const N: usize>([u64; N]);
+
+/// Two pages and more.
+#[repr(align(4096))]
+struct Pages([u64; 1024]);
+
+impl Pages {
+    /// A record whose third and fourth number, which a call on side 1 stores at once, lie on two of them.
+    fn record(&mut self) -> &mut [u64; HANDLER_WORDS] {
+        self.0[512 - 3..].first_chunk_mut().expect("room for a record")
+    }
+}
+
 /// The calls of a row for one side of a table with two keyboards: each gives an event, and the side has places for so many.
 const SHARE: usize = 96;
 /// The rows of a measure.
@@ -111,8 +126,9 @@ fn handler_calls(rounds: usize) {
     let mut rust = Rust::new();
     rust.check(&KEY, 0);
     rust.check(&LOCK, 2);
-    let (mut words, mut log) = ([0; HANDLER_WORDS], [0; ROOM]);
-    let mut full = words;
+    let (mut placed, mut pages, mut log) = (Placed([0; HANDLER_WORDS]), Pages([0; 1024]), [0; ROOM]);
+    let words = &mut placed.0;
+    let mut full = *words;
     handle_row(&mut full, &KEY, &mut log, 1, 1, IN_A_ROW);
     Measures::rounds(rounds, |measures| {
         let rows = |row: &mut dyn FnMut()| (0..ROWS).for_each(|_| row());
@@ -129,9 +145,14 @@ fn handler_calls(rounds: usize) {
             {
                 for (ready, made) in [("", times), ("-ready", 0)] {
                     measures.time(&format!("vd-{name}-{seat}{ready}"), ROWS * times, || {
-                        rows(&mut || handle_row(&mut words, black_box(script), &mut log, keyboards, side, made))
+                        rows(&mut || handle_row(words, black_box(script), &mut log, keyboards, side, made))
                     });
                 }
+            }
+            for (ready, made) in [("", IN_A_ROW), ("-ready", 0)] {
+                measures.time(&format!("vd-{name}-across{ready}"), ROWS * IN_A_ROW, || {
+                    rows(&mut || handle_row(pages.record(), black_box(script), &mut log, 1, 1, made))
+                });
             }
         }
         for (ready, pops) in [("", true), ("-ready", false)] {
@@ -140,8 +161,8 @@ fn handler_calls(rounds: usize) {
         for (ready, times) in [("", IN_A_ROW), ("-ready", 0)] {
             measures.time(&format!("vd-take{ready}"), ROWS * IN_A_ROW, || {
                 rows(&mut || {
-                    black_box(&mut words).copy_from_slice(&full);
-                    (0..times).for_each(|_| made!(vd::take(&mut words)));
+                    black_box(&mut *words).copy_from_slice(&full);
+                    (0..times).for_each(|_| made!(vd::take(words)));
                 })
             });
         }
@@ -149,9 +170,10 @@ fn handler_calls(rounds: usize) {
 }
 
 fn dispatcher_steps(rounds: usize) {
-    let (mut state, mut log) = ([0; DISPATCHER_WORDS], [0; ROOM]);
+    let (mut placed, mut log) = (Placed([0; DISPATCHER_WORDS]), [0; ROOM]);
+    let state = &mut placed.0;
     // Steps whose answers document 02 gives.
-    step_row(&mut state, [&KEY, &KEY, &[8, 1, 0]], &mut log, 4);
+    step_row(state, [&KEY, &KEY, &[8, 1, 0]], &mut log, 4);
     assert_eq!(state[COUNT], 2, "events of a round of steps, which has a packet too");
     let (keys, packets) = ([0x1E; IN_A_ROW / 2], [0x08, 0x01, 0x00].repeat(IN_A_ROW));
     Measures::rounds(rounds, |measures| {
@@ -164,7 +186,7 @@ fn dispatcher_steps(rounds: usize) {
         ];
         for (name, scripts, times) in steps {
             measures.time(&format!("vd-step-{name}"), ROWS * IN_A_ROW, || {
-                rows(&mut || step_row(&mut state, black_box(scripts), &mut log, times))
+                rows(&mut || step_row(state, black_box(scripts), &mut log, times))
             });
         }
     });
