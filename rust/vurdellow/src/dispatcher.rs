@@ -95,6 +95,8 @@ impl Step {
 /// assert_eq!(sides, [Side::First, Side::Second, Side::First]);
 /// ```
 #[derive(Clone, Debug, PartialEq, Eq)]
+// As a handler's.
+#[repr(align(128))]
 pub struct Dispatcher {
     /// The record in it is well formed, as a [`Handler`]'s is.
     words: [u64; DISPATCHER_WORDS],

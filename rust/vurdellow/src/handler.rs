@@ -102,6 +102,8 @@ pub(crate) fn handled(answer: raw::vd_handled) -> Result<Handled, Refused<Handle
 /// # Ok::<(), vurdellow::Refused<vurdellow::Handled>>(())
 /// ```
 #[derive(Clone, Debug, PartialEq, Eq)]
+// So the first sixteen numbers, of which every call writes some, lie on one page: docs/PERFORMANCE.md.
+#[repr(align(128))]
 pub struct Handler {
     /// Well formed: it was made fresh (`fresh-well`) or tested, and every call leaves it so (`well-handled`, `well-taken`).
     words: [u64; HANDLER_WORDS],
