@@ -162,9 +162,8 @@ module _ {id : MouseId} {bytes packets₀ positions₀ packets positions : List 
       let l = positions-length in
       going-ends NoRoom (ap (written used room places) (at-dropped id bytes used h e) ∙ no-place-for-position used room places _ _ (omega arith))
 
--- Packets that follow one another: a pass that had come to used₁ has come to used, with no byte dropped, and there are more bytes.
+-- Packets that follow one another: a pass that had come to used₁ has come to used, with no byte dropped.
 pub record Onward (id : MouseId) (bytes packets₁ positions : List ℕ) (used₁ packet-bytes₁ dropped-bytes : ℕ) (packets : List ℕ) (used packet-bytes : ℕ) : Type 0 where
   pub goes : {packets₀ positions₀ : List ℕ} → Going id bytes packets₀ positions₀ packets₁ positions used₁ packet-bytes₁ dropped-bytes
       → Going id bytes packets₀ positions₀ packets positions used packet-bytes dropped-bytes
-  pub more : used < length bytes
   pub since : used₁ ≤ used

@@ -1,5 +1,5 @@
 -- Laws of salvaging.
-pub mod Copy
+pub mod Numbers
 pub mod Pieces
 pub mod Output
 pub mod Written

@@ -1,10 +1,11 @@
 // Recorded mouse bytes, brought back into step: packets are written as bytes, and the positions of the bytes between them are listed.
 ghost use mathlib.Core.Path.{_≡_};
-ghost use Prim.Native.Nat.{_+_, _≤_, _<_};
-ghost use lib.ListN.{length, drop, getD};
-ghost use lib.Seq.{paste};
+ghost use Prim.Native.Nat.{_+_, _%_, _≤_, _<_};
+ghost use lib.ListN.{length, getD};
+ghost use lib.Seq.{sets};
 ghost use Rattle.ps2_packet.specs.Packet.{packetLength};
 ghost use Rattle.ps2_salvage.specs.Pieces.{starts};
+ghost use Rattle.ps2_salvage.specs.Numbers.{bytesOf, InNumber};
 ghost use Rattle.ps2_salvage.specs.Salvage.{answerNumber, salvaged, Leaves};
 use bits::has;
 use ps2_bytes::MouseId;
@@ -47,74 +48,118 @@ fn starts_packet(bytes: &[u8], at: usize) -> bool
     has(bytes[at], ALWAYS_ONE)
 }
 
-// Copies three bytes. All are read before one is written, so that they are moved together.
-fn copy_three(bytes: &[u8], from: usize, packets: &mut [u8], to: usize)
-    requires { ⌜ (from + 3 ≤ length (now bytes)) × (to + 3 ≤ length (now packets)) ⌝ }
-    ensures { λ r. ⌜ now (packets .exit) ≡ paste (now (packets .entry)) to (drop from (now (bytes .entry))) 3 ⌝ }
+// A byte as a number of 32 bits, and the lowest byte of such a number.
+fn wide(byte: u8) -> u32
+    ensures { λ r. ⌜ (r ≡ byte) × (r < 256) ⌝ }
 {
-    let first = bytes[from];
-    let second = bytes[from + 1];
-    let third = bytes[from + 2];
-    packets[to] = first;
-    packets[to + 1] = second;
-    packets[to + 2] = third;
+    byte as u32
 }
 
-// Copies four bytes in the same way.
-fn copy_four(bytes: &[u8], from: usize, packets: &mut [u8], to: usize)
-    requires { ⌜ (from + 4 ≤ length (now bytes)) × (to + 4 ≤ length (now packets)) ⌝ }
-    ensures { λ r. ⌜ now (packets .exit) ≡ paste (now (packets .entry)) to (drop from (now (bytes .entry))) 4 ⌝ }
+fn low_byte(number: u32) -> u8
+    ensures { λ r. ⌜ r ≡ number % 256 ⌝ }
 {
-    let first = bytes[from];
-    let second = bytes[from + 1];
-    let third = bytes[from + 2];
-    let fourth = bytes[from + 3];
-    packets[to] = first;
-    packets[to + 1] = second;
-    packets[to + 2] = third;
-    packets[to + 3] = fourth;
+    (number % 256) as u8
 }
 
-// Copies a packet.
-fn copy_packet(id: MouseId, bytes: &[u8], from: usize, packets: &mut [u8], to: usize)
-    requires { ⌜ (from + packetLength id ≤ length (now bytes)) × (to + packetLength id ≤ length (now packets)) ⌝ }
-    ensures { λ r. ⌜ now (packets .exit) ≡ paste (now (packets .entry)) to (drop from (now (bytes .entry))) (packetLength id) ⌝ }
+// Three bytes as one number, and four, the first in the lowest bits: so they are read at once, and written at once.
+fn three_from(bytes: &[u8], at: usize) -> u32
+    requires { ⌜ at + 3 ≤ length (now bytes) ⌝ }
+    ensures { λ r. ⌜ InNumber 3 (now (bytes .entry)) at r ⌝ }
+{
+    let first = wide(bytes[at]);
+    let second = wide(bytes[at + 1]);
+    let third = wide(bytes[at + 2]);
+    first + 256 * (second + 256 * third)
+}
+
+fn four_from(bytes: &[u8], at: usize) -> u32
+    requires { ⌜ at + 4 ≤ length (now bytes) ⌝ }
+    ensures { λ r. ⌜ InNumber 4 (now (bytes .entry)) at r ⌝ }
+{
+    let first = wide(bytes[at]);
+    let second = wide(bytes[at + 1]);
+    let third = wide(bytes[at + 2]);
+    let fourth = wide(bytes[at + 3]);
+    first + 256 * (second + 256 * (third + 256 * fourth))
+}
+
+// The bytes of a packet, as a number.
+fn packet_from(id: MouseId, bytes: &[u8], at: usize) -> u32
+    requires { ⌜ at + packetLength id ≤ length (now bytes) ⌝ }
+    ensures { λ r. ⌜ InNumber (packetLength id) (now (bytes .entry)) at r ⌝ }
 {
     match id {
-        MouseId::Zero => copy_three(bytes, from, packets, to),
-        MouseId::Three => copy_four(bytes, from, packets, to),
-        MouseId::Four => copy_four(bytes, from, packets, to),
+        MouseId::Zero => three_from(bytes, at),
+        MouseId::Three => four_from(bytes, at),
+        MouseId::Four => four_from(bytes, at),
     }
 }
 
-// A pass over a recording: each byte is looked at once, in its place.
+// Writes the three lowest bytes of a number, and the four of one.
+fn put_three(number: u32, packets: &mut [u8], to: usize)
+    requires { ⌜ to + 3 ≤ length (now packets) ⌝ }
+    ensures { λ r. ⌜ now (packets .exit) ≡ sets (now (packets .entry)) to (bytesOf 3 number) ⌝ }
+{
+    let second = number / 256;
+    let third = second / 256;
+    packets[to] = low_byte(number);
+    packets[to + 1] = low_byte(second);
+    packets[to + 2] = low_byte(third);
+}
+
+fn put_four(number: u32, packets: &mut [u8], to: usize)
+    requires { ⌜ to + 4 ≤ length (now packets) ⌝ }
+    ensures { λ r. ⌜ now (packets .exit) ≡ sets (now (packets .entry)) to (bytesOf 4 number) ⌝ }
+{
+    let second = number / 256;
+    let third = second / 256;
+    let fourth = third / 256;
+    packets[to] = low_byte(number);
+    packets[to + 1] = low_byte(second);
+    packets[to + 2] = low_byte(third);
+    packets[to + 3] = low_byte(fourth);
+}
+
+// Writes a packet that is such a number.
+fn put_packet(id: MouseId, number: u32, packets: &mut [u8], to: usize)
+    requires { ⌜ to + packetLength id ≤ length (now packets) ⌝ }
+    ensures { λ r. ⌜ now (packets .exit) ≡ sets (now (packets .entry)) to (bytesOf (packetLength id) number) ⌝ }
+{
+    match id {
+        MouseId::Zero => put_three(number, packets, to),
+        MouseId::Three => put_four(number, packets, to),
+        MouseId::Four => put_four(number, packets, to),
+    }
+}
+
+// A pass over a recording, byte by byte.
 fn pass(id: MouseId, bytes: &[u8], packets: &mut [u8], positions: &mut [u64]) -> Salvaged
     ensures { λ r. ⌜ Leaves (salvaged id (length (now (packets .entry))) (length (now (positions .entry))) (now (bytes .entry))) (now (packets .entry)) (now (positions .entry)) r (now (packets .exit)) (now (positions .exit)) ⌝ }
 {
-    let packet = packet_length(id);
+    let length = packet_length(id);
     let mut used: usize = 0;
     let mut packet_bytes: usize = 0;
     let mut dropped: usize = 0;
     let answer = 'pass: loop {
+        // Packets that follow one another have a loop of their own.
+        while length <= bytes.len() - used {
+            let packet = packet_from(id, bytes, used);
+            if !has(low_byte(packet), ALWAYS_ONE) {
+                break;
+            }
+            if packets.len() - packet_bytes < length {
+                break 'pass SalvageAnswer::NoRoom;
+            }
+            put_packet(id, packet, packets, packet_bytes);
+            used += length;
+            packet_bytes += length;
+        }
         if bytes.len() <= used {
             break SalvageAnswer::Done;
         }
-        // Packets that follow one another have a loop of their own, with one jump to a packet.
-        while starts_packet(bytes, used) {
-            let end = used + packet;
-            if bytes.len() < end {
-                break 'pass SalvageAnswer::Done;
-            }
-            let full = packet_bytes + packet;
-            if packets.len() < full {
-                break 'pass SalvageAnswer::NoRoom;
-            }
-            copy_packet(id, bytes, used, packets, packet_bytes);
-            used = end;
-            packet_bytes = full;
-            if bytes.len() <= used {
-                break 'pass SalvageAnswer::Done;
-            }
+        // a tail too short for a packet
+        if starts_packet(bytes, used) {
+            break SalvageAnswer::Done;
         }
         if positions.len() <= dropped {
             break SalvageAnswer::NoRoom;
