@@ -1,4 +1,6 @@
 // Numbers that are passed for what a program in another language has no type for: what each stands for, if anything.
+#![tactic(auto)]
+
 ghost use Rattle.std.specs.Prelude.{◌≡◌};
 ghost use Rattle.argument_words.specs.Arguments.{identity_at, said_identity};
 
@@ -8,7 +10,7 @@ use ps2_bytes::MouseId;
 pub const MEANS_NOTHING: u32 = 255;
 
 // The mouse's identity that a number stands for, if any.
-#[derive(Drop)]
+#[derive(Clone, Copy)]
 pub enum FoundIdentity {
     Identity(MouseId),
     Nothing,

@@ -1,4 +1,6 @@
 // Texts that are put into a lent buffer byte by byte, as much of them as there is room for.
+#![tactic(auto)]
+
 ghost use Rattle.std.specs.Prelude.{◌≡◌, [], ◌∷◌};
 ghost use Rattle.buffer.specs.Buffer.{place, put};
 

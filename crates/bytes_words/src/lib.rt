@@ -1,4 +1,6 @@
 // The operations on bytes as a program in another language calls them: numbers in, answers as numbers, outputs lent and written where they lie.
+#![tactic(auto)]
+
 ghost use Rattle.std.specs.Prelude.{◌≡◌};
 ghost use Rattle.argument_words.specs.Arguments.{identity_at};
 ghost use Rattle.keycodes_ascii.specs.Keycode.{keycode_of};
@@ -13,7 +15,7 @@ use keycodes_ascii::{Character, FoundKeycode, KeyAction, Keycode};
 
 // What a conversion answers: the refusal's number, 0 where there is none; bytes of the stream used, bytes of the output written.
 #[repr(C)]
-#[derive(Drop)]
+#[derive(Clone, Copy)]
 pub struct ConvertedWords {
     pub refusal: u32,
     pub used: usize,
@@ -22,7 +24,7 @@ pub struct ConvertedWords {
 
 // What a typing answers: the refusal's number, 0 where there is none; bytes of the output written.
 #[repr(C)]
-#[derive(Drop)]
+#[derive(Clone, Copy)]
 pub struct WrittenWords {
     pub refusal: u32,
     pub written: usize,
@@ -30,7 +32,7 @@ pub struct WrittenWords {
 
 // What a salvage answers: the refusal's number, 0 where there is none; bytes of the recording used, bytes of packets and positions of dropped bytes written.
 #[repr(C)]
-#[derive(Drop)]
+#[derive(Clone, Copy)]
 pub struct SalvagedWords {
     pub refusal: u32,
     pub used: usize,
@@ -39,13 +41,13 @@ pub struct SalvagedWords {
 }
 
 // The flags and the action that a number stands for, if any.
-#[derive(Drop)]
+#[derive(Clone, Copy)]
 enum FoundFlags {
     Flags(KeyboardModifiers),
     Nothing,
 }
 
-#[derive(Drop)]
+#[derive(Clone, Copy)]
 enum FoundAction {
     Action(KeyAction),
     Nothing,

@@ -1,4 +1,6 @@
 // The controller's initialisation by numbers: its record and the answer are numbers that cross to C.
+#![tactic(auto)]
+
 ghost use Rattle.std.specs.Prelude.{not, ◌≡◌, eqb};
 ghost use Rattle.bits.specs.Bits.{weigh};
 ghost use Rattle.ps2_answers.specs.Refusals.{said_done};
@@ -12,7 +14,7 @@ use ps2_init::{Initialized, PS2Controller, init};
 
 // What is known of the controller: whether it was initialised, and whether the keyboard and the mouse passed their resets then. Any number but 0 says yes; 1 does where the library writes it.
 #[repr(C)]
-#[derive(Drop)]
+#[derive(Clone, Copy)]
 pub struct ControllerWords {
     pub initialized: u32,
     pub keyboard: u32,
@@ -21,7 +23,7 @@ pub struct ControllerWords {
 
 // What initialisation answers: the refusal, 0 where there is none; the port of the read that the script was too short for, or 0; script bytes used and pairs written; and the controller as it is left.
 #[repr(C)]
-#[derive(Drop)]
+#[derive(Clone, Copy)]
 pub struct InitializedWords {
     pub refusal: u32,
     pub port: u32,

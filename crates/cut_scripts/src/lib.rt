@@ -1,1 +1,2 @@
 // A script that is cut short, for every entry on the ports. No code.
+#![tactic(auto)]

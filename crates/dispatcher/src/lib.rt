@@ -1,4 +1,6 @@
 // A dispatcher: each step serves one of three sources, two keyboards and a mouse on a controller of its own, with one handler call or one packet.
+#![tactic(auto)]
+
 ghost use Rattle.std.specs.Prelude.{List, ◌≡◌, ℕ, ◌≤◌, length};
 ghost use Rattle.keyboard.specs.KeyboardLamps.{keyboard_lamps};
 ghost use Rattle.dispatcher.specs.Turns.{next, asked_first, served};
@@ -16,21 +18,21 @@ use ps2_packet::packet_length;
 use ps2_packet_reading::{SignedRead, read_signed_packet};
 
 // What a step can serve: the keyboard of a side, or the mouse.
-#[derive(Drop)]
+#[derive(Clone, Copy)]
 pub enum Source {
     Keyboard(Side),
     Mouse,
 }
 
 // The source served last.
-#[derive(Drop)]
+#[derive(Clone, Copy)]
 pub enum LastServed {
     Nobody,
     One(Source),
 }
 
 // Where in its script each source is: the number of its bytes that are used.
-#[derive(Drop)]
+#[derive(Clone, Copy)]
 pub struct Places {
     pub first: usize,
     pub second: usize,
@@ -38,7 +40,7 @@ pub struct Places {
 }
 
 // Which sources wait.
-#[derive(Drop)]
+#[derive(Clone, Copy)]
 pub struct Waits {
     pub first: bool,
     pub second: bool,
@@ -46,14 +48,14 @@ pub struct Waits {
 }
 
 // Whom a step serves.
-#[derive(Drop)]
+#[derive(Clone, Copy)]
 pub enum Turn {
     Serves(Source),
     Idle,
 }
 
 // The dispatcher's state: who was served last, the places in the three scripts, the handler record and the mouse's.
-#[derive(Drop)]
+#[derive(Clone, Copy)]
 pub struct Dispatcher {
     pub last: LastServed,
     pub places: Places,
@@ -62,7 +64,7 @@ pub struct Dispatcher {
 }
 
 // What a handler call answers, as `Handled` has it without the record.
-#[derive(Drop)]
+#[derive(Clone, Copy)]
 pub struct CallAnswer {
     pub answer: HandlerAnswer,
     pub lamps_failed: bool,
@@ -72,7 +74,7 @@ pub struct CallAnswer {
 }
 
 // What a step answers: a side was served, with what its handler call answered; the mouse, with its packet; or nobody waited.
-#[derive(Drop)]
+#[derive(Clone, Copy)]
 pub enum Served {
     Key(Side, CallAnswer),
     Packet(SignedRead),
@@ -80,7 +82,7 @@ pub enum Served {
 }
 
 // What a step gives back, with the script bytes used and the pairs written by the call that it made.
-#[derive(Drop)]
+#[derive(Clone, Copy)]
 pub struct Dispatched {
     pub served: Served,
     pub used: usize,

@@ -1,4 +1,6 @@
 // A dispatcher's steps, one after another, for a program in Rust to link: `beside/bench` measures them.
+#![tactic(auto)]
+
 ghost use Rattle.std.specs.Prelude.{◌≡◌};
 ghost use Rattle.keyboard_record.specs.Record.{fresh};
 ghost use Rattle.ps2_mouse.specs.Answers.{fresh_mouse};

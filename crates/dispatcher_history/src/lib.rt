@@ -1,1 +1,2 @@
 // The history rule through the dispatcher: definitions in specs/, laws in proofs/; no code.
+#![tactic(auto)]

@@ -1,4 +1,6 @@
 // A dispatcher's state lent as numbers, and changed where it lies: a step copies no place of the queue and writes only what changes.
+#![tactic(auto)]
+
 ghost use Rattle.std.specs.Prelude.{List, ◌++◌, ◌≡◌, ℕ, ◌%◌, ◌≤◌, ◌<◌, length};
 ghost use Rattle.handler_words.specs.Calls.{refusing};
 ghost use Rattle.dispatcher.specs.Sources.{scripts, unused, keyboard_waits, mouse_waits, waits_now};
@@ -39,7 +41,7 @@ pub const DISPATCHER_WORDS: usize = HANDLER_WORDS + 5;
 
 // What a step answers, as numbers: the refusal of the call that it made, 0 where there is none; who was served, 0 where nobody waited, 1 or 2 the side, 3 the mouse; and that call's answer, with 0 everywhere in the other.
 #[repr(C)]
-#[derive(Drop)]
+#[derive(Clone, Copy)]
 pub struct StepWords {
     pub refusal: u32,
     pub source: u32,

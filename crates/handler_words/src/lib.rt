@@ -1,4 +1,6 @@
 // The keyboard handler's record lent as numbers, and changed where it lies: a call reads the state's numbers and writes those that change, and of the places one at most.
+#![tactic(auto)]
+
 ghost use Rattle.std.specs.Prelude.{true, not, ◌||◌, ◌≡◌, ◌++◌, eqb, length, set, replicate, ◌+◌, ◌*◌, ◌%◌, ◌/◌, ◌<◌, ◌≤◌, ◌^◌};
 ghost use Rattle.std.proofs.Math.Option.{some};
 ghost use Rattle.bits.specs.Bits.{weigh};
@@ -63,7 +65,7 @@ pub const HANDLER_WORDS: usize = PLACES_FROM + QUEUE_LENGTH;
 
 // What a handler call answers, as numbers: the refusal and that of the lamp exchange, 0 where there is none; script bytes used, pairs written and bytes dropped; and the port of the read that the script was too short for, or 0.
 #[repr(C)]
-#[derive(Drop)]
+#[derive(Clone, Copy)]
 pub struct HandledWords {
     pub refusal: u32,
     pub lamps: u32,
@@ -75,7 +77,7 @@ pub struct HandledWords {
 
 // What a taking answers, as numbers: the refusal, 0 where there is none; the side of the event taken, 0 where there is none; its keycode, action and flags.
 #[repr(C)]
-#[derive(Drop)]
+#[derive(Clone, Copy)]
 pub struct TakenWords {
     pub refusal: u32,
     pub side: u32,
@@ -85,7 +87,7 @@ pub struct TakenWords {
 }
 
 // The table that two numbers stand for, if any.
-#[derive(Drop)]
+#[derive(Clone, Copy)]
 enum FoundTable {
     Table(Table),
     Nothing,

@@ -1,4 +1,6 @@
 // The listing of key events that the program tablekeys prints: the handler of the one keyboard is called on a script until it is used and no byte waits, and each event is taken at once.
+#![tactic(auto)]
+
 ghost use Rattle.std.specs.Prelude.{◌≡◌, [], ◌∷◌, ◌<◌, drop};
 ghost use Rattle.exchange.specs.Answer.{number_ended};
 ghost use Rattle.keyboard.specs.Answers.{said_call, ends2_3_21};
@@ -19,7 +21,7 @@ use keycodes_ascii::{Character, KeyAction, KeyEvent};
 const SCRIPT_LIMIT: usize = 65536;
 
 // What one handler call leaves: whether it is the last one, the script bytes used, the bytes that are left for the calls after it, the next place of the listing, and the record.
-#[derive(Drop)]
+#[derive(Clone, Copy)]
 struct Called {
     is_last: bool,
     used: usize,

@@ -1,4 +1,6 @@
 // The handler call, for either side of a table: Theseus's `keyboard`.
+#![tactic(auto)]
+
 ghost use Rattle.std.specs.Prelude.{true, ◌≡◌, ◌≢◌, get_or, ◌-◌, ◌≤◌};
 ghost use Rattle.exchange.specs.Exchange.{play};
 ghost use Rattle.ps2_kept.specs.Kept.{kept_limit, kept_of};
@@ -32,7 +34,7 @@ use ps2_ports::DevicePort;
 const AT_ONCE: usize = 6;
 
 // How a handler call ends: done, for lack of a byte or room, or with the refusal that document 01 numbers 19, 20 or 21, or document 02 numbers 31 or 33.
-#[derive(Drop)]
+#[derive(Clone, Copy)]
 pub enum HandlerAnswer {
     Done,
     Lacking(Lack),
@@ -44,14 +46,14 @@ pub enum HandlerAnswer {
 }
 
 // The oldest byte that waits, and those behind it.
-#[derive(Drop)]
+#[derive(Clone, Copy)]
 struct OldestTaken {
     behind: KeptBytes,
     oldest: u8,
 }
 
 // The byte that a call takes, or that there is none; the script bytes used for it; and the bytes that still wait.
-#[derive(Drop)]
+#[derive(Clone, Copy)]
 struct TakenByte {
     kept: KeptBytes,
     used: usize,
@@ -59,7 +61,7 @@ struct TakenByte {
 }
 
 // What a call gives back for its keyboard: the event that its byte gives; where it gives none, the answer. A lamp exchange that failed, document 01's 14, is shown beside the answer, and so is the number of the bytes that it threw away and that found no place to wait.
-#[derive(Drop)]
+#[derive(Clone, Copy)]
 struct KeyEffect {
     answer: HandlerAnswer,
     event: NewEvent,
@@ -71,7 +73,7 @@ struct KeyEffect {
 }
 
 // What a handler call gives back. A lamp exchange that failed, document 01's 14, is shown beside the answer, and so is the number of the bytes that it threw away and that found no place to wait.
-#[derive(Drop)]
+#[derive(Clone, Copy)]
 pub struct Handled {
     pub answer: HandlerAnswer,
     pub lamps_failed: bool,
@@ -82,14 +84,14 @@ pub struct Handled {
 }
 
 // The event that a byte gives, or that a call puts into the queue, if any.
-#[derive(Drop)]
+#[derive(Clone, Copy)]
 pub enum NewEvent {
     Event(KeyEvent),
     Nothing,
 }
 
 // What a handler call gives back but for the places: a new event goes into the first place behind those that wait.
-#[derive(Drop)]
+#[derive(Clone, Copy)]
 pub struct Effect {
     pub answer: HandlerAnswer,
     pub lamps_failed: bool,

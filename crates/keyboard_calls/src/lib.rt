@@ -1,4 +1,6 @@
 // Handler calls by value, in place or on the state alone, one after another, for a program in Rust to link: `beside/bench` measures them.
+#![tactic(auto)]
+
 ghost use Rattle.std.specs.Prelude.{◌≡◌};
 ghost use Rattle.keyboard_sides.specs.Sides.{side_of};
 ghost use Rattle.keyboard_record.specs.Record.{fresh};

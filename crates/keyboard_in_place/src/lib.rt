@@ -1,4 +1,6 @@
 // The handler call on a record that lies behind a reference: it stores what the by-value call returns.
+#![tactic(auto)]
+
 ghost use Rattle.std.specs.Prelude.{◌≡◌};
 ghost use Rattle.keyboard.specs.KeyboardLamps.{keyboard_lamps};
 ghost use Rattle.keyboard.specs.Handler.{handled, log_left};
@@ -9,7 +11,7 @@ use keyboard_record::KeyboardHandler;
 use keyboard_sides::Side;
 
 // What the call gives back beside the record, which it changes in place.
-#[derive(Drop)]
+#[derive(Clone, Copy)]
 pub struct HandledInPlace {
     pub answer: HandlerAnswer,
     pub lamps_failed: bool,

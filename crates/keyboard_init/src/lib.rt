@@ -1,4 +1,6 @@
 // Keyboard initialisation: the keyboard's type is detected and its scancode set chosen, and the handler starts from a fresh record.
+#![tactic(auto)]
+
 ghost use Rattle.std.specs.Prelude.{◌≡◌};
 ghost use Rattle.exchange.specs.Exchange.{play, played};
 ghost use Rattle.ps2_detect.specs.Answers.{said_type};
@@ -14,7 +16,7 @@ use ps2_detect::{Detected, TypeAnswer, keyboard_detect};
 use ps2_keyboard::set_keyboard_scancode_set;
 
 // The handler's record, which is good where the answer is that all was done.
-#[derive(Drop)]
+#[derive(Clone, Copy)]
 pub struct KeyboardInitialized {
     pub answer: Completion,
     pub handler: KeyboardHandler,

@@ -1,11 +1,13 @@
 // The modifier flags: Theseus's `KeyboardModifiers`.
+#![tactic(auto)]
+
 ghost use Rattle.std.specs.Prelude.{◌≡◌, ◌||◌};
 ghost use Rattle.std.specs.Bool.{xor};
 ghost use Rattle.bits.specs.Bits.{bit, bitwise, meet, without};
 ghost use Rattle.keyboard_modifiers.specs.Flags.{shift_left, shift_right, control_left, control_right, alt, super_key_left, super_key_right, caps_lock, num_lock, scroll_lock, alt_right};
 
 // The modifier keys that are held down, and the locks that are on: a bit for each, as document 01 numbers them.
-#[derive(Drop)]
+#[derive(Clone, Copy)]
 pub struct KeyboardModifiers {
     pub bits: u16,
 }

@@ -1,4 +1,6 @@
 // The keyboard handler's record, its queue of events, and the taking from it: Theseus's `keyboard`, at a table with one keyboard or two.
+#![tactic(auto)]
+
 ghost use Rattle.std.specs.Prelude.{◌≡◌, leb};
 ghost use Rattle.exchange.specs.Answer.{number_answered};
 ghost use Rattle.exchange.specs.Left.{left};
@@ -24,14 +26,14 @@ pub const SHARE: usize = 96;
 const FLAG_LIMIT: u16 = 1 << 11;
 
 // Whether a table has one keyboard or two. One keyboard is the first side's.
-#[derive(Drop)]
+#[derive(Clone, Copy)]
 pub enum Keyboards {
     One,
     Two,
 }
 
 // What a table is laid with: one keyboard or two, and the keys that its games allow. Whoever asks for a fresh record chooses both, and no call changes them.
-#[derive(Drop)]
+#[derive(Clone, Copy)]
 pub struct Table {
     pub keyboards: Keyboards,
     pub profile: Profile,
@@ -40,7 +42,7 @@ pub struct Table {
 // All of the record but the places: what the handler remembers of each side's keyboard, what the table is laid with, and where in the places the events wait.
 // They stand in a ring: the oldest is at `start`, and `count` of them follow each other round the end. `sides` has the side of each, the oldest first.
 // In this order the waiting bytes of either keyboard begin at a multiple of 16, where a copy of the state, 16 bytes at a time, takes them whole.
-#[derive(Drop)]
+#[derive(Clone, Copy)]
 pub struct HandlerState {
     pub first: KeyboardState,
     pub table: Table,
@@ -52,21 +54,21 @@ pub struct HandlerState {
 
 // The handler record: its state, and the places of its queue.
 // The places stand last, where no padding touches them: a copy of the record is then not made in two parts.
-#[derive(Drop)]
+#[derive(Clone, Copy)]
 pub struct KeyboardHandler {
     pub state: HandlerState,
     pub places: [KeyEvent; QUEUE_LENGTH],
 }
 
 // An event of the queue, with the side whose keyboard gave it.
-#[derive(Drop)]
+#[derive(Clone, Copy)]
 pub struct SideEvent {
     pub side: Side,
     pub event: KeyEvent,
 }
 
 // Whether the queue takes one more event of a side: it does; its key is outside the profile, document 02's 33; the side has its share, document 02's 31; or every place is taken, document 01's 20.
-#[derive(Drop)]
+#[derive(Clone, Copy)]
 pub enum Room {
     Free,
     OutsideProfile,
@@ -75,14 +77,14 @@ pub enum Room {
 }
 
 // What asking for a place gives back: the state with one more event that waits, or as it was, and whether there is a place.
-#[derive(Drop)]
+#[derive(Clone, Copy)]
 pub struct Joined {
     pub state: HandlerState,
     pub room: Room,
 }
 
 // What a taking from the queue answers: the oldest event, none, or the refusal that document 01 numbers 21.
-#[derive(Drop)]
+#[derive(Clone, Copy)]
 pub enum TakenEvent {
     Event(SideEvent),
     Nothing,
@@ -90,7 +92,7 @@ pub enum TakenEvent {
 }
 
 // What a taking gives back.
-#[derive(Drop)]
+#[derive(Clone, Copy)]
 pub struct Taken {
     pub event: TakenEvent,
     pub handler: KeyboardHandler,

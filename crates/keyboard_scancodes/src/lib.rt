@@ -1,4 +1,6 @@
 // What scancodes say by themselves, with what the handler remembers of one keyboard: whether a byte is a prefix, no key's or a lock's press, and the flags just after it; the lamps of the locks that are on.
+#![tactic(auto)]
+
 ghost use Rattle.std.specs.Prelude.{false, ◌≡◌};
 ghost use Rattle.keyboard_scancodes.specs.Strokes.{stroke, is_prefix, is_silent};
 ghost use Rattle.keyboard_scancodes.specs.FlagTable.{flag_table, presses_lock};
@@ -82,14 +84,14 @@ const PLAIN_KEYS_FROM_40: u64 = 0x3FFF_FFFF
         | 1 << (SUPER_KEY_RIGHT - 0x40));
 
 // Under which keys a game is played: any, or those that rated games allow.
-#[derive(Drop)]
+#[derive(Clone, Copy)]
 pub enum Profile {
     Any,
     Tournament,
 }
 
 // Bytes that wait to be taken, the oldest first: a lamp exchange threw them away.
-#[derive(Drop)]
+#[derive(Clone, Copy)]
 pub struct WaitingBytes {
     pub bytes: [u8; KEPT_LIMIT],
     pub count: u8,
@@ -97,7 +99,7 @@ pub struct WaitingBytes {
 
 // What the handler remembers of one keyboard: the bytes that wait, whether the last byte was a prefix, and the keys that are held and the locks that are on.
 // In this order no padding lies between the fields, and a copy is not made around it.
-#[derive(Drop)]
+#[derive(Clone, Copy)]
 pub struct KeyboardState {
     pub waiting: WaitingBytes,
     pub prefix: bool,

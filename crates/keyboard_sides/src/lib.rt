@@ -1,4 +1,6 @@
 // The two sides of a table, and the sides of the events that wait, as a row of bits: bit i is the side of the i-th event, the oldest first.
+#![tactic(auto)]
+
 ghost use Rattle.std.specs.Prelude.{◌≡◌, ◌%◌, ◌^◌, ◌<◌};
 ghost use Rattle.std.specs.Int.Count.{ones};
 ghost use Rattle.bits.specs.Bits.{put_bit};
@@ -8,14 +10,14 @@ ghost use Rattle.keyboard_sides.specs.Sides.{is_second, sides_of, count_of, olde
 const WORD: usize = 64;
 
 // The side of a table that a keyboard stands at: the first one's is on the first port, the second one's on the second.
-#[derive(Drop)]
+#[derive(Clone, Copy)]
 pub enum Side {
     First,
     Second,
 }
 
 // The sides of up to 128 events in two words, the low bits first. A bit that is set says the second side. The bits behind those of the events that wait may be anything.
-#[derive(Drop)]
+#[derive(Clone, Copy)]
 pub struct Sides {
     pub low: u64,
     pub high: u64,

@@ -1,4 +1,6 @@
 // The keyboard's operations by numbers: arguments and answers are numbers that cross to C.
+#![tactic(auto)]
+
 ghost use Rattle.std.specs.Prelude.{◌≡◌, ◌<◌};
 ghost use Rattle.bits.specs.Bits.{weigh};
 ghost use Rattle.exchange.specs.Exchange.{play, played};
@@ -36,13 +38,13 @@ use ps2_keyboard::{
 use ps2_layouts::LEDState;
 
 // The command, and the scancode set, that a number stands for, if any.
-#[derive(Drop)]
+#[derive(Clone, Copy)]
 enum FoundCommand {
     Command(HostToKeyboardCommand),
     Nothing,
 }
 
-#[derive(Drop)]
+#[derive(Clone, Copy)]
 enum FoundSet {
     Set(ScancodeSet),
     Nothing,

@@ -1,4 +1,6 @@
 // Keycodes, key events and characters: Theseus's `keycodes_ascii`.
+#![tactic(auto)]
+
 ghost use Rattle.std.specs.Prelude.{◌≡◌};
 ghost use Rattle.keycodes_ascii.specs.Keycode.{number_of, keycode_of};
 ghost use Rattle.keycodes_ascii.specs.Characters.{writes, is_letter, character_of, scancode_character};
@@ -10,14 +12,14 @@ use layout::{CHARACTERS, KEYCODES};
 mod layout;
 
 // Whether a key was pressed or released.
-#[derive(Drop)]
+#[derive(Clone, Copy)]
 pub enum KeyAction {
     Pressed,
     Released,
 }
 
 // What a keyboard action gives to applications.
-#[derive(Drop)]
+#[derive(Clone, Copy)]
 pub struct KeyEvent {
     pub keycode: Keycode,
     pub action: KeyAction,
@@ -40,7 +42,7 @@ impl KeyEvent {
 pub const KEY_RELEASED_OFFSET: u8 = 128;
 
 // A character of ASCII, or none.
-#[derive(Drop)]
+#[derive(Clone, Copy)]
 pub enum Character {
     Ascii(u8),
     Absent,
@@ -69,7 +71,7 @@ pub fn scancode_to_ascii(modifiers: KeyboardModifiers, scan_code: u8) -> Charact
 }
 
 // The key of an event, by its press code. The last six are release codes, which occur in no event.
-#[derive(Drop)]
+#[derive(Clone, Copy)]
 pub enum Keycode {
     OverflowError,
     Escape,
@@ -174,7 +176,7 @@ pub enum Keycode {
 }
 
 // A byte's keycode, if it has one.
-#[derive(Drop)]
+#[derive(Clone, Copy)]
 pub enum FoundKeycode {
     Found(Keycode),
     Unknown,

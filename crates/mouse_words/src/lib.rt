@@ -1,4 +1,6 @@
 // The mouse's operations, by numbers: what each answers, and what the numbers of their arguments stand for.
+#![tactic(auto)]
+
 ghost use Rattle.std.specs.Prelude.{◌≡◌};
 ghost use Rattle.bits.specs.Bits.{weigh};
 ghost use Rattle.argument_words.specs.Arguments.{means_nothing, identity_at};
@@ -30,19 +32,19 @@ use ps2_mouse_identity::{MouseLeft, set_mouse_id};
 use ps2_packet_reading::read_signed_packet;
 
 // The command, the sampling rate and the resolution that a number stands for, if any.
-#[derive(Drop)]
+#[derive(Clone, Copy)]
 enum FoundCommand {
     Command(HostToMouseCommand),
     Nothing,
 }
 
-#[derive(Drop)]
+#[derive(Clone, Copy)]
 enum FoundRate {
     Rate(MouseSampleRate),
     Nothing,
 }
 
-#[derive(Drop)]
+#[derive(Clone, Copy)]
 enum FoundResolution {
     Resolution(MouseResolution),
     Nothing,

@@ -1,4 +1,6 @@
 // Numbers below 4,294,967,296 as bytes: groups of seven bits, lowest first, the top bit set on all but the last, in the shortest form.
+#![tactic(auto)]
+
 ghost use Rattle.std.specs.Prelude.{◌≡◌, ◌+◌, ◌-◌, ◌≤◌, ◌<◌, length, drop, get_or};
 ghost use Rattle.exchange.specs.Answer.{number_answered};
 ghost use Rattle.number_coding.specs.Coding.{groups_end, coding};
@@ -6,7 +8,7 @@ ghost use Rattle.number_coding.specs.Reading.{read_number, said_number};
 ghost use Rattle.number_coding.specs.Writing.{outcome, with_bytes, number_written, said_written};
 
 // A number that was read, with how many bytes it took; or that it is cut short, too large or not in the shortest form, which document 02 numbers 27.
-#[derive(Drop)]
+#[derive(Clone, Copy)]
 pub enum NumberRead {
     Number(u32, usize),
     Malformed,
@@ -25,7 +27,7 @@ impl NumberRead {
 }
 
 // How a writing ends: done, or with the refusal that document 02 numbers 23.
-#[derive(Drop)]
+#[derive(Clone, Copy)]
 pub enum NumberAnswer {
     Done,
     OutputShort,
@@ -44,7 +46,7 @@ impl NumberAnswer {
 }
 
 // An answer, with how many bytes of the output are written.
-#[derive(Drop)]
+#[derive(Clone, Copy)]
 pub struct NumberWritten {
     pub answer: NumberAnswer,
     pub written: usize,

@@ -1,4 +1,6 @@
 // Packed calls and answers, as tests/traces/README.md tells them: read from standard input, written to standard output.
+#![tactic(auto)]
+
 ghost use Rattle.std.specs.Prelude.{◌+◌, ◌*◌, ◌-◌, ◌≤◌, min, cond, not, ◌≡◌, eqb, length, get_or};
 ghost use Rattle.io.specs.Counts.{IsPrefixLen};
 ghost use Rattle.buffer.specs.Buffer.{Holds, place, put};
@@ -6,7 +8,11 @@ ghost use Rattle.packed_calls.specs.Packed.{bytes_of, unpacked, packed};
 ghost use Rattle.packed_calls.specs.Replaying.{Read, part_start, PutFrom, Kept, call_op, held, where_held, turns_left, ending};
 
 use buffer::put_byte;
-use libc::{STDIN_FILENO, STDOUT_FILENO};
+
+// The descriptors of a program's standard input and standard output, by POSIX.
+const STDIN_FILENO: i32 = 0;
+
+pub const STDOUT_FILENO: i32 = 1;
 
 // The number of an outcome that there is nothing to answer of, and of a call that can't be made: there is no such operation, or not with this argument.
 pub const SILENT: u8 = 254;
@@ -26,7 +32,7 @@ const INSTRUCTION_BYTES: usize = 10;
 const ANSWER_BYTES: usize = 32;
 
 // An instruction: its operation, an argument, a state (the controller's bits or configuration, or flags), the log's room, and how often it is meant.
-#[derive(Drop)]
+#[derive(Clone, Copy)]
 pub struct Instruction {
     pub op: u8,
     pub argument: u8,
@@ -36,7 +42,7 @@ pub struct Instruction {
 }
 
 // How a call ended: the refusal's number, 0, `SILENT` or `NO_CALL`; a byte of what it leaves; what it used and wrote; and its value.
-#[derive(Drop)]
+#[derive(Clone, Copy)]
 pub struct Outcome {
     pub number: u8,
     pub left: u8,

@@ -1,4 +1,6 @@
 // What port operations answer, as numbers that cross to C: the refusal, the port of a lack, the counts, and what the operation gives.
+#![tactic(auto)]
+
 ghost use Rattle.std.specs.Prelude.{◌≡◌, ◌≤◌};
 ghost use Rattle.bits.specs.Bits.{weigh};
 ghost use Rattle.exchange.specs.Exchange.{yields};
@@ -19,7 +21,7 @@ use ps2_packet_reading::{SignedAnswer, SignedRead};
 
 // What a port operation answers: the refusal, 0 where there is none; the port of the read that the script was too short for, or 0; script bytes used and pairs written; and what the operation gives, 0 where it gives nothing.
 #[repr(C)]
-#[derive(Drop)]
+#[derive(Clone, Copy)]
 pub struct PortWords {
     pub refusal: u32,
     pub port: u32,
@@ -30,7 +32,7 @@ pub struct PortWords {
 
 // The same of one that hands back the bytes that it threw away: the earliest, in order, in the first `count` places, and how many others there were.
 #[repr(C)]
-#[derive(Drop)]
+#[derive(Clone, Copy)]
 pub struct KeptWords {
     pub refusal: u32,
     pub port: u32,
@@ -43,7 +45,7 @@ pub struct KeptWords {
 
 // The same of the reading of a mouse's packet, which writes nothing: the buttons from bit 0 up are left, right, middle, fourth and fifth.
 #[repr(C)]
-#[derive(Drop)]
+#[derive(Clone, Copy)]
 pub struct PacketWords {
     pub refusal: u32,
     pub port: u32,

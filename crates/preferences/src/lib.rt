@@ -1,10 +1,12 @@
 // A club's preferences: what a record of each version holds, and which numbers its fields may be.
+#![tactic(auto)]
+
 ghost use Rattle.std.specs.Prelude.{◌≡◌};
 ghost use Rattle.preferences.specs.Values.{is_scancode_set, is_sampling_rate, is_resolution, is_lamps, is_repeat_byte};
 ghost use Rattle.preferences.specs.Record.{within_values};
 
 // The four fields of every record, in the order in which they are written. A field may be any number: only those within its values are accepted.
-#[derive(Drop)]
+#[derive(Clone, Copy)]
 pub struct Fields {
     pub set: u32,
     pub rate: u32,
@@ -13,7 +15,7 @@ pub struct Fields {
 }
 
 // A record of version 1, or of version 2, which has the repeat byte behind the four.
-#[derive(Drop)]
+#[derive(Clone, Copy)]
 pub enum Preferences {
     Version1(Fields),
     Version2(Fields, u32),

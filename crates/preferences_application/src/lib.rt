@@ -1,4 +1,6 @@
 // Preferences applied to the devices: each field in its turn, until a device refuses one.
+#![tactic(auto)]
+
 ghost use Rattle.std.specs.Prelude.{true, ◌≡◌, ◌<◌};
 ghost use Rattle.exchange.specs.Exchange.{play, played};
 ghost use Rattle.ps2_answers.specs.Refusals.{said_done};
@@ -20,7 +22,7 @@ use ps2_mouse::PS2Mouse;
 use ps2_ports::DevicePort;
 
 // What a field asks of a device.
-#[derive(Drop)]
+#[derive(Clone, Copy)]
 pub enum Setting {
     ScancodeSet(ScancodeSet),
     SamplingRate(MouseSampleRate),

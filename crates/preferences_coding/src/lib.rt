@@ -1,4 +1,6 @@
 // Preferences as bytes: version, field count, then the fields, each a number. A writer, and a reader for each version.
+#![tactic(auto)]
+
 ghost use Rattle.std.specs.Prelude.{◌≡◌, [], ◌∷◌, ◌++◌, ◌+◌, ◌≤◌, leb, length, drop};
 ghost use Rattle.exchange.specs.Answer.{number_answered};
 ghost use Rattle.number_coding.specs.Coding.{coding};
@@ -15,7 +17,7 @@ use preferences::{
 };
 
 // Why a reading refuses: a number is cut short, too large or not shortest; the version, the count or a checked field is outside its values; bytes follow the last field.
-#[derive(Drop)]
+#[derive(Clone, Copy)]
 pub enum ReadRefusal {
     Malformed,
     OutsideValues,
@@ -23,21 +25,21 @@ pub enum ReadRefusal {
 }
 
 // What the version 1 reader gives: the four fields that every record has.
-#[derive(Drop)]
+#[derive(Clone, Copy)]
 pub enum FieldsRead {
     Fields(Fields),
     Refused(ReadRefusal),
 }
 
 // What the version 2 reader gives: the record, which says its version.
-#[derive(Drop)]
+#[derive(Clone, Copy)]
 pub enum PreferencesRead {
     Preferences(Preferences),
     Refused(ReadRefusal),
 }
 
 // How a writing ends: done, or with the refusal that document 02 numbers 28 or 23.
-#[derive(Drop)]
+#[derive(Clone, Copy)]
 pub enum WriteAnswer {
     Done,
     OutsideValues,
@@ -45,28 +47,28 @@ pub enum WriteAnswer {
 }
 
 // An answer, with how many bytes of the output are written.
-#[derive(Drop)]
+#[derive(Clone, Copy)]
 pub struct PreferencesWritten {
     pub answer: WriteAnswer,
     pub written: usize,
 }
 
 // A number that was read, and accepted by its question, with the place behind it.
-#[derive(Drop)]
+#[derive(Clone, Copy)]
 enum Taken {
     Number(u32, usize),
     Refused(ReadRefusal),
 }
 
 // The version of a record, with the place behind its count.
-#[derive(Drop)]
+#[derive(Clone, Copy)]
 enum Head {
     Version(u32, usize),
     Refused(ReadRefusal),
 }
 
 // The four fields that every record has, with the place behind them.
-#[derive(Drop)]
+#[derive(Clone, Copy)]
 enum Four {
     Fields(Fields, usize),
     Refused(ReadRefusal),

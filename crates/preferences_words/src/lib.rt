@@ -1,4 +1,6 @@
 // A club's preferences as six numbers: written into an output as bytes, read from bytes by either reader, and applied to the devices.
+#![tactic(auto)]
+
 ghost use Rattle.std.specs.Prelude.{◌≡◌};
 ghost use Rattle.preferences_coding.specs.Reading.{read1, read2, refusal_number};
 ghost use Rattle.exchange.specs.Answer.{refuses};
@@ -22,7 +24,7 @@ use preferences_coding::{
 
 // A record of version 1 or 2: its fields in their order. Version 1 has no repeat byte: it is not looked at, and 0 where it is given back.
 #[repr(C)]
-#[derive(Drop)]
+#[derive(Clone, Copy)]
 pub struct PreferencesWords {
     pub version: u32,
     pub set: u32,
@@ -34,7 +36,7 @@ pub struct PreferencesWords {
 
 // What a reading answers: the refusal, 0 where there is none; and the record read, all 0 where it is refused.
 #[repr(C)]
-#[derive(Drop)]
+#[derive(Clone, Copy)]
 pub struct PreferencesReadWords {
     pub refusal: u32,
     pub preferences: PreferencesWords,
@@ -42,14 +44,14 @@ pub struct PreferencesReadWords {
 
 // What a writing answers: the refusal, 0 where there is none; and how many bytes of the output are written.
 #[repr(C)]
-#[derive(Drop)]
+#[derive(Clone, Copy)]
 pub struct PreferencesWrittenWords {
     pub refusal: u32,
     pub written: usize,
 }
 
 // The record that six numbers stand for, if any.
-#[derive(Drop)]
+#[derive(Clone, Copy)]
 enum FoundPreferences {
     Preferences(Preferences),
     Nothing,

@@ -1,4 +1,6 @@
 // What the operations on the ports answer: refusals with document 01's numbers, and answers with their counts.
+#![tactic(auto)]
+
 ghost use Rattle.std.specs.Prelude.{◌≡◌};
 ghost use Rattle.exchange.specs.Exchange.{number as port_number};
 ghost use Rattle.exchange.specs.Answer.{lack_number};
@@ -7,21 +9,21 @@ ghost use Rattle.ps2_answers.specs.Refusals.{port_of, lack_of, number_of, refusa
 use ps2_layouts::{ControllerConfigurationByte, ControllerToHostStatus};
 
 // The controller's ports as they are read: data from 60, the status from 64.
-#[derive(Drop)]
+#[derive(Clone, Copy)]
 pub enum ReadPort {
     Data,
     Status,
 }
 
 // What a call lacked: a script byte for its next read, which was to be of this port, or two free log bytes for its next write.
-#[derive(Drop)]
+#[derive(Clone, Copy)]
 pub enum Lack {
     Script(ReadPort),
     Log,
 }
 
 // Why the controller or a device did not do what was asked, or was not asked. Documents 01 and 02 number each.
-#[derive(Drop)]
+#[derive(Clone, Copy)]
 pub enum Failure {
     AlreadyInitialized,
     InputBufferFull,
@@ -43,7 +45,7 @@ pub enum Failure {
 }
 
 // Why a call ended without what it is for: it lacked a byte or room, or it failed.
-#[derive(Drop)]
+#[derive(Clone, Copy)]
 pub enum Refusal {
     Lacking(Lack),
     Failed(Failure),
@@ -113,68 +115,68 @@ impl Refusal {
 }
 
 // The answer of an operation that gives nothing but its success.
-#[derive(Drop)]
+#[derive(Clone, Copy)]
 pub enum Completion {
     Done,
     Refused(Refusal),
 }
 
 // The answers of the reads: what was read, or why nothing was.
-#[derive(Drop)]
+#[derive(Clone, Copy)]
 pub enum ByteAnswer {
     Byte(u8),
     Refused(Refusal),
 }
 
-#[derive(Drop)]
+#[derive(Clone, Copy)]
 pub enum StatusAnswer {
     Status(ControllerToHostStatus),
     Refused(Refusal),
 }
 
-#[derive(Drop)]
+#[derive(Clone, Copy)]
 pub enum ConfigAnswer {
     Config(ControllerConfigurationByte),
     Refused(Refusal),
 }
 
 // Whether a device has a byte to read.
-#[derive(Drop)]
+#[derive(Clone, Copy)]
 pub enum FullAnswer {
     Full(bool),
     Refused(Refusal),
 }
 
 // An answer with its counts: `used` script bytes, `pairs` written to the log.
-#[derive(Drop)]
+#[derive(Clone, Copy)]
 pub struct Completed {
     pub answer: Completion,
     pub used: usize,
     pub pairs: usize,
 }
 
-#[derive(Drop)]
+#[derive(Clone, Copy)]
 pub struct ByteRead {
     pub answer: ByteAnswer,
     pub used: usize,
     pub pairs: usize,
 }
 
-#[derive(Drop)]
+#[derive(Clone, Copy)]
 pub struct StatusRead {
     pub answer: StatusAnswer,
     pub used: usize,
     pub pairs: usize,
 }
 
-#[derive(Drop)]
+#[derive(Clone, Copy)]
 pub struct ConfigRead {
     pub answer: ConfigAnswer,
     pub used: usize,
     pub pairs: usize,
 }
 
-#[derive(Drop)]
+#[derive(Clone, Copy)]
 pub struct FullRead {
     pub answer: FullAnswer,
     pub used: usize,

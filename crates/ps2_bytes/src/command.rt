@@ -3,7 +3,7 @@ ghost use Rattle.std.specs.Prelude.{◌≡◌};
 ghost use Rattle.ps2_bytes.specs.Commands.{controller_byte, keyboard_byte, mouse_byte};
 
 // Commands to the controller itself, written to port 64. "Output" is what a device sends to the host, "input" what it gets.
-#[derive(Drop)]
+#[derive(Clone, Copy)]
 pub enum HostToControllerCommand {
     // Returns the configuration byte.
     ReadFromInternalRAMByte0,
@@ -46,7 +46,7 @@ impl HostToControllerCommand {
 }
 
 // Commands to the keyboard, written to port 60.
-#[derive(Drop)]
+#[derive(Clone, Copy)]
 pub enum HostToKeyboardCommand {
     // Takes an `LEDState`.
     SetLEDStatus,
@@ -80,7 +80,7 @@ impl HostToKeyboardCommand {
 }
 
 // Commands to the mouse, written to port 60 after the controller command D4.
-#[derive(Drop)]
+#[derive(Clone, Copy)]
 pub enum HostToMouseCommand {
     // The Rust has this one byte for scaling 1 or 2; the wiki's E6 is 1:1.
     SetScaling,

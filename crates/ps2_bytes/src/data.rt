@@ -10,7 +10,7 @@ ghost use Rattle.ps2_bytes.specs.Data.{
 };
 
 // Data of the keyboard command `ScancodeSet`, and what the keyboard answers to `Get`, untranslated.
-#[derive(Drop)]
+#[derive(Clone, Copy)]
 pub enum ScancodeSet {
     Get,
     Set1,
@@ -19,7 +19,7 @@ pub enum ScancodeSet {
 }
 
 // A byte as a scancode set.
-#[derive(Drop)]
+#[derive(Clone, Copy)]
 pub enum ScancodeSetByte {
     Listed(ScancodeSet),
     Unlisted,
@@ -51,7 +51,7 @@ impl ScancodeSet {
 }
 
 // Packets a second, data of the mouse command `SampleRate`.
-#[derive(Drop)]
+#[derive(Clone, Copy)]
 pub enum MouseSampleRate {
     _10,
     _20,
@@ -63,7 +63,7 @@ pub enum MouseSampleRate {
 }
 
 // A byte as a sample rate.
-#[derive(Drop)]
+#[derive(Clone, Copy)]
 pub enum SampleRateByte {
     Listed(MouseSampleRate),
     Unlisted,
@@ -101,7 +101,7 @@ impl MouseSampleRate {
 }
 
 // Counts per millimetre, data of the mouse command `SetResolution`.
-#[derive(Drop)]
+#[derive(Clone, Copy)]
 pub enum MouseResolution {
     Count1PerMm,
     Count2PerMm,
@@ -110,7 +110,7 @@ pub enum MouseResolution {
 }
 
 // A byte as a resolution.
-#[derive(Drop)]
+#[derive(Clone, Copy)]
 pub enum ResolutionByte {
     Listed(MouseResolution),
     Unlisted,

@@ -3,7 +3,7 @@ ghost use Rattle.std.specs.Prelude.{◌≡◌};
 ghost use Rattle.ps2_bytes.specs.Responses.{port_test_read, response_read, mouse_id_byte, mouse_id_read};
 
 // What a port test found.
-#[derive(Drop)]
+#[derive(Clone, Copy)]
 pub enum PortTestResult {
     Passed,
     ClockLineStuckLow,
@@ -13,7 +13,7 @@ pub enum PortTestResult {
 }
 
 // A byte as a port test's answer.
-#[derive(Drop)]
+#[derive(Clone, Copy)]
 pub enum PortTestByte {
     Listed(PortTestResult),
     Unlisted,
@@ -35,7 +35,7 @@ impl PortTestResult {
 }
 
 // What a device answers to a command. Every other byte of a keyboard is a scancode; a mouse sends only AA, FC, FA, its identity and packets.
-#[derive(Drop)]
+#[derive(Clone, Copy)]
 pub enum DeviceToHostResponse {
     KeyDetectionErrorOrInternalBufferOverrun1,
     // Sent after a reset or at power up.
@@ -51,7 +51,7 @@ pub enum DeviceToHostResponse {
 }
 
 // A byte as a device's response.
-#[derive(Drop)]
+#[derive(Clone, Copy)]
 pub enum ResponseByte {
     Listed(DeviceToHostResponse),
     Unlisted,
@@ -80,7 +80,7 @@ impl DeviceToHostResponse {
 }
 
 // A mouse's identity, which says what its packets hold.
-#[derive(Drop)]
+#[derive(Clone, Copy)]
 pub enum MouseId {
     // No wheel.
     Zero,
@@ -91,7 +91,7 @@ pub enum MouseId {
 }
 
 // A byte as a mouse's identity.
-#[derive(Drop)]
+#[derive(Clone, Copy)]
 pub enum MouseIdByte {
     Listed(MouseId),
     Unlisted,
@@ -121,7 +121,7 @@ impl MouseId {
 }
 
 // What `keyboard_detect` recognises.
-#[derive(Drop)]
+#[derive(Clone, Copy)]
 pub enum KeyboardType {
     MF2Keyboard,
     MF2KeyboardWithPSControllerTranslator,

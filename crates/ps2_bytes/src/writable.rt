@@ -7,7 +7,7 @@ use crate::data::{MouseResolution, MouseSampleRate, ScancodeSet};
 use ps2_layouts::{ControllerConfigurationByte, LEDState};
 
 // Kinds of data that can be written to port 60.
-#[derive(Drop)]
+#[derive(Clone, Copy)]
 pub enum WritableData {
     Configuration(ControllerConfigurationByte),
     HostToDevice(HostToDevice),
@@ -25,7 +25,7 @@ impl WritableData {
 }
 
 // A byte for one of the devices.
-#[derive(Drop)]
+#[derive(Clone, Copy)]
 pub enum HostToDevice {
     Keyboard(HostToKeyboardCommandOrData),
     Mouse(HostToMouseCommandOrData),
@@ -43,7 +43,7 @@ impl HostToDevice {
 }
 
 // A byte for the keyboard.
-#[derive(Drop)]
+#[derive(Clone, Copy)]
 pub enum HostToKeyboardCommandOrData {
     KeyboardCommand(HostToKeyboardCommand),
     LEDState(LEDState),
@@ -66,7 +66,7 @@ impl HostToKeyboardCommandOrData {
 }
 
 // A byte for the mouse.
-#[derive(Drop)]
+#[derive(Clone, Copy)]
 pub enum HostToMouseCommandOrData {
     MouseCommand(HostToMouseCommand),
     SampleRate(MouseSampleRate),

@@ -1,4 +1,6 @@
 // The command rule: a byte is sent to a device up to four times, until its response settles the matter. And what a reset waits for.
+#![tactic(auto)]
+
 ghost use Rattle.std.specs.Prelude.{◌≡◌, ◌+◌, ◌≤◌, length, set};
 ghost use Rattle.exchange.specs.Exchange.{told_end, yields, Reads};
 ghost use Rattle.exchange.specs.Answer.{and_then, renumbered};
@@ -29,13 +31,13 @@ const SELF_TEST_PASSED: u8 = 0xAA;
 const ACKNOWLEDGE: u8 = 0xFA;
 
 // What one attempt comes to: it settles the command, or another is to be made.
-#[derive(Drop)]
+#[derive(Clone, Copy)]
 pub enum Attempt {
     Settled(Completion),
     Again,
 }
 
-#[derive(Drop)]
+#[derive(Clone, Copy)]
 pub struct Attempted {
     pub attempt: Attempt,
     pub used: usize,
@@ -44,7 +46,7 @@ pub struct Attempted {
 }
 
 // What a command comes to, with the bytes that its whole run threw away.
-#[derive(Drop)]
+#[derive(Clone, Copy)]
 pub struct Commanded {
     pub answer: Completion,
     pub used: usize,

@@ -1,4 +1,6 @@
 // Detection of the keyboard's type.
+#![tactic(auto)]
+
 ghost use Rattle.std.specs.Prelude.{◌≡◌};
 ghost use Rattle.exchange.specs.Exchange.{play, played, yields, Reads};
 ghost use Rattle.exchange.specs.Answer.{Answer};
@@ -20,13 +22,13 @@ const ANCIENT: u8 = 0x00;
 const MF2: u8 = 0xAB;
 
 // The answer of a detection.
-#[derive(Drop)]
+#[derive(Clone, Copy)]
 pub enum TypeAnswer {
     Recognised(KeyboardType),
     Refused(Refusal),
 }
 
-#[derive(Drop)]
+#[derive(Clone, Copy)]
 pub struct Detected {
     pub answer: TypeAnswer,
     pub used: usize,
@@ -34,7 +36,7 @@ pub struct Detected {
 }
 
 // A byte as the second of a keyboard's identity, after AB.
-#[derive(Drop)]
+#[derive(Clone, Copy)]
 pub enum SecondByte {
     Listed(KeyboardType),
     Unlisted,

@@ -1,4 +1,6 @@
 // Initialisation of the controller, and the devices that it found.
+#![tactic(auto)]
+
 ghost use Rattle.std.specs.Prelude.{◌≡◌};
 ghost use Rattle.exchange.specs.Exchange.{play, played, bind};
 ghost use Rattle.exchange.specs.Left.{record_after};
@@ -19,7 +21,7 @@ use ps2_setup::{
 };
 
 // What is known of the controller: whether it was initialised, and which devices passed their reset then.
-#[derive(Drop)]
+#[derive(Clone, Copy)]
 pub struct PS2Controller {
     pub initialized: bool,
     pub keyboard_attached: bool,
@@ -27,21 +29,21 @@ pub struct PS2Controller {
 }
 
 // The keyboard, where one is attached.
-#[derive(Drop)]
+#[derive(Clone, Copy)]
 pub enum KeyboardRef {
     Attached,
     NotAttached,
 }
 
 // The mouse, where one is attached.
-#[derive(Drop)]
+#[derive(Clone, Copy)]
 pub enum MouseRef {
     Attached(PS2Mouse),
     NotAttached,
 }
 
 // The answer of `init`, with the controller's record as it is left.
-#[derive(Drop)]
+#[derive(Clone, Copy)]
 pub struct Initialized {
     pub answer: Completion,
     pub controller: PS2Controller,
@@ -50,13 +52,13 @@ pub struct Initialized {
 }
 
 // The answer of the steps of `init`.
-#[derive(Drop)]
+#[derive(Clone, Copy)]
 enum SetUpAnswer {
     Ready(PS2Controller),
     Refused(Refusal),
 }
 
-#[derive(Drop)]
+#[derive(Clone, Copy)]
 struct SetUp {
     answer: SetUpAnswer,
     used: usize,

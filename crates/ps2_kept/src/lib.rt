@@ -1,4 +1,6 @@
 // The bytes that receiving throws away: the earliest of them are kept, and the others counted.
+#![tactic(auto)]
+
 ghost use Rattle.std.specs.Prelude.{◌≡◌};
 ghost use Rattle.ps2_kept.specs.Kept.{nothing_kept, kept_at_refusal};
 ghost use Rattle.ps2_kept.specs.Added.{added};
@@ -12,7 +14,7 @@ pub const KEPT_LIMIT: usize = 16;
 const OTHERS_LIMIT: u32 = 4294967295;
 
 // Bytes that were thrown away: the earliest, in order, in the first `count` places, and how many others there were.
-#[derive(Drop)]
+#[derive(Clone, Copy)]
 pub struct KeptBytes {
     pub bytes: [u8; KEPT_LIMIT],
     pub count: u8,

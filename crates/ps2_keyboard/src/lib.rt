@@ -1,4 +1,6 @@
 // The keyboard: its commands, its reset, its lamps and its scancode set.
+#![tactic(auto)]
+
 ghost use Rattle.std.specs.Prelude.{◌≡◌};
 ghost use Rattle.exchange.specs.Exchange.{play, played, Reads};
 ghost use Rattle.ps2_answers.specs.Refusals.{said_done};
@@ -30,13 +32,13 @@ use ps2_ports::{DevicePort, read_data, status_register};
 const RESET_READS: u32 = 262140;
 
 // The answer to a question for the scancode set.
-#[derive(Drop)]
+#[derive(Clone, Copy)]
 pub enum SetAnswer {
     Set(ScancodeSet),
     Refused(Refusal),
 }
 
-#[derive(Drop)]
+#[derive(Clone, Copy)]
 pub struct SetRead {
     pub answer: SetAnswer,
     pub used: usize,

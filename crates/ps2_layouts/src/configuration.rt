@@ -24,7 +24,7 @@ const PORT1_SCANCODE_TRANSLATION_ENABLED: u8 = 6;
 const MUST_BE_ZERO: u8 = 7;
 
 // Features of the controller that are on or off. A setter gives the byte with one bit changed and the others kept.
-#[derive(Drop)]
+#[derive(Clone, Copy)]
 pub struct ControllerConfigurationByte {
     bits: u8,
 }

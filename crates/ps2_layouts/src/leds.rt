@@ -14,7 +14,7 @@ const NUMBER_LOCK: u8 = 1;
 const CAPS_LOCK: u8 = 2;
 
 // The keyboard's LEDs, data of `SetLEDStatus`.
-#[derive(Drop)]
+#[derive(Clone, Copy)]
 pub struct LEDState {
     bits: u8,
 }

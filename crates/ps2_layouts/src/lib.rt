@@ -1,4 +1,6 @@
 // The bytes whose bits mean something each: the status, the configuration, the keyboard's LEDs.
+#![tactic(auto)]
+
 ghost use Rattle.std.specs.Prelude.{◌≡◌, ◌<◌};
 ghost use Rattle.bits.specs.Bits.{put_bit};
 

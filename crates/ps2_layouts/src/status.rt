@@ -23,7 +23,7 @@ const TIMEOUT_ERROR: u8 = 6;
 const PARITY_ERROR: u8 = 7;
 
 // What the controller says of its buffers.
-#[derive(Drop)]
+#[derive(Clone, Copy)]
 pub struct ControllerToHostStatus {
     bits: u8,
 }

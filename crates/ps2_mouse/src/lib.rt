@@ -1,4 +1,6 @@
 // The mouse: its commands, its reset, its settings and the question for its identity.
+#![tactic(auto)]
+
 ghost use Rattle.std.specs.Prelude.{ℕ, List, ◌≡◌};
 ghost use Rattle.exchange.specs.Exchange.{Exchange, play, played, yields, Reads};
 ghost use Rattle.exchange.specs.Answer.{Answer, refuses, and_then, refusing_as};
@@ -31,19 +33,19 @@ use ps2_ports::{DevicePort, flush_output_buffer, read_data, status_register};
 const RESET_READS: u32 = 196605;
 
 // The mouse as its record says it is. A mouse's packets go by its identity.
-#[derive(Drop)]
+#[derive(Clone, Copy)]
 pub struct PS2Mouse {
     pub id: MouseId,
 }
 
 // What a mouse says that it is.
-#[derive(Drop)]
+#[derive(Clone, Copy)]
 pub enum IdAnswer {
     Id(MouseId),
     Refused(Refusal),
 }
 
-#[derive(Drop)]
+#[derive(Clone, Copy)]
 pub struct Identified {
     pub answer: IdAnswer,
     pub used: usize,
@@ -51,13 +53,13 @@ pub struct Identified {
 }
 
 // What one poll for an identity comes to: it settles the matter, or another is to be made.
-#[derive(Drop)]
+#[derive(Clone, Copy)]
 enum IdPoll {
     Settled(IdAnswer),
     Again,
 }
 
-#[derive(Drop)]
+#[derive(Clone, Copy)]
 struct IdPolled {
     pub poll: IdPoll,
     pub used: usize,

@@ -1,4 +1,6 @@
 // `set_mouse_id`: the sequence of sampling rates that asks a mouse to take on another identity.
+#![tactic(auto)]
+
 ghost use Rattle.std.specs.Prelude.{◌≡◌};
 ghost use Rattle.exchange.specs.Exchange.{bind, play, played};
 ghost use Rattle.exchange.specs.Answer.{gives, and_then};
@@ -14,13 +16,13 @@ use ps2_bytes::{MouseId, MouseSampleRate};
 use ps2_mouse::{IdAnswer, Identified, PS2Mouse};
 
 // What a mouse answered that was asked for its identity after some rates, or why a rate was not set.
-#[derive(Drop)]
+#[derive(Clone, Copy)]
 enum AskedAnswer {
     Answered(IdAnswer),
     Refused(Refusal),
 }
 
-#[derive(Drop)]
+#[derive(Clone, Copy)]
 struct Asked {
     pub answer: AskedAnswer,
     pub used: usize,
@@ -28,7 +30,7 @@ struct Asked {
 }
 
 // An answer, with the mouse's record as it is left.
-#[derive(Drop)]
+#[derive(Clone, Copy)]
 pub struct MouseLeft {
     pub answer: Completion,
     pub mouse: PS2Mouse,

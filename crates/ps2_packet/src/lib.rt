@@ -1,4 +1,6 @@
 // Mouse packets: three bytes at identity 0, four at identities 3 and 4.
+#![tactic(auto)]
+
 ghost use Rattle.std.specs.Prelude.{◌≡◌, pos};
 ghost use Rattle.bits.specs.Bits.{bit, weigh};
 ghost use Rattle.ps2_packet.specs.Signed.{twos_complement, less_if};
@@ -53,7 +55,7 @@ const BUTTON_4: u8 = 4;
 const BUTTON_5: u8 = 5;
 
 // What every packet starts with.
-#[derive(Drop)]
+#[derive(Clone, Copy)]
 pub struct MousePacketGeneric {
     byte1: u8,
     byte2: u8,
@@ -155,7 +157,7 @@ fn signed_byte(byte: u8) -> i8
 }
 
 // The packet of a mouse with a wheel.
-#[derive(Drop)]
+#[derive(Clone, Copy)]
 pub struct MousePacket3 {
     generic_part: MousePacketGeneric,
     byte4: u8,
@@ -183,7 +185,7 @@ impl MousePacket3 {
 }
 
 // The packet of a mouse with a wheel and buttons 4 and 5.
-#[derive(Drop)]
+#[derive(Clone, Copy)]
 pub struct MousePacket4 {
     generic_part: MousePacketGeneric,
     byte4: u8,
@@ -235,7 +237,7 @@ impl MousePacket4 {
 }
 
 // A packet of any kind. What a kind lacks has a standard value: a wheel at rest, a button not pressed.
-#[derive(Drop)]
+#[derive(Clone, Copy)]
 pub enum MousePacket {
     Zero(MousePacketGeneric),
     Three(MousePacket3),
@@ -332,7 +334,7 @@ impl MousePacket {
 }
 
 // A packet whose wheel is signed at identity 4 too, as the OSDev wiki has it. All else is the packet's own; `packet.scroll_movement()` is the Rust's wheel.
-#[derive(Drop)]
+#[derive(Clone, Copy)]
 pub struct SignedPacket {
     pub packet: MousePacket,
 }

@@ -1,4 +1,6 @@
 // The reading of a mouse's packets.
+#![tactic(auto)]
+
 ghost use Rattle.std.specs.Prelude.{◌≡◌};
 ghost use Rattle.exchange.specs.Exchange.{done, Reads};
 ghost use Rattle.exchange.specs.Answer.{gives};
@@ -10,7 +12,7 @@ use ps2_packet::{MousePacket, MousePacket3, MousePacket4, MousePacketGeneric, Si
 use ps2_ports::read_data;
 
 // The bytes that every packet starts with.
-#[derive(Drop)]
+#[derive(Clone, Copy)]
 struct FirstBytes {
     byte1: u8,
     byte2: u8,
@@ -18,19 +20,19 @@ struct FirstBytes {
 }
 
 // The identities whose packets have a fourth byte.
-#[derive(Drop)]
+#[derive(Clone, Copy)]
 enum FourByteId {
     Three,
     Four,
 }
 
-#[derive(Drop)]
+#[derive(Clone, Copy)]
 enum BytesAnswer {
     Bytes(FirstBytes),
     Refused(Refusal),
 }
 
-#[derive(Drop)]
+#[derive(Clone, Copy)]
 struct BytesRead {
     pub answer: BytesAnswer,
     pub used: usize,
@@ -38,13 +40,13 @@ struct BytesRead {
 }
 
 // A packet of the mouse.
-#[derive(Drop)]
+#[derive(Clone, Copy)]
 pub enum PacketAnswer {
     Packet(MousePacket),
     Refused(Refusal),
 }
 
-#[derive(Drop)]
+#[derive(Clone, Copy)]
 pub struct PacketRead {
     pub answer: PacketAnswer,
     pub used: usize,
@@ -52,13 +54,13 @@ pub struct PacketRead {
 }
 
 // A packet of the mouse whose wheel is signed.
-#[derive(Drop)]
+#[derive(Clone, Copy)]
 pub enum SignedAnswer {
     Packet(SignedPacket),
     Refused(Refusal),
 }
 
-#[derive(Drop)]
+#[derive(Clone, Copy)]
 pub struct SignedRead {
     pub answer: SignedAnswer,
     pub used: usize,

@@ -1,4 +1,6 @@
 // Sending to and receiving from a device by polling, and the controller's tests.
+#![tactic(auto)]
+
 ghost use Rattle.std.specs.Prelude.{◌≡◌};
 ghost use Rattle.exchange.specs.Exchange.{play, played, Reads};
 ghost use Rattle.exchange.specs.Answer.{gives, refuses, and_then};
@@ -31,14 +33,14 @@ const PORT_TEST_PASSED: u8 = 0x00;
 const CONTROLLER_TEST_PASSED: u8 = 0x55;
 
 // What one poll brought.
-#[derive(Drop)]
+#[derive(Clone, Copy)]
 pub enum Polled {
     Data(u8),
     Nothing,
     Refused(Refusal),
 }
 
-#[derive(Drop)]
+#[derive(Clone, Copy)]
 pub struct Poll {
     pub answer: Polled,
     pub used: usize,
@@ -46,21 +48,21 @@ pub struct Poll {
 }
 
 // How a byte is waited for: by polls, or by data reads that do not ask the status.
-#[derive(Drop)]
+#[derive(Clone, Copy)]
 pub enum Waiting {
     Polls,
     DataReads,
 }
 
 // What a device answered.
-#[derive(Drop)]
+#[derive(Clone, Copy)]
 pub enum ResponseAnswer {
     Response(DeviceToHostResponse),
     Refused(Refusal),
 }
 
 // The response, with the bytes that were thrown away before it.
-#[derive(Drop)]
+#[derive(Clone, Copy)]
 pub struct Received {
     pub answer: ResponseAnswer,
     pub used: usize,

@@ -1,4 +1,6 @@
 // One read and one write of the controller's ports, its registers and its configuration.
+#![tactic(auto)]
+
 ghost use Rattle.std.specs.Prelude.{◌≡◌};
 ghost use Rattle.exchange.specs.Exchange.{Port, number, play, played, Reads, Writes};
 ghost use Rattle.ps2_ports.specs.Ports.{read_port, read_data, read_status, flush_output_buffer, write_port, write_command, write_data, read_config, write_config};
@@ -19,7 +21,7 @@ pub const PS2_DATA_PORT: u8 = 0x60;
 pub const PS2_COMMAND_AND_STATUS_PORT: u8 = 0x64;
 
 // The ports of the two devices.
-#[derive(Drop)]
+#[derive(Clone, Copy)]
 pub enum DevicePort {
     Port1,
     Port2,

@@ -1,4 +1,6 @@
 // Recorded mouse bytes, brought back into step: packets are written as bytes, and the positions of the bytes between them are listed.
+#![tactic(auto)]
+
 ghost use Rattle.std.specs.Prelude.{◌≡◌, ◌+◌, ◌%◌, ◌≤◌, ◌<◌, length, get_or};
 ghost use Rattle.std.proofs.lemmas.List.Edits.{sets};
 ghost use Rattle.ps2_packet.specs.Packet.{packet_length};
@@ -14,14 +16,14 @@ use ps2_packet::packet_length;
 const ALWAYS_ONE: u8 = 3;
 
 // How a pass ended: at the recording's end or before a tail too short for a packet, or before a packet or a byte to drop that found no room.
-#[derive(Drop)]
+#[derive(Clone, Copy)]
 pub enum SalvageAnswer {
     Done,
     NoRoom,
 }
 
 // What a pass gives back: its answer, how many bytes of the recording it used, and how much it wrote to each output.
-#[derive(Drop)]
+#[derive(Clone, Copy)]
 pub struct Salvaged {
     pub answer: SalvageAnswer,
     pub used: usize,

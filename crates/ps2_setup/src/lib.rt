@@ -1,4 +1,6 @@
 // The steps of initialisation that concern the controller alone: both ports disabled, the tests, the ports enabled again.
+#![tactic(auto)]
+
 ghost use Rattle.std.specs.Prelude.{◌≡◌};
 ghost use Rattle.exchange.specs.Exchange.{play, played, yields, told_end, done, bind, Writes};
 ghost use Rattle.exchange.specs.Answer.{and_then};
@@ -19,26 +21,26 @@ use ps2_polling::{test, test_port1, test_port2};
 use ps2_ports::{DevicePort, flush_output_buffer, read_config, write_command, write_config};
 
 // The answer of a step whose failure is forgiven: whether it worked. Nothing forgives a lack.
-#[derive(Drop)]
+#[derive(Clone, Copy)]
 pub enum Trial {
     Worked(bool),
     Lacked(Lack),
 }
 
-#[derive(Drop)]
+#[derive(Clone, Copy)]
 pub struct WorkingPorts {
     pub port_1_works: bool,
     pub port_2_works: bool,
 }
 
 // The answer of the port tests.
-#[derive(Drop)]
+#[derive(Clone, Copy)]
 pub enum PortsAnswer {
     Working(WorkingPorts),
     Refused(Refusal),
 }
 
-#[derive(Drop)]
+#[derive(Clone, Copy)]
 pub struct PortsTested {
     pub answer: PortsAnswer,
     pub used: usize,

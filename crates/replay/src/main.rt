@@ -1,4 +1,6 @@
 // Replays calls on the ports: reads packed calls from standard input and writes a packed answer to each. tests/traces/README.md tells the format.
+#![tactic(auto)]
+
 mod calls;
 mod keeping;
 

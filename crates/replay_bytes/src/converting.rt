@@ -1,6 +1,5 @@
 // The conversion of set 2, by numbers.
-use libc::STDOUT_FILENO;
-use packed_calls::{Instruction, Outcome, ending, pack, within};
+use packed_calls::{Instruction, Outcome, STDOUT_FILENO, ending, pack, within};
 use scancode_set2::{Conversion, convert};
 
 // The operation.

@@ -1,4 +1,6 @@
 // Replays calls on lent bytes, without ports: reads packed calls from standard input and writes packed answers. tests/traces/README.md tells the format.
+#![tactic(auto)]
+
 mod coding_preferences;
 mod converting;
 mod salvaging;

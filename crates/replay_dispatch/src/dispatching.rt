@@ -10,14 +10,14 @@ use ps2_mouse::PS2Mouse;
 use ps2_packet_reading::{SignedAnswer, SignedRead};
 
 // Where in the script the second side's and the mouse's begin.
-#[derive(Drop)]
+#[derive(Clone, Copy)]
 pub struct Parts {
     second: usize,
     third: usize,
 }
 
 // What a turn leaves: the dispatcher, where its scripts begin, whether the instruction's next turn is to be made, and what is answered.
-#[derive(Drop)]
+#[derive(Clone, Copy)]
 pub struct Turn {
     state: Dispatcher,
     parts: Parts,

@@ -1,4 +1,6 @@
 // Replays a dispatcher's steps and takings. Reads packed calls from standard input and writes packed answers. tests/traces/README.md tells the format.
+#![tactic(auto)]
+
 mod dispatching;
 mod packets;
 mod records;
@@ -12,7 +14,7 @@ use packed_calls::{
 const SCRIPT_SPACE: usize = 1200000;
 
 // A run so far: the instruction that was made last and what its turn left, how much of the script counts, and the log's room.
-#[derive(Drop)]
+#[derive(Clone, Copy)]
 struct Run {
     instruction: Instruction,
     turn: Turn,

@@ -1,4 +1,6 @@
 // Replays what is on keys: runs of handler calls and takings on one record, keyboard initialisation, and characters. Reads packed calls from standard input and writes packed answers. tests/traces/README.md tells the format.
+#![tactic(auto)]
+
 mod runs;
 
 use packed_calls::{
@@ -10,7 +12,7 @@ use runs::{Turn, at_first, run_turn};
 const SCRIPT_SPACE: usize = 1200000;
 
 // A run so far: the instruction that was made last and what its turn left, how much of the script counts, and the log's room.
-#[derive(Drop)]
+#[derive(Clone, Copy)]
 struct Run {
     instruction: Instruction,
     turn: Turn,

@@ -18,7 +18,7 @@ const ENDED: usize = usize::MAX;
 const SHARED: usize = usize::MAX;
 
 // Where a run reads: the next byte of each side's script. The second side's begins where the first side's ends, at `split`; where the sides share one, that is the first side's.
-#[derive(Drop)]
+#[derive(Clone, Copy)]
 pub struct Reading {
     first: usize,
     second: usize,
@@ -26,7 +26,7 @@ pub struct Reading {
 }
 
 // What a turn of a run leaves: the record, where the run reads, whether the instruction's next turn is to be made, and what is answered.
-#[derive(Drop)]
+#[derive(Clone, Copy)]
 pub struct Turn {
     pub handler: KeyboardHandler,
     pub at: Reading,

@@ -1,4 +1,6 @@
 // Replays preferences applied to the devices: reads packed calls from standard input and writes a packed answer to each. tests/traces/README.md tells the format.
+#![tactic(auto)]
+
 mod applying;
 
 use applying::{APPLYING, answer_applying};

@@ -1,4 +1,6 @@
 // Replays sessions that are added to a report: reads packed calls from standard input and writes packed answers. tests/traces/README.md tells the format.
+#![tactic(auto)]
+
 ghost use Rattle.std.specs.Prelude.{◌≤◌, ◌+◌, length};
 
 mod long;
@@ -38,7 +40,7 @@ const WIDEN: u8 = 66;
 const INPUT_SPACE: usize = 1200000;
 
 // The report of each width.
-#[derive(Drop)]
+#[derive(Clone, Copy)]
 struct Reports {
     narrow: Report,
     long: LongReport,

@@ -1,4 +1,6 @@
 // Reports over sessions: presses for each key, packets, sums of x and y, and the mean movement.
+#![tactic(auto)]
+
 ghost use Rattle.std.specs.Prelude.{◌≡◌, ◌&&◌, true, ◌<◌, ◌+◌, leb, ltb, ◌+ℤ◌, get_or};
 ghost use Rattle.std.specs.Int.Signed.{mag};
 ghost use Rattle.report_totals.specs.Keys.{for_each_key};
@@ -12,7 +14,7 @@ use ps2_bytes::MouseId;
 use report_totals::{Totals, tally};
 
 // Whether a session was added: it was, or a count or a sum would be outside its range.
-#[derive(Drop)]
+#[derive(Clone, Copy)]
 pub enum ReportAnswer {
     Done,
     OutOfRange,
@@ -31,7 +33,7 @@ impl ReportAnswer {
 }
 
 // What a report's numbers may be: counts up to one number, sums from one to another.
-#[derive(Drop)]
+#[derive(Clone, Copy)]
 pub struct Limits {
     pub count: u64,
     pub low: i64,
@@ -39,7 +41,7 @@ pub struct Limits {
 }
 
 // Totals after others were added to them, or as they were.
-#[derive(Drop)]
+#[derive(Clone, Copy)]
 pub struct Settled {
     pub answer: ReportAnswer,
     pub totals: Totals,
@@ -48,19 +50,19 @@ pub struct Settled {
 // ---- totals within limits
 
 // Counts that were added, if none is above its limit.
-#[derive(Drop)]
+#[derive(Clone, Copy)]
 struct Counts {
     fit: bool,
     counts: [u64; 94],
 }
 
-#[derive(Drop)]
+#[derive(Clone, Copy)]
 enum Count {
     Within(u64),
     Outside,
 }
 
-#[derive(Drop)]
+#[derive(Clone, Copy)]
 enum Sum {
     Within(i64),
     Outside,
@@ -203,14 +205,14 @@ pub fn settle(limits: Limits, old: Totals, more: Totals) -> Settled
 // ---- the mean
 
 // A whole quotient, rounded down, and the remainder, which is below the packet count.
-#[derive(Drop)]
+#[derive(Clone, Copy)]
 pub struct WholeMean {
     pub quotient: i64,
     pub remainder: u64,
 }
 
 // A mean, where there are packets.
-#[derive(Drop)]
+#[derive(Clone, Copy)]
 pub enum Mean {
     Of(WholeMean),
     Absent,
@@ -252,7 +254,7 @@ pub fn mean_of(sum: i64, packets: u64) -> Mean
 
 // Presses for each key, packets, and sums of x and y.
 #[repr(C)]
-#[derive(Drop)]
+#[derive(Clone, Copy)]
 pub struct Report {
     pub presses: [u32; 94],
     pub packets: u32,
@@ -261,7 +263,7 @@ pub struct Report {
 }
 
 // A report after a session, or as it was.
-#[derive(Drop)]
+#[derive(Clone, Copy)]
 pub struct Added {
     pub answer: ReportAnswer,
     pub report: Report,

@@ -1,4 +1,6 @@
 // A session added to a fresh report, by plain numbers, for a program in Rust to link: `beside/bench` measures it.
+#![tactic(auto)]
+
 ghost use Rattle.std.specs.Prelude.{◌≡◌};
 ghost use Rattle.ps2_bytes.specs.Responses.{mouse_id_read};
 ghost use Rattle.report_calls.specs.Numbers.{called};
@@ -8,7 +10,7 @@ use report::{Report, ReportAnswer};
 
 // What the session came to.
 #[repr(C)]
-#[derive(Drop)]
+#[derive(Clone, Copy)]
 pub struct SessionNumbers {
     pub number: u32,
     pub packets: u32,

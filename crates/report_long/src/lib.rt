@@ -1,4 +1,6 @@
 // Reports over long seasons: the same numbers as a report's, in 64 bits and with wider limits.
+#![tactic(auto)]
+
 ghost use Rattle.std.specs.Prelude.{◌≡◌};
 ghost use Rattle.report_totals.specs.Totals.{no_totals};
 ghost use Rattle.report.specs.Adding.{added};
@@ -11,13 +13,13 @@ use report_totals::{Totals, tally};
 
 // Presses for each key, packets, and sums of x and y.
 #[repr(C)]
-#[derive(Drop)]
+#[derive(Clone, Copy)]
 pub struct LongReport {
     pub totals: Totals,
 }
 
 // A report after a session, or as it was.
-#[derive(Drop)]
+#[derive(Clone, Copy)]
 pub struct LongAdded {
     pub answer: ReportAnswer,
     pub report: LongReport,

@@ -1,4 +1,6 @@
 // What a session brings to a report: presses for each key, packets, and sums of x and y, in numbers wide enough for any report.
+#![tactic(auto)]
+
 ghost use Rattle.std.specs.Prelude.{◌≡◌, ◌<◌, ◌≤◌, ◌+◌, ◌+ℤ◌, length, get_or};
 ghost use Rattle.std.specs.Int.Signed.{mag};
 ghost use Rattle.ps2_packet.specs.Packet.{generic};
@@ -19,7 +21,7 @@ const TALLY_BYTES: usize = 18014398509481984;
 
 // Presses by keycode, packets, and sums of x and y.
 #[repr(C)]
-#[derive(Drop)]
+#[derive(Clone, Copy)]
 pub struct Totals {
     pub presses: [u64; 94],
     pub packets: u64,
@@ -28,14 +30,14 @@ pub struct Totals {
 }
 
 // A session's totals. Where its mouse bytes are too many to be summed there are none: more packets than a report can count.
-#[derive(Drop)]
+#[derive(Clone, Copy)]
 pub struct Tallied {
     pub too_long: bool,
     pub totals: Totals,
 }
 
 // What the mouse bytes come to.
-#[derive(Drop)]
+#[derive(Clone, Copy)]
 struct Moved {
     packets: u64,
     x: i64,

@@ -1,4 +1,6 @@
 // Reports as a program in another language calls them: numbers in, answers as numbers, and a report as its numbers.
+#![tactic(auto)]
+
 ghost use Rattle.std.specs.Prelude.{◌≡◌};
 ghost use Rattle.argument_words.specs.Arguments.{identity_at};
 ghost use Rattle.report_totals.specs.Totals.{no_totals};
@@ -13,14 +15,14 @@ use report_long::LongReport;
 
 // What adding a session answers: the refusal's number, 0 where there is none; and the report after it.
 #[repr(C)]
-#[derive(Drop)]
+#[derive(Clone, Copy)]
 pub struct ReportAddedWords {
     pub refusal: u32,
     pub report: Report,
 }
 
 #[repr(C)]
-#[derive(Drop)]
+#[derive(Clone, Copy)]
 pub struct LongAddedWords {
     pub refusal: u32,
     pub report: LongReport,
@@ -28,7 +30,7 @@ pub struct LongAddedWords {
 
 // A mean, where one is present (1) and not absent (0): a whole quotient and the remainder.
 #[repr(C)]
-#[derive(Drop)]
+#[derive(Clone, Copy)]
 pub struct MeanWords {
     pub present: u32,
     pub quotient: i64,

@@ -1,4 +1,6 @@
 // A pass over a recording by plain numbers, for a program in Rust to link: `beside/bench` measures it.
+#![tactic(auto)]
+
 ghost use Rattle.ps2_bytes.specs.Responses.{mouse_id_read};
 ghost use Rattle.salvage_calls.specs.Numbers.{Called};
 
@@ -7,7 +9,7 @@ use ps2_salvage::{SalvageAnswer, Salvaged, salvage};
 
 // What a pass answered, by numbers.
 #[repr(C)]
-#[derive(Drop)]
+#[derive(Clone, Copy)]
 pub struct SalvagedNumbers {
     pub number: u64,
     pub used: usize,

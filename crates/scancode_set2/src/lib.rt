@@ -1,10 +1,12 @@
 // Keyboards that speak scan code set 2: their key stream converted to set 1, by the 8042's translation table.
+#![tactic(auto)]
+
 ghost use Rattle.std.specs.Prelude.{◌≡◌};
 ghost use Rattle.exchange.specs.Answer.{number_answered};
 ghost use Rattle.scancode_set2.specs.Convert.{BothBytes, outcome, converted, said_converted};
 
 // How a conversion ends: done, or with the refusal that request 2.2 numbers 22, 23 or 24.
-#[derive(Drop)]
+#[derive(Clone, Copy)]
 pub enum ConvertAnswer {
     Done,
     NoEntry,
@@ -27,7 +29,7 @@ impl ConvertAnswer {
 }
 
 // An answer with its counts: bytes of the stream used, bytes of the output written.
-#[derive(Drop)]
+#[derive(Clone, Copy)]
 pub struct Conversion {
     pub answer: ConvertAnswer,
     pub used: usize,

@@ -1,6 +1,14 @@
 // Converts the set 2 key stream on standard input to set 1, on standard output. The first 65,536 bytes are taken; more are ignored. A refusal is told on standard error, with the place of the code that was refused.
-use libc::{STDERR_FILENO, STDIN_FILENO, STDOUT_FILENO};
+#![tactic(auto)]
+
 use scancode_set2::{Conversion, convert};
+
+// The descriptors of a program's standard input, output and error, by POSIX.
+const STDIN_FILENO: i32 = 0;
+
+const STDOUT_FILENO: i32 = 1;
+
+const STDERR_FILENO: i32 = 2;
 
 fn main() {
     let mut stream = io::large_buffer();

@@ -1,4 +1,6 @@
 // Two stories of a queue that has no room. At a table with one keyboard the release of Control finds no room for its event, and T is still no Control-T. At a table with two, one side sends more than its share, and the other is still heard.
+#![tactic(auto)]
+
 ghost use Rattle.std.specs.Prelude.{◌≤◌};
 
 use keyboard::{Handled, HandlerAnswer, handle};
@@ -6,7 +8,9 @@ use keyboard_modifiers::KeyboardModifiers;
 use keyboard_record::{KeyboardHandler, Keyboards, Table, TakenEvent, take_event};
 use keyboard_scancodes::Profile;
 use keyboard_sides::Side;
-use libc::STDOUT_FILENO;
+
+// The descriptor of a program's standard output, by POSIX.
+const STDOUT_FILENO: i32 = 1;
 
 const CONTROL_PRESSED: u8 = 0x1D;
 
@@ -71,7 +75,7 @@ fn side_full(answer: HandlerAnswer) -> u64
 }
 
 // The record after some presses, and how many of them were refused because the side has its share.
-#[derive(Drop)]
+#[derive(Clone, Copy)]
 struct Filled {
     handler: KeyboardHandler,
     refused: u64,
@@ -115,7 +119,7 @@ fn second_side(side: Side) -> u64
 }
 
 // How many events were taken, how many of them the second side's, and the record without them.
-#[derive(Drop)]
+#[derive(Clone, Copy)]
 struct Emptied {
     taken: u64,
     of_second: u64,

@@ -1,5 +1,10 @@
 // Prints the key events of the scancodes on standard input. The first 65,536 bytes are the script; more are ignored.
-use libc::{STDIN_FILENO, STDOUT_FILENO};
+#![tactic(auto)]
+
+// The descriptors of a program's standard input and standard output, by POSIX.
+const STDIN_FILENO: i32 = 0;
+
+const STDOUT_FILENO: i32 = 1;
 
 // Room for every listing: 13 bytes for each script byte are enough (`listing_fits` of key_listing).
 const LISTING_ROOM: usize = 851968;

@@ -1,13 +1,17 @@
 // Two keyboards and a mouse, served by turns: each event with its side and each packet, in the order of service, and why the steps end.
+#![tactic(auto)]
+
 use dispatcher::{CallAnswer, Dispatcher, Served};
 use keyboard_record::{KeyboardHandler, Keyboards, SideEvent, Table, TakenEvent, take_event};
 use keyboard_scancodes::Profile;
 use keyboard_sides::Side;
 use keycodes_ascii::KeyAction;
-use libc::STDOUT_FILENO;
 use ps2_mouse::PS2Mouse;
 use ps2_packet::SignedPacket;
 use ps2_packet_reading::{SignedAnswer, SignedRead};
+
+// The descriptor of a program's standard output, by POSIX.
+const STDOUT_FILENO: i32 = 1;
 
 // Side 1 presses Caps Lock, and A during its lamp exchange; then releases A.
 const FIRST: [u8; 10] = [0x3A, 0x00, 0x01, 0x1E, 0x01, 0xFA, 0x00, 0x01, 0xFA, 0x9E];
@@ -141,7 +145,7 @@ fn without_event(handler: KeyboardHandler) -> KeyboardHandler {
 }
 
 // The dispatcher after a step and the taking of its event, and how many steps in a row took no byte.
-#[derive(Drop)]
+#[derive(Clone, Copy)]
 struct Turned {
     state: Dispatcher,
     without: usize,

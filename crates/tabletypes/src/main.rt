@@ -1,6 +1,14 @@
 // Types the text on standard input: writes its scancodes to standard output. The first 65,536 characters are taken; more are ignored. A refusal is told on standard error.
-use libc::{STDERR_FILENO, STDIN_FILENO, STDOUT_FILENO};
+#![tactic(auto)]
+
 use typing::{TypingAnswer, type_text};
+
+// The descriptors of a program's standard input, output and error, by POSIX.
+const STDIN_FILENO: i32 = 0;
+
+const STDOUT_FILENO: i32 = 1;
+
+const STDERR_FILENO: i32 = 2;
 
 // Room for every text: a character takes four bytes at the most.
 const SCANCODE_ROOM: usize = 262144;

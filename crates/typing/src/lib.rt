@@ -1,4 +1,6 @@
 // Text turned into scancodes of set 1: the strokes by which a keyboard would type it.
+#![tactic(auto)]
+
 ghost use Rattle.std.specs.Prelude.{◌≡◌, ◌<◌, length};
 ghost use Rattle.exchange.specs.Answer.{number_answered, gives};
 ghost use Rattle.ps2_answers.specs.Refusals.{success};
@@ -8,7 +10,7 @@ ghost use Rattle.typing.specs.Lengths.{count_of};
 ghost use Rattle.typing.specs.Table.{or_none, Tabulates};
 
 // How a typing ends: done, or with the refusal that request 2.6 numbers 25 or 26.
-#[derive(Drop)]
+#[derive(Clone, Copy)]
 pub enum TypingAnswer {
     Done,
     NoKey,
@@ -29,14 +31,14 @@ impl TypingAnswer {
 }
 
 // An answer, with how many bytes of the output are written.
-#[derive(Drop)]
+#[derive(Clone, Copy)]
 pub struct Typing {
     pub answer: TypingAnswer,
     pub written: usize,
 }
 
 // How many characters of a text need Shift, or that one of them has no key.
-#[derive(Drop)]
+#[derive(Clone, Copy)]
 pub enum Counted {
     Shifted(usize),
     NoKey,

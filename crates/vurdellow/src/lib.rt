@@ -1,9 +1,11 @@
 // The library that others link: every operation that a table needs, for C or Rust. Each function is one of a layer below, with its contract.
-mod bytes;
+#![tactic(auto)]
+
+mod byte_exports;
 mod controller;
-mod dispatcher;
+mod dispatcher_exports;
 mod handler;
-mod keyboard;
+mod keyboard_exports;
 mod mouse;
-mod preferences;
+mod preferences_exports;
 mod reports;
