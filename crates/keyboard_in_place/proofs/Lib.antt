@@ -1,3 +1,2 @@
--- Laws of the handler call in place, and a step of its walk.
-pub mod FieldOf
+-- Laws of the handler call in place.
 pub mod AsPassed

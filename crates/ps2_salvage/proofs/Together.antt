@@ -71,7 +71,10 @@ dropped_at front (packet bytes ∷ more) rest =
     rw (← length-append front bytes, append_assoc bytes (all_bytes more) rest, ← append_assoc front bytes (all_bytes more ++ rest)) (dropped_at (front ++ bytes) more rest)
 dropped_at front (dropped b ∷ more) rest =
     ap₂ (λ (byte : ℕ) (l : List Dropped). record { position = length front; byte = byte } ∷ l) (get_or-append_seam front b (all_bytes more ++ rest) 0)
-    (rw (← length-append front (b ∷ []), ← append_assoc front (b ∷ []) (all_bytes more ++ rest)) (dropped_at (front ++ (b ∷ [])) more rest))
+    (rw (← length-append front (b ∷ []))
+    (subst (λ (l : List ℕ). dropped_from l (positions_from (length (front ++ (b ∷ []))) more) ≡ dropped_of (length (front ++ (b ∷ []))) more)
+    (append_assoc front (b ∷ []) (all_bytes more ++ rest))
+    (dropped_at (front ++ (b ∷ [])) more rest)))
 
 -- ---- counted
 

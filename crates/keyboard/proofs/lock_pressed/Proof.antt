@@ -29,22 +29,19 @@ returns c =
 
 -- otherwise the log is as it was
 module _ (c : tie.After-set-port-led-onto) where
-  abbrev start : tie.Start
-  start = c.before.before.before.before.before.before.before.before.before.before
-
-  unlit : c.before.before.before.before.before.set-port-led-at-once.new.1.0 ≡ start.args.log.now
+  unlit : c.before.before.before.before.before.set-port-led-at-once.new.1.0 ≡ c.before.before.before.before.before.before.before.before.before.before.args.log.now
   unlit = c.before.before.before.before.before.set-port-led-at-once.ensures.undone c.before.before.if1.false
 
 returns-2 : tie.Need-returns-2
 returns-2 c =
     let m = c.before in
     let w = m.before.before.before.before.before in
-    let x = start w in
+    let x = w.before.before.before.before.before.before.before.before.before.before in
     let a = x.args in
     record {
       at = λ rest is few.
           gives_back a.keyboard _ _ _
-          (lamps_answer (port_rules Profile.Any a.port) a.keyboard a.scan-code a.modifiers.bits rest _ _ x.pre w.before.before.before.before.before.before.before.leds.ensures
+          (lamps_answer (port_rules Profile.Any a.port) a.keyboard a.scan-code a.modifiers.bits rest _ _ x.requires w.before.before.before.before.before.before.before.leds.ensures
           (lamps_within a.port _) (omega (arith, few)) is (rw (unlit w) at w.set-port-led-onto.ensures)
           (ap said_done m.enum_told.given.1))
           c.after-lamps2.ensures;
@@ -55,12 +52,12 @@ returns-3 c =
     let f = c.before in
     let m = f.before.before.before in
     let w = m.before.before.before.before.before in
-    let x = start w in
+    let x = w.before.before.before.before.before.before.before.before.before.before in
     let a = x.args in
     record {
       at = λ rest is few.
           gives_back a.keyboard _ _ _
-          (lamps_lack (port_rules Profile.Any a.port) a.keyboard a.scan-code a.modifiers.bits rest _ _ x.pre w.before.before.before.before.before.before.before.leds.ensures
+          (lamps_lack (port_rules Profile.Any a.port) a.keyboard a.scan-code a.modifiers.bits rest _ _ x.requires w.before.before.before.before.before.before.before.leds.ensures
           (lamps_within a.port _) (omega (arith, few)) is (rw (unlit w) at w.set-port-led-onto.ensures)
           (ap said_done m.answer.given.1 ∙ ap refused f.e.given.1))
           refl;
@@ -71,12 +68,12 @@ returns-4 c =
     let f = c.before in
     let m = f.before.before.before in
     let w = m.before.before.before.before.before in
-    let x = start w in
+    let x = w.before.before.before.before.before.before.before.before.before.before in
     let a = x.args in
     record {
       at = λ rest is few.
           gives_back a.keyboard _ _ _
-          (lamps_answer (port_rules Profile.Any a.port) a.keyboard a.scan-code a.modifiers.bits rest _ _ x.pre w.before.before.before.before.before.before.before.leds.ensures
+          (lamps_answer (port_rules Profile.Any a.port) a.keyboard a.scan-code a.modifiers.bits rest _ _ x.requires w.before.before.before.before.before.before.before.leds.ensures
           (lamps_within a.port _) (omega (arith, few)) is (rw (unlit w) at w.set-port-led-onto.ensures)
           (ap said_done m.answer.given.1 ∙ ap refused f.enum-told2.given.1))
           c.after-lamps3.ensures;
