@@ -8,8 +8,8 @@ use Rattle.keycodes_ascii.specs.declared.Keycode.{Keycode}
 use Rattle.keycodes_ascii.specs.Keycode.{keycodes}
 use Rattle.keycodes_ascii.specs.Characters.{writes, is_letter}
 use Rattle.keycodes_ascii.proofs.Codes.{keycode_at, arm_keycode}
-use Rattle.keycodes_ascii.proofs.Keycode.is_letter.Statement.{statement}
-use Rattle.keycodes_ascii.proofs.Keycode.is_letter.Tie as tie
+use borrow.Enum.Refused.{opened}
+use Rattle.keycodes_ascii.proofs.Keycode.is_letter.Goals as goal
 
 letter_is : Bool → Keycode → Bool
 letter_is b k = beq b (is_letter (writes k))
@@ -19,13 +19,10 @@ places : Bool → ℕ → List ℕ → List ℕ
 places b zero after = after
 places b (suc n) after = places b n (cond (letter_is b (keycode_at n)) (n ∷ after) after)
 
-returns : tie.Need-returns
+pub returns-in-Q : goal.returns-in-Q
 unfolding letter_is places keycodes
-returns c = beq_eq true _ (arm_keycode (letter_is true) (places true 100 []) c.before.args.self tt c.match.keys1)
+returns-in-Q c = beq_eq true _ (arm_keycode (letter_is true) (places true 100 []) c.args.self tt c.in-Q.in-Q-own.keys1)
 
-returns-2 : tie.Need-returns-2
+pub returns-in_default : goal.returns-in_default
 unfolding letter_is places keycodes
-returns-2 c = beq_eq false _ (arm_keycode (letter_is false) (places false 100 []) c.before.args.self tt c.match.keys2)
-
-pub is_letter_spec : {M : Type 1} → statement M
-is_letter_spec = tie.close (tie.spec returns returns-2)
+returns-in_default c = beq_eq false _ (arm_keycode (letter_is false) (places false 100 []) c.args.self tt (opened c.in_default.in_default-own.keys2))
