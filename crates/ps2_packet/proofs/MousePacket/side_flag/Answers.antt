@@ -1,0 +1,5 @@
+-- `MousePacket::side_flag` meets its contract: by the kind of packet. Assumes nothing.
+use Rattle.ps2_packet.proofs.MousePacket.side_flag.Goals as goal
+
+pub returns-in-Four : goal.returns-in-Four
+returns-in-Four c = cc
