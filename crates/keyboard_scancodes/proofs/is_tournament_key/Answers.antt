@@ -1,6 +1,5 @@
 -- `keyboard_scancodes::is_tournament_key` meets its contract: the bits of the masks are the list's keys, computed over all codes.
 -- Assumes nothing.
-use borrow.Author.Rules.{rules}
 use mathlib.Core.Path.{◌≡◌, refl, sym, ap, ◌∙◌}
 use mathlib.Core.Bool.{true, false, and-eq-true_iff}
 use mathlib.Core.List.{List, [], ◌∷◌}
@@ -14,8 +13,7 @@ use Rattle.keycodes_ascii.specs.declared.Keycode.{Keycode}
 use Rattle.keycodes_ascii.specs.Keycode.{number_of}
 use Rattle.keyboard_scancodes.specs.Profile.{tournament_keys, code_among, is_tournament_code}
 use Rattle.keyboard_scancodes.proofs.KeyMasks.{tested}
-use Rattle.keyboard_scancodes.proofs.is_tournament_key.Statement.{statement}
-use Rattle.keyboard_scancodes.proofs.is_tournament_key.Tie as tie
+use Rattle.keyboard_scancodes.proofs.is_tournament_key.Goals as goal
 
 -- the two masks, as numbers
 abbrev keys_mask : ℕ
@@ -46,20 +44,17 @@ none : (code : ℕ) → 128 ≤ code → is_tournament_code code ≡ false
 unfolding tournament_keys
 none code h = not_among code h tournament_keys refl
 
-returns : tie.Need-returns
-returns c =
-    let code = c.before.args.code in
-    tested keys_mask code c.if1.true ∙ low code c.if1.true
+pub returns-then-code-lt64 : goal.returns-then-code-lt64
+returns-then-code-lt64 c =
+    let code = c.args.code in
+    tested keys_mask code c.if-code-lt64.true ∙ low code c.if-code-lt64.true
 
-returns-2 : tie.Need-returns-2
-returns-2 c =
-    let code = c.before.before.args.code in
+pub returns-then-code-lt128 : goal.returns-then-code-lt128
+returns-then-code-lt128 c =
+    let code = c.args.code in
     let h : code - 64 < 64 = omega arith in
     let e : code - 64 + 64 ≡ code = omega arith in
     tested arrows_mask (code - 64) h ∙ high (code - 64) h ∙ ap is_tournament_code e
 
-returns-3 : tie.Need-returns-3
-returns-3 c = sym (none c.before.before.args.code (omega arith))
-
-pub is_tournament_key_spec : {M : Type 1} → statement M
-is_tournament_key_spec = tie.close (tie.spec (λ c. search rules) returns (λ c. search rules) (λ c. search rules) returns-2 returns-3)
+pub returns : goal.returns
+returns c = sym (none c.args.code (omega arith))

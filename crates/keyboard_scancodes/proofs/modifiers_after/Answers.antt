@@ -1,10 +1,9 @@
 -- `keyboard_scancodes::modifiers_after` meets its contract: the masks of the byte's key, put in or taken out.
 -- Assumes nothing.
-use borrow.Author.Rules.{rules}
 use borrow.Author.Tests.{lt-ltb, le-ltb}
-use mathlib.Core.Path.{◌≡◌, refl, sym, ap, ap₂, ◌∙◌}
+use mathlib.Core.Path.{◌≡◌, refl, ap, ap₂, ◌∙◌}
 use mathlib.Core.Bool.{Bool, true, false, xor, ◌||◌}
-use Prim.Native.Nat.{ℕ, ◌<◌, ◌≤◌, ◌%◌}
+use Prim.Native.Nat.{ℕ, ◌<◌, ◌%◌}
 use lib.Bits.{bit_and, and_mask}
 use native.Mathlib.Omega.{arith}
 use Rattle.bits.specs.Bits.{bitwise, without}
@@ -12,11 +11,10 @@ use Rattle.keyboard_scancodes.specs.Strokes.{stroke}
 use Rattle.keyboard_scancodes.specs.FlagTable.{flag_table, is_of}
 use Rattle.keyboard_scancodes.specs.declared.Profile.{Profile}
 use Rattle.keyboard_scancodes.specs.Profile.{followed}
-use Rattle.keyboard_scancodes.specs.FlagsAfter.{flags_after, flags_of, holds, locks, held_flags, lock_flags}
+use Rattle.keyboard_scancodes.specs.FlagsAfter.{flags_of, holds, locks, held_flags, lock_flags}
 use Rattle.keyboard_scancodes.proofs.Flags.{table_distinct, table_below_16}
 use Rattle.keyboard_scancodes.proofs.Masks.{press_after, release_after}
-use Rattle.keyboard_scancodes.proofs.modifiers_after.Statement.{statement}
-use Rattle.keyboard_scancodes.proofs.modifiers_after.Tie as tie
+use Rattle.keyboard_scancodes.proofs.modifiers_after.Goals as goal
 
 -- the masks by the byte's press code are those of its stroke; what a key holds down is followed under each profile
 held_same : (profile : Profile) (b : ℕ) (x : Bool) → held_flags flag_table (b % 128) x ≡ flags_of (holds (stroke b x)) (followed profile)
@@ -32,39 +30,25 @@ unfolding followed flag_table is_of
 lock_of Profile.Any b x h = rw (and_mask b 7, lt-ltb b 128 h)
 lock_of Profile.Tournament b x h = refl
 
-returns : tie.Need-returns
-returns c =
-    let h = c.before.before.before.before in
-    let a = h.before.before.args in
-    let b = a.scan-code in
+pub returns-then-scan_code-lt-KEY_RELEASED_OFFSET : goal.returns-then-scan_code-lt-KEY_RELEASED_OFFSET
+returns-then-scan_code-lt-KEY_RELEASED_OFFSET c =
+    let a = c.args in
+    let b = a.scan_code in
     let x = a.keyboard.prefix in
     let w = a.keyboard.modifiers.bits in
-    let pressed = c.before.before.before.if1.true in
+    let pressed = c.if-scan_code-lt-KEY_RELEASED_OFFSET.true in
     c.toggle.ensures
     ∙ ap₂ (λ (m n : ℕ). bitwise xor 16 m n)
-    (c.before.insert.ensures ∙ ap (bitwise ◌||◌ 16 w) (h.held-flags.ensures ∙ held_of a.profile b x))
-    (c.before.before.followed-lock.ensures ∙ lock_of a.profile b x pressed)
+    (c.insert.ensures ∙ ap (bitwise ◌||◌ 16 w) (c.held_flags-held.ensures ∙ held_of a.profile b x))
+    (c.followed_lock-lock.ensures ∙ lock_of a.profile b x pressed)
     ∙ press_after (stroke b x) w 16 (followed a.profile) (table_distinct a.profile) (table_below_16 a.profile) (omega arith) (lt-ltb b 128 pressed)
 
-returns-2 : tie.Need-returns-2
-returns-2 c =
-    let h = c.before.before in
-    let a = h.before.before.args in
-    let b = a.scan-code in
+pub returns : goal.returns
+returns c =
+    let a = c.args in
+    let b = a.scan_code in
     let x = a.keyboard.prefix in
     let w = a.keyboard.modifiers.bits in
     c.remove.ensures
-    ∙ ap (bitwise without 16 w) (h.held-flags.ensures ∙ held_of a.profile b x)
-    ∙ release_after (stroke b x) w 16 (followed a.profile) (table_distinct a.profile) (table_below_16 a.profile) (omega arith) (le-ltb b 128 c.before.if1.false)
-
-pub modifiers_after_spec : {M : Type 1} → statement M
-modifiers_after_spec =
-    tie.close
-    (tie.spec
-    (λ c κs. search rules)
-    (λ c κs. search rules)
-    (λ c κs. search rules)
-    (λ c κs. search rules)
-    returns
-    (λ c κs. search rules)
-    returns-2)
+    ∙ ap (bitwise without 16 w) (c.held_flags-held.ensures ∙ held_of a.profile b x)
+    ∙ release_after (stroke b x) w 16 (followed a.profile) (table_distinct a.profile) (table_below_16 a.profile) (omega arith) (le-ltb b 128 c.if-scan_code-lt-KEY_RELEASED_OFFSET.false)

@@ -7,50 +7,46 @@ use mathlib.Core.Bool.{Bool, true, false}
 use mathlib.Core.Path.{◌≡◌, refl, sym, ap₂, ◌∙◌}
 use Prim.Native.Nat.{ℕ}
 use Rattle.keyboard_scancodes.specs.FlagsAfter.{held_flags}
-use Rattle.keyboard_scancodes.proofs.held_flags.Statement.{statement}
-use Rattle.keyboard_scancodes.proofs.held_flags.Tie as tie
+use Rattle.keyboard_scancodes.proofs.held_flags.Goals as goal
 
 -- a press code with two keys, which the prefix tells apart
 module _ {code : ℕ} {x : Bool} (k : ℕ) (y : Bool) {w : ℕ} (is : held_flags flag_table k y ≡ w) where
   by_prefix : code ≡ k → x ≡ y → w ≡ held_flags flag_table code x
   by_prefix e f = sym (ap₂ (λ (k : ℕ) (z : Bool). held_flags flag_table k z) e f ∙ is)
 
-returns : tie.Need-returns
+pub returns-then-prefix : goal.returns-then-prefix
 unfolding flag_table is_of put_bit
-returns c = by_prefix 0x1D true refl c.before.match.keys1 c.if1.true
+returns-then-prefix c = by_prefix 0x1D true refl c.in-29.is c.if-prefix.true
 
-returns-2 : tie.Need-returns-2
+pub returns-else-prefix : goal.returns-else-prefix
 unfolding flag_table is_of put_bit
-returns-2 c = by_prefix 0x1D false refl c.before.match.keys1 c.if1.false
+returns-else-prefix c = by_prefix 0x1D false refl c.in-29.is c.if-prefix.false
 
-returns-3 : tie.Need-returns-3
+pub returns-then-prefix-2 : goal.returns-then-prefix-2
 unfolding flag_table is_of put_bit
-returns-3 c = by_prefix 0x38 true refl c.before.match.keys2 c.if2.true
+returns-then-prefix-2 c = by_prefix 0x38 true refl c.in-56.is c.if-prefix-2.true
 
-returns-4 : tie.Need-returns-4
+pub returns-else-prefix-2 : goal.returns-else-prefix-2
 unfolding flag_table is_of put_bit
-returns-4 c = by_prefix 0x38 false refl c.before.match.keys2 c.if2.false
+returns-else-prefix-2 c = by_prefix 0x38 false refl c.in-56.is c.if-prefix-2.false
 
-returns-5 : tie.Need-returns-5
+pub returns-in-42 : goal.returns-in-42
 unfolding flag_table is_of put_bit
-returns-5 c = rw c.match.keys3
+returns-in-42 c = rw c.in-42.is
 
-returns-6 : tie.Need-returns-6
+pub returns-in-54 : goal.returns-in-54
 unfolding flag_table is_of put_bit
-returns-6 c = rw c.match.keys4
+returns-in-54 c = rw c.in-54.is
 
-returns-7 : tie.Need-returns-7
+pub returns-in-91 : goal.returns-in-91
 unfolding flag_table is_of put_bit
-returns-7 c = rw c.match.keys5
+returns-in-91 c = rw c.in-91.is
 
-returns-8 : tie.Need-returns-8
+pub returns-in-92 : goal.returns-in-92
 unfolding flag_table is_of put_bit
-returns-8 c = rw c.match.keys6
+returns-in-92 c = rw c.in-92.is
 
-returns-9 : tie.Need-returns-9
-returns-9 c =
-    let n = c.match.rest in
+pub returns-in_default : goal.returns-in_default
+returns-in_default c =
+    let n = c.in_default.in_default-own.rest in
     sym (no_held _ _ n.0.0.0.0.0.1 n.0.0.0.0.1 n.0.0.0.1 n.0.0.1 n.0.1 n.1)
-
-pub held_flags_spec : {M : Type 1} → statement M
-held_flags_spec = tie.close (tie.spec returns returns-2 returns-3 returns-4 returns-5 returns-6 returns-7 returns-8 returns-9)

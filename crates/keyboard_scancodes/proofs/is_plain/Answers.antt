@@ -1,6 +1,5 @@
 -- `keyboard_scancodes::is_plain` meets its contract: the bits of the masks are the keys without a flag, computed over all codes.
 -- Assumes nothing.
-use borrow.Author.Rules.{rules}
 use mathlib.Core.Path.{◌≡◌, ap, ◌∙◌}
 use Prim.Native.Nat.{ℕ, ◌+◌, ◌-◌, ◌%◌, ◌<◌}
 use native.Mathlib.Omega.{arith}
@@ -9,8 +8,7 @@ use Rattle.bits.proofs.Every.{agree_bool}
 use Rattle.keyboard_scancodes.specs.FlagTable.{flag_table}
 use Rattle.keyboard_scancodes.specs.Plain.{has_flag, is_plain_code}
 use Rattle.keyboard_scancodes.proofs.KeyMasks.{tested}
-use Rattle.keyboard_scancodes.proofs.is_plain.Statement.{statement}
-use Rattle.keyboard_scancodes.proofs.is_plain.Tie as tie
+use Rattle.keyboard_scancodes.proofs.is_plain.Goals as goal
 
 -- the two masks, as numbers
 abbrev low_mask : ℕ
@@ -27,17 +25,14 @@ high : (code : ℕ) → code < 64 → bit code high_mask ≡ is_plain_code (code
 unfolding bit odd is_plain_code has_flag flag_table
 high = agree_bool (λ c. bit c high_mask) (λ c. is_plain_code (c + 64)) 64 tt
 
-returns : tie.Need-returns
-returns c =
-    let code = c.before.args.scan-code % 128 in
-    tested low_mask code c.if1.true ∙ low code c.if1.true
+pub returns-then-code-lt64 : goal.returns-then-code-lt64
+returns-then-code-lt64 c =
+    let code = c.args.scan_code % 128 in
+    tested low_mask code c.if-code-lt64.true ∙ low code c.if-code-lt64.true
 
-returns-2 : tie.Need-returns-2
-returns-2 c =
-    let code = c.before.args.scan-code % 128 in
+pub returns : goal.returns
+returns c =
+    let code = c.args.scan_code % 128 in
     let h : code - 64 < 64 = omega arith in
     let e : code - 64 + 64 ≡ code = omega arith in
     tested high_mask (code - 64) h ∙ high (code - 64) h ∙ ap is_plain_code e
-
-pub is_plain_spec : {M : Type 1} → statement M
-is_plain_spec = tie.close (tie.spec (λ c. search rules) (λ c. search rules) returns (λ c. search rules) (λ c. search rules) returns-2)
