@@ -4,7 +4,6 @@ use native.Mathlib.Omega.{arith}
 use mathlib.Core.Bool.{true}
 use mathlib.Core.Path.{◌≡◌, ap}
 use Prim.Native.Nat.{ℕ, ◌≤◌}
-use borrow.Author.Rules.{rules}
 use borrow.Author.Tests.{le-leb, lt-leb}
 use lib.Dec.{leb}
 use Rattle.keyboard_sides.specs.declared.Side.{Side}
@@ -12,31 +11,26 @@ use Rattle.keyboard_sides.specs.declared.Sides.{Sides}
 use Rattle.keyboard_sides.specs.Sides.{count_of, sides_of}
 use Rattle.keyboard_sides.proofs.Row.{count_le, sides_length}
 use Rattle.keyboard_record.specs.Record.{fair}
-use Rattle.keyboard_record.proofs.is_fair.Statement.{statement}
-use Rattle.keyboard_record.proofs.is_fair.Tie as tie
+use Rattle.keyboard_record.proofs.is_fair.Goals as goal
 
 -- a side has no more events than there are
 few : (side : Side) (sides : Sides) (count : ℕ) → count ≤ 96 → leb (count_of side (sides_of sides count)) 96 ≡ true
 few side sides count h = le-leb (count_of side (sides_of sides count)) 96 (omega (arith, h, count_le side (sides_of sides count), sides_length sides count))
 
-returns : tie.Need-returns
+pub returns-then-count-le-SHARE : goal.returns-then-count-le-SHARE
+unfolding fair
+returns-then-count-le-SHARE c =
+    let a = c.args in
+    rw (few Side.First a.sides a.count c.if-count-le-SHARE.true, few Side.Second a.sides a.count c.if-count-le-SHARE.true)
+
+pub returns-then-count_of-gt-SHARE : goal.returns-then-count_of-gt-SHARE
+unfolding fair
+returns-then-count_of-gt-SHARE c =
+    let a = c.args in
+    rw (lt-leb (count_of Side.First (sides_of a.sides a.count)) 96 (omega (arith, c.if-count_of-gt-SHARE.true, c.count_of.ensures)))
+
+pub returns : goal.returns
 unfolding fair
 returns c =
-    let a = c.before.args in
-    rw (few Side.First a.sides a.count c.if1.true, few Side.Second a.sides a.count c.if1.true)
-
-returns-2 : tie.Need-returns-2
-unfolding fair
-returns-2 c =
-    let a = c.before.before.before.args in
-    rw (lt-leb (count_of Side.First (sides_of a.sides a.count)) 96 (omega (arith, c.if2.true, c.before.count_of.ensures)))
-
-returns-3 : tie.Need-returns-3
-unfolding fair
-returns-3 c =
-    let f = c.before in
-    let a = f.before.before.before.args in
-    rw (le-leb (count_of Side.First (sides_of a.sides a.count)) 96 (omega (arith, f.if2.false, f.before.count_of.ensures))) (ap (λ (n : ℕ). leb n 96) c.count-of2.ensures)
-
-pub is_fair_spec : {M : Type 1} → statement M
-is_fair_spec = tie.close (tie.spec returns (λ c κs. search rules) returns-2 (λ c κs. search rules) returns-3)
+    let a = c.args in
+    rw (le-leb (count_of Side.First (sides_of a.sides a.count)) 96 (omega (arith, c.if-count_of-gt-SHARE.false, c.count_of.ensures))) (ap (λ (n : ℕ). leb n 96) c.count_of-2.ensures)

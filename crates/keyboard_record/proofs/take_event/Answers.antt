@@ -1,9 +1,8 @@
 -- `keyboard_record::take_event` meets its contract: 21, none, or the oldest event.
 -- Assumes nothing.
-use borrow.Author.Rules.{rules}
 use native.Mathlib.Omega.{arith}
-use mathlib.Core.Path.{◌≡◌, sym, ap₂, ◌∙◌}
-use mathlib.Core.Bool.{true}
+use mathlib.Core.Path.{ap, ◌≡◌, sym, ap₂, ◌∙◌}
+use mathlib.Core.Bool.{not, true}
 use mathlib.Core.Option.{Option, some}
 use Prim.Native.Nat.{◌-◌}
 use lib.ListN.{get_or}
@@ -19,18 +18,18 @@ use Rattle.keyboard_record.specs.Queue.{empty_event, next}
 use Rattle.keyboard_record.specs.Record.{well_formed}
 use Rattle.keyboard_record.proofs.Taking.{taken_malformed, taken_none, taken_one}
 use Rattle.keyboard_record.proofs.WellFormed.{well_is}
-use Rattle.keyboard_record.proofs.take_event.Statement.{statement}
-use Rattle.keyboard_record.proofs.take_event.Tie as tie
+use Rattle.keyboard_record.proofs.take_event.Goals as goal
+use Rattle.keyboard_record.proofs.take_event.Goals.{After-places-1, Else-not-well_formed}
 
-returns : tie.Need-returns
-returns c = sym (taken_malformed _ (sym c.before.well-formed-2.ensures ∙ not-true _ c.if1.true))
+pub returns-then-not-well_formed : goal.returns-then-not-well_formed
+returns-then-not-well_formed c = sym (taken_malformed _ (sym c.well_formed-2.ensures ∙ not-true _ (ap not c.if-not-well_formed.true)))
 
 -- past the first test the record is well formed
-well : (c : tie.Else1) → well_formed c.before.before.before.args.handler.state ≡ true
-well c = sym c.before.well-formed-2.ensures ∙ not-false _ c.if1.false
+well : (c : Else-not-well_formed) → well_formed c.args.handler.state ≡ true
+well c = sym c.well_formed-2.ensures ∙ not-false _ (ap not c.if-not-well_formed.false)
 
-returns-2 : tie.Need-returns-2
-returns-2 c = sym (taken_none _ (well c.before) (eq-eqb _ 0 c.if2.true))
+pub returns-then-count-eq0 : goal.returns-then-count-eq0
+returns-then-count-eq0 c = sym (taken_none _ (well (goal.at.returns-then-count-eq0 c).Else-not-well_formed) (eq-eqb _ 0 c.if-count-eq0.true))
 
 -- the record that is left, and the event, by the sides that the row of bits gives
 answered : KeyboardHandler → Side → Sides → Left KeyboardHandler (Option (Sided KeyEvent))
@@ -49,34 +48,18 @@ answered h side sides =
       places = h.places;
     })
 
-returns-3 : tie.Need-returns-3
+pub returns : goal.returns
 unfolding answered
-returns-3 c =
-    let n = c.before.before.before.before.before.before.before.before in
-    ap₂ (answered n.before.before.before.before.args.handler) c.oldest.ensures c.before.before.before.without-oldest.ensures
-    ∙ sym (taken_one _ (well n.before) (ne_eqb _ 0 n.if2.false))
+returns c =
+    ap₂ (answered c.args.handler) c.oldest.ensures c.without_oldest-others.ensures
+    ∙ sym (taken_one _ (well (goal.at.returns c).Else-not-well_formed) (ne_eqb _ 0 c.if-count-eq0.false))
 
 -- the oldest event lies in one of the places
-array-copy-out-event : tie.Need-array-copy-out-event
-array-copy-out-event c = (well_is _ (well c.before.before.before.before.before.before.before)).start_in
+pub bounds-places-start : goal.bounds-places-start
+bounds-places-start c = (well_is _ (well (goal.at.bounds-places-start c).Else-not-well_formed)).start_in
 
-mul-event : tie.Need-overflow-mul-event
-mul-event c = omega (arith, array-copy-out-event c)
+pub offset_bounds-places-start : goal.offset_bounds-places-start
+offset_bounds-places-start c = omega (arith, bounds-places-start c)
 
-add-t16 : tie.Need-overflow-add-t16
-add-t16 c = omega (arith, array-copy-out-event c.before.before)
-
-pub take_event_spec : {M : Type 1} → statement M
-take_event_spec =
-    tie.close
-    (tie.spec
-    (λ c κs. search rules)
-    returns
-    returns-2
-    (λ c κs. search rules)
-    mul-event
-    array-copy-out-event
-    (λ c κs. search rules)
-    add-t16
-    (λ c. search rules)
-    returns-3)
+pub overflow_add-result : goal.overflow_add-result
+overflow_add-result c = omega (arith, bounds-places-start (goal.at.overflow_add-result c).After-places-1)
