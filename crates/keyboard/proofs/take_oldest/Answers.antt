@@ -1,6 +1,5 @@
 -- `keyboard::take_oldest` meets its contract: from the last place down, each byte goes one place down, and the first is left over.
 -- Assumes nothing.
-use borrow.Author.Rules.{rules}
 use mathlib.Core.List.{List, [], ◌∷◌, ◌++◌}
 use mathlib.Core.Path.{◌≡◌, refl, sym, ap, ◌∙◌}
 use Prim.Native.Nat.{ℕ, zero, suc, ◌+◌, ◌-◌, ◌≤◌}
@@ -13,8 +12,8 @@ use Rattle.ps2_kept.specs.Kept.{kept_limit, kept_of}
 use Rattle.keyboard_scancodes.specs.Waiting.{bytes_from}
 use Rattle.keyboard_scancodes.proofs.Waiting.{length_bytes}
 use Rattle.keyboard.proofs.Outcomes.{oldest_first}
-use Rattle.keyboard.proofs.take_oldest.Statement.{statement}
-use Rattle.keyboard.proofs.take_oldest.Tie as tie
+use Rattle.keyboard.proofs.take_oldest.Goals as goal
+use Rattle.keyboard.proofs.take_oldest.Invariants.{Moved}
 
 -- ---- a list's bytes, and zeros up to 16
 
@@ -38,11 +37,6 @@ kept_padded l {count} n h g =
     same_kept (sym (padded l 16 16 (17 - count) (omega (arith, n)) (omega (arith, n)) (omega arith))) (sym n ∙ ap length (sym (take_all 16 l (omega (arith, n))))) (omega (arith, n))
 
 -- ---- the loop
-
--- the places from `place` on have what lay one place behind; the byte that is carried comes before them
-abbrev Moved : List ℕ → ℕ → List ℕ → ℕ → ℕ → Type 0
-Moved bytes count behind carried place =
-    (rest : List ℕ) × ((behind ≡ replicate place 0 ++ rest) × (carried ∷ rest ≡ bytes_from bytes place (count - place) ++ replicate (17 - count) 0))
 
 set_zeros : (p x : ℕ) (r : List ℕ) → set (replicate (suc p) 0 ++ r) p x ≡ replicate p 0 ++ (x ∷ r)
 set_zeros zero x r = refl
@@ -90,46 +84,33 @@ all_moved bytes count h g m =
     let p = heads (rw (sub-zero count) at m.1.1 ∙ ap (λ (r : List ℕ). r ++ replicate (17 - count) 0) (oldest_first bytes count (λ q. omega (arith, q)))) in
     (p.0, ap (λ (r : List ℕ). record { bytes = r; count = count - 1; others = 0 }) (m.1.0 ∙ p.1) ∙ kept_padded l (length_bytes bytes 1 (count - 1)) g h)
 
-abbrev invariant-loop : tie.invariant-loop
-invariant-loop bytes count behind₀ oldest₀ place₀ behind oldest place = Moved bytes count behind oldest place × (place ≤ count)
+pub loop-place-init : goal.loop-place-init
+loop-place-init c = (none_moved c.args.waiting.bytes c.args.waiting.count c.requires.0, omega arith)
 
-abbrev decreases-loop : tie.decreases-loop
-decreases-loop bytes count behind₀ oldest₀ place₀ behind oldest place = place
+pub overflow_sub-place : goal.overflow_sub-place
+overflow_sub-place c = omega (arith, c.loop-place-test.true)
 
-loop-holds : tie.Need-loop-init invariant-loop decreases-loop
-loop-holds c = (none_moved c.before.args.waiting.bytes c.before.args.waiting.count c.before.requires.0, omega arith)
+pub bounds-behind-place : goal.bounds-behind-place
+bounds-behind-place c = omega (arith, c.loop-place-test.true, c.loop-place.invariant.1, c.requires.0)
 
-sub-place : tie.Need-overflow-sub-place invariant-loop decreases-loop
-sub-place c = omega (arith, c.loop-test.true)
+pub bounds-bytes-place : goal.bounds-bytes-place
+bounds-bytes-place c = omega (arith, c.loop-place-test.true, c.loop-place.invariant.1, c.requires.0)
 
-in-places : tie.Need-array-write-behind invariant-loop decreases-loop
-in-places c = omega (arith, c.loop-test.true, c.before.loop.invariant.1, c.before.before.before.requires.0)
+pub loop-place-smaller : goal.loop-place-smaller
+loop-place-smaller c = omega (arith, c.loop-place-test.true)
 
-in-places-2 : tie.Need-array-read-oldest invariant-loop decreases-loop
-in-places-2 c = omega (arith, c.loop-test.true, c.before.loop.invariant.1, c.before.before.before.requires.0)
+pub loop-place-preserved : goal.loop-place-preserved
+loop-place-preserved c =
+    let w = c.args.waiting in
+    let inv = c.loop-place.invariant in
+    (moved_one w.bytes w.count c.loop-place.place (omega (arith, c.loop-place-test.true)) inv.1 inv.0, omega (arith, inv.1))
 
-loop-less : tie.Need-loop-smaller invariant-loop decreases-loop
-loop-less c = omega (arith, c.loop-test.true)
+pub overflow_sub-result : goal.overflow_sub-result
+overflow_sub-result c = omega (arith, c.requires.1)
 
-loop-again : tie.Need-loop-preserved invariant-loop decreases-loop
-loop-again c =
-    let w = c.before.before.before.args.waiting in
-    let inv = c.before.loop.invariant in
-    (moved_one w.bytes w.count c.before.loop.place (omega (arith, c.loop-test.true)) inv.1 inv.0, omega (arith, inv.1))
-
-sub-t14 : tie.Need-overflow-sub-t14 invariant-loop decreases-loop
-sub-t14 c = omega (arith, c.before.before.before.requires.1)
-
-returns : tie.Need-returns invariant-loop decreases-loop
+pub returns : goal.returns
 returns c =
-    let start = c.before.before.before in
-    let w = start.args.waiting in
-    let inv = c.before.loop.invariant in
-    let z : c.before.loop.place ≡ 0 = omega (arith, c.loop-test.false) in
-    all_moved w.bytes w.count (omega (arith, start.requires.1)) start.requires.0 (rw z at inv.0)
-
-pub take_oldest_spec : {M : Type 1} → statement M
-take_oldest_spec =
-    tie.close
-    (tie.spec
-    invariant-loop decreases-loop (λ c. search rules) loop-holds sub-place in-places in-places-2 loop-less loop-again sub-t14 returns)
+    let w = c.args.waiting in
+    let inv = c.loop-place.invariant in
+    let z : c.loop-place.place ≡ 0 = omega (arith, c.loop-place-test.false) in
+    all_moved w.bytes w.count (omega (arith, c.requires.1)) c.requires.0 (rw z at inv.0)

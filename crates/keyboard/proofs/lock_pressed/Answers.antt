@@ -1,0 +1,65 @@
+-- `keyboard::lock_pressed` meets its contract: the lamp exchange, then the event; a lack of a byte or room ends both.
+-- Assumes nothing.
+use native.Mathlib.Omega.{arith}
+use mathlib.Core.Path.{◌≡◌, refl, ap, ◌∙◌}
+use Rattle.ps2_answers.specs.Refusals.{refused, said_done}
+use Rattle.keyboard_scancodes.specs.declared.Profile.{Profile}
+use Rattle.keyboard.specs.KeyboardLamps.{port_rules}
+use Rattle.keyboard.proofs.Bounds.{lamps_within}
+use Rattle.keyboard.proofs.Outcomes.{gives_back, lamps_answer, lamps_lack}
+use Rattle.keyboard.proofs.lock_pressed.Goals as goal
+use Rattle.keyboard.proofs.lock_pressed.Goals.{After-set_port_led_onto-lit}
+
+-- both bytes were acknowledged at once
+pub returns-then-at_once-ne0 : goal.returns-then-at_once-ne0
+returns-then-at_once-ne0 c =
+    let a = c.args in
+    record {
+      at = λ rest is few.
+          gives_back a.keyboard _ _ _
+          (lamps_answer (port_rules Profile.Any a.port) a.keyboard a.scan_code a.modifiers.bits rest _ _ c.requires c.leds-lamps.ensures
+          (lamps_within a.port _) (omega (arith, few)) is (c.set_port_led_at_once-at_once.ensures.plays c.if-at_once-ne0.true a.kept)
+          refl)
+          c.after_lamps.ensures;
+    }
+
+-- otherwise the log is as it was
+module _ (c : After-set_port_led_onto-lit) where
+  unlit : c.set_port_led_at_once-at_once.new.log ≡ c.args.log.now
+  unlit = c.set_port_led_at_once-at_once.ensures.undone c.if-at_once-ne0.false
+
+pub returns-in-Done : goal.returns-in-Done
+returns-in-Done c =
+    let a = c.args in
+    record {
+      at = λ rest is few.
+          gives_back a.keyboard _ _ _
+          (lamps_answer (port_rules Profile.Any a.port) a.keyboard a.scan_code a.modifiers.bits rest _ _ c.requires c.leds-lamps.ensures
+          (lamps_within a.port _) (omega (arith, few)) is (rw (unlit (goal.at.returns-in-Done c).After-set_port_led_onto-lit) at c.set_port_led_onto-lit.ensures)
+          (ap said_done c.in-Done.is))
+          c.after_lamps-in-Done.ensures;
+    }
+
+pub returns-in-Lacking : goal.returns-in-Lacking
+returns-in-Lacking c =
+    let a = c.args in
+    record {
+      at = λ rest is few.
+          gives_back a.keyboard _ _ _
+          (lamps_lack (port_rules Profile.Any a.port) a.keyboard a.scan_code a.modifiers.bits rest _ _ c.requires c.leds-lamps.ensures
+          (lamps_within a.port _) (omega (arith, few)) is (rw (unlit (goal.at.returns-in-Lacking c).After-set_port_led_onto-lit) at c.set_port_led_onto-lit.ensures)
+          (ap said_done c.in-Refused.is ∙ ap refused c.in-Lacking.is))
+          refl;
+    }
+
+pub returns-in-Failed : goal.returns-in-Failed
+returns-in-Failed c =
+    let a = c.args in
+    record {
+      at = λ rest is few.
+          gives_back a.keyboard _ _ _
+          (lamps_answer (port_rules Profile.Any a.port) a.keyboard a.scan_code a.modifiers.bits rest _ _ c.requires c.leds-lamps.ensures
+          (lamps_within a.port _) (omega (arith, few)) is (rw (unlit (goal.at.returns-in-Failed c).After-set_port_led_onto-lit) at c.set_port_led_onto-lit.ensures)
+          (ap said_done c.in-Refused.is ∙ ap refused c.in-Failed.is))
+          c.after_lamps-in-Failed.ensures;
+    }
