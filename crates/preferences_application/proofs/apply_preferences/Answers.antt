@@ -1,0 +1,15 @@
+-- `preferences_application::apply_preferences` meets its contract: what is asked first is whether the fields are within their values.
+-- Assumes nothing.
+use mathlib.Core.Path.{◌∙◌, sym}
+use Rattle.preferences_application.proofs.Outside.{plays_within, plays_outside}
+use Rattle.preferences_application.proofs.apply_preferences.Goals as goal
+
+pub apply_within-requires : goal.apply_within-requires
+apply_within-requires c = sym c.within_values.ensures ∙ c.if-within_values.true
+
+pub returns-then-within_values : goal.returns-then-within_values
+returns-then-within_values c =
+    plays_within c.args.preferences _ _ (sym c.within_values.ensures ∙ c.if-within_values.true) c.apply_within.ensures
+
+pub returns-else-within_values : goal.returns-else-within_values
+returns-else-within_values c = sym (plays_outside c.args.preferences (sym c.within_values.ensures ∙ c.if-within_values.false) _ _)
