@@ -1,0 +1,13 @@
+-- `handler_words::action_in` meets its contract.
+-- Assumes nothing.
+use borrow.Author.Tests.{eq-eqb, ne_eqb}
+use Rattle.handler_words.specs.Words.{event_at}
+use Rattle.handler_words.proofs.action_in.Goals as goal
+
+pub returns-then-word-eq0 : goal.returns-then-word-eq0
+unfolding event_at
+returns-then-word-eq0 c = rw (eq-eqb _ 0 c.if-word-eq0.true)
+
+pub returns-else-word-eq0 : goal.returns-else-word-eq0
+unfolding event_at
+returns-else-word-eq0 c = rw (ne_eqb _ 0 c.if-word-eq0.false)

@@ -1,0 +1,38 @@
+-- `handler_words::handle_key` meets its contract: 21, or the byte is followed and its event queued.
+-- Assumes nothing.
+use mathlib.Core.Bool.{not, true}
+use mathlib.Core.Path.{ap, ◌≡◌, sym, ◌∙◌}
+use borrow.Author.Tests.{not-true, not-false}
+use Rattle.keyboard_record.specs.Record.{call_formed}
+use Rattle.keyboard_record.proofs.AtSides.{table_with, start_with, count_with}
+use Rattle.keyboard_record.proofs.WellFormed.{call_is}
+use Rattle.handler_words.specs.Words.{state_of}
+use Rattle.handler_words.proofs.Alone.{malformed_alone, handled_alone}
+use Rattle.handler_words.proofs.handle_key.Goals as goal
+use Rattle.handler_words.proofs.handle_key.Goals.{Else-not-call_formed}
+
+pub returns-then-not-call_formed : goal.returns-then-not-call_formed
+returns-then-not-call_formed c =
+    let a = c.args in
+    malformed_alone a.side a.words.now a.script.now (rw c.state_in-state.ensures at (sym c.call_formed.ensures ∙ not-true _ (ap not c.if-not-call_formed.true))) c.refused.ensures
+
+-- past the first question the record is well formed
+well : (c : Else-not-call_formed) → let a = c.args in call_formed a.side (state_of a.words.now) ≡ true
+well c = rw c.state_in-state.ensures at (sym c.call_formed.ensures ∙ not-false _ (ap not c.if-not-call_formed.false))
+
+pub queue_key-requires : goal.queue_key-requires
+queue_key-requires c =
+    let a = c.args in
+    let s = state_of a.words.now in
+    let t = c.state_in-state.ensures in
+    let w = (call_is a.side s (well (goal.at.queue_key-requires c).Else-not-call_formed)).1 in
+    (c.put_keyboard.auto.words ∙ c.requires.0, (rw (c.with_keyboard-left.ensures, t, start_with a.side _ s) w.start_in, rw (c.with_keyboard-left.ensures, t, count_with a.side _ s) w.count_in), rw (c.with_keyboard-left.ensures, t, table_with a.side _ s) c.requires.1.taken.any_key)
+
+pub returns : goal.returns
+returns c =
+    let a = c.args in
+    let t = c.state_in-state.ensures in
+    let flags = rw (c.keyboard_at.ensures, t) at c.modifiers_after-modifiers.ensures in
+    let g = c.followed-keyboard.ensures in
+    rw c.byte_used.ensures
+    (handled_alone a.side a.words.now a.script.now c.requires.0 (well (goal.at.returns c).Else-not-call_formed) c.requires.1 flags c.keyboard_at-2.ensures.0 g c.put_keyboard.ensures (rw (t, g) at c.with_keyboard-left.ensures) c.queue_key.ensures)
