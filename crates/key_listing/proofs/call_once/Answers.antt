@@ -1,6 +1,5 @@
 -- `key_listing::call_once` meets its contract: the call, the taking, the bytes that are left, then the lines of both.
 -- Assumes nothing.
-use borrow.Author.Rules.{rules}
 use mathlib.Core.Path.{sym, ap, ◌∙◌}
 use mathlib.Core.Option.{Option}
 use native.Mathlib.Omega.{arith}
@@ -16,46 +15,26 @@ use Rattle.keyboard_record.specs.Taking.{taken}
 use Rattle.key_listing.specs.Listing.{record_after}
 use Rattle.buffer.proofs.Buffer.{put_then}
 use Rattle.key_listing.proofs.Calls.{call_used-le, call_text_lem}
-use Rattle.key_listing.proofs.call_once.Statement.{statement}
-use Rattle.key_listing.proofs.call_once.Tie as tie
+use Rattle.key_listing.proofs.call_once.Goals as goal
 
-sub-bytes-left : tie.Need-overflow-sub-bytes-left
-sub-bytes-left c =
-    let called = c.before.before.before.before.before.handle.ensures.0 in
+pub overflow_sub-bytes_left : goal.overflow_sub-bytes_left
+overflow_sub-bytes_left c =
+    let called = c.handle-call.ensures.0 in
     rw (ap (λ (r : Called). r.used) called) (call_used-le _ _)
 
 -- a script's length leaves room for as many as can wait
-add-bytes-left : tie.Need-overflow-add-bytes-left
-add-bytes-left c = omega (arith, c.before.before.before.before.before.before.before.before.before.well-formed, c.struct_known.given)
+pub overflow_add-bytes_left : goal.overflow_add-bytes_left
+overflow_add-bytes_left c = omega (arith, c.well_formed, c.struct_known-1.given)
 
-returns : tie.Need-returns
+pub returns : goal.returns
 unfolding record_after
 returns c =
-    let told = c.before.before.before in
-    let refused = told.before.before.before.before in
-    let taking = refused.before.before.before.before in
-    let called = taking.before.before.before.handle.ensures.0 in
-    let took = taking.take-event.ensures ∙ ap (λ (r : Called). taken r.handler) called in (
-      c.is_last.ensures ∙ ap (λ (r : Called). ends2_3_21 r.end) called,
+    let called = c.handle-call.ensures.0 in
+    let took = c.take_event-taken.ensures ∙ ap (λ (r : Called). taken r.handler) called in (
+      c.is_last-last.ensures ∙ ap (λ (r : Called). ends2_3_21 r.end) called,
       ap (λ (r : Called). r.used) called,
       rw (ap (λ (r : Called). r.used) called, length-drop, ap (λ (t : Left KeyboardHandler (Option (Sided KeyEvent))). t.now.state.first.waiting.count) took),
       ap (λ (t : Left KeyboardHandler (Option (Sided KeyEvent))). t.now) took,
       rw (call_text_lem _ _ (sym (ap (λ (r : Called). number_ended r.end) called)) (sym (ap (λ (t : Left KeyboardHandler (Option (Sided KeyEvent))). t.answer) took)))
-          (put_then _ _ _ refused.put-refusal.ensures told.put-taken.ensures),
+          (put_then _ _ _ c.put_refusal-refused.ensures c.put_taken-listed.ensures),
     )
-
-pub call_once_spec : {M : Type 1} → statement M
-call_once_spec =
-    tie.close
-    (tie.spec
-    (λ c. search rules)
-    (λ c κs. search rules)
-    (λ c κs. search rules)
-    (λ c. search rules)
-    sub-bytes-left
-    add-bytes-left
-    (λ c κs. search rules)
-    (λ c κs. search rules)
-    (λ c κs. search rules)
-    (λ c. search rules)
-    returns)
