@@ -1,0 +1,14 @@
+-- `keyboard_calls::keyboard_calls_in_place` meets its contract: after i turns the record and the log are what i calls leave.
+-- Assumes nothing.
+use Prim.Native.Nat.{◌-◌}
+use Rattle.keyboard_record.specs.Record.{fresh}
+use Rattle.keyboard_sides.specs.Sides.{side_of}
+use Rattle.keyboard_calls.specs.Calls.{table_of}
+use Rattle.keyboard_calls.proofs.Calls.{Reached}
+use Rattle.keyboard_calls.proofs.keyboard_calls_in_place.Given as goal
+
+abbrev pub invariant-loop-i : goal.invariant-loop-i
+invariant-loop-i l = Reached (side_of l.second) l.script (fresh (table_of l.two)) l.initial.log l.times l.handler l.log l.i
+
+abbrev pub decreases-loop-i : goal.decreases-loop-i
+decreases-loop-i l = l.times - l.i

@@ -1,0 +1,14 @@
+-- `keyboard_calls::keyboard_calls_on_state` meets its contract: after i turns the state and the log are what i calls leave.
+-- Assumes nothing.
+use Prim.Native.Nat.{◌-◌}
+use Rattle.keyboard_record.specs.Record.{fresh}
+use Rattle.keyboard_sides.specs.Sides.{side_of}
+use Rattle.keyboard_calls.specs.Calls.{table_of}
+use Rattle.keyboard_calls.proofs.Calls.{StateReached}
+use Rattle.keyboard_calls.proofs.keyboard_calls_on_state.Given as goal
+
+abbrev pub invariant-loop-i : goal.invariant-loop-i
+invariant-loop-i l = StateReached (side_of l.second) l.script (fresh (table_of l.two)) l.initial.log l.times l.state l.log l.i
+
+abbrev pub decreases-loop-i : goal.decreases-loop-i
+decreases-loop-i l = l.times - l.i
