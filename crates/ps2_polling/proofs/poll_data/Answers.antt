@@ -43,20 +43,18 @@ unfolding poll read_status bind
 returns-in-Byte c =
     let status_register = c.status_register-s.ensures in
     let output_buffer_full' = c.output_buffer_full.ensures in
-    let if1 = c.if-output_buffer_full.true in
     let read_data = c.read_data-d.ensures in
     reads_yields read_status (on_answer on_status) _ status_register (ap said_status c.in-Status.is) {w₂ = 0}
-    (rw (seen _ _ true output_buffer_full' if1) (read_turn (λ b. found (gives b)) c.in-Byte.is _ read_data))
+    (rw (seen _ _ true output_buffer_full' c.if-output_buffer_full.true) (read_turn (λ b. found (gives b)) c.in-Byte.is _ read_data))
 
 pub returns-in-Refused-byte : goal.returns-in-Refused-byte
 unfolding poll read_status bind
 returns-in-Refused-byte c =
     let status_register = c.status_register-s.ensures in
     let output_buffer_full' = c.output_buffer_full.ensures in
-    let if1 = c.if-output_buffer_full.true in
     let read_data = c.read_data-d.ensures in
     reads_yields read_status (on_answer on_status) _ status_register (ap said_status c.in-Status.is) {w₂ = 0}
-    (rw (seen _ _ true output_buffer_full' if1) (read_turn (λ b. found (gives b)) c.in-Refused-byte.is _ read_data))
+    (rw (seen _ _ true output_buffer_full' c.if-output_buffer_full.true) (read_turn (λ b. found (gives b)) c.in-Refused-byte.is _ read_data))
 
 pub returns-else-output_buffer_full : goal.returns-else-output_buffer_full
 unfolding poll read_status bind
