@@ -1,9 +1,9 @@
 -- `report_totals::tally_presses` meets its contract: up to each place the presses are counted.
 -- Assumes nothing.
 use native.Mathlib.Omega.{arith}
+use Rattle.std.proofs.Common.{rules}
 use Rattle.report_totals.proofs.Presses.{counting_begins, counting_fits, counting_press, counting_other, counting_ends}
 use Rattle.report_totals.proofs.tally_presses.Goals as goal
-use Rattle.report_totals.proofs.tally_presses.Goals.{else-key-lt-KEYS, then-key-lt-KEYS}
 
 pub loop-i-init : goal.loop-i-init
 loop-i-init c = counting_begins _
@@ -13,13 +13,7 @@ overflow_add-presses c =
     record { fits = omega (arith, counting_fits c.loop-i.invariant c.index-key.result c.if-key-lt-KEYS.true c.loop-i-test.true c.index-key.ensures, c.well_formed.0.0) }
 
 pub loop-i-preserved : goal.loop-i-preserved
-loop-i-preserved c =
-    let inv = c.loop-i.invariant in
-    let key = c.index-key.ensures in
-    elim c.if-key-lt-KEYS.branch [
-      | then-key-lt-KEYS w ↦ rw w.presses-is (counting_press inv c.index-key.result c.loop-i-test.true key w.if-key-lt-KEYS.true)
-      | else-key-lt-KEYS w ↦ rw w.presses-is (counting_other inv c.index-key.result c.loop-i-test.true key w.if-key-lt-KEYS.false)
-    ]
+loop-i-preserved c = search (rules, counting_press c.loop-i.invariant c.index-key.result c.loop-i-test.true c.index-key.ensures, counting_other c.loop-i.invariant c.index-key.result c.loop-i-test.true c.index-key.ensures)
 
 pub returns : goal.returns
 returns c = counting_ends c.loop-i.invariant c.loop-i-test.false
