@@ -1,0 +1,10 @@
+-- `replay_report::numbers::tell_totals` is safe and ends.
+-- Assumes nothing.
+use Prim.Native.Nat.{◌-◌, ◌≤◌}
+use Rattle.replay_report.proofs.numbers.tell_totals.Given as goal
+
+abbrev pub invariant-loop-i : goal.invariant-loop-i
+invariant-loop-i l = l.i ≤ 94
+
+abbrev pub decreases-loop-i : goal.decreases-loop-i
+decreases-loop-i l = 94 - l.i
