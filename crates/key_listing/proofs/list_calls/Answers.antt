@@ -19,21 +19,18 @@ shape_of-out-then-call c =
 
 pub returns-then-call : goal.returns-then-call
 returns-then-call c =
-    let l = c.loop-left in
     let e = c.call_once-call.ensures in
-    sym (l.invariant.3 ∙ turn_last c.args.script.now l.handler l.used (rw (← l.invariant.2) c.loop-left-test.true) (place l.at l.out) e.4 (sym e.0 ∙ c.if-call.true))
+    sym (c.loop-left.invariant.3 ∙ turn_last c.args.script.now c.loop-left.handler c.loop-left.used (rw (← c.loop-left.invariant.2) c.loop-left-test.true) (place c.loop-left.at c.loop-left.out) e.4 (sym e.0 ∙ c.if-call.true))
 
 -- ---- a call that another follows
 
 pub overflow_add-used : goal.overflow_add-used
 overflow_add-used c =
-    let l = c.loop-left in
-    omega (arith, c.call_once-call.ensures.1, turn_used c.args.script.now l.handler l.used (rw (← l.invariant.2) c.loop-left-test.true) l.invariant.0, c.well_formed)
+    omega (arith, c.call_once-call.ensures.1, turn_used c.args.script.now c.loop-left.handler c.loop-left.used (rw (← c.loop-left.invariant.2) c.loop-left-test.true) c.loop-left.invariant.0, c.well_formed)
 
 pub loop-left-smaller : goal.loop-left-smaller
 loop-left-smaller c =
-    let l = c.loop-left in
-    omega (arith, c.call_once-call.ensures.2, l.invariant.2, turn_fewer c.args.script.now l.handler l.used (rw (← l.invariant.2) c.loop-left-test.true) (sym c.call_once-call.ensures.0 ∙ c.if-call.false))
+    omega (arith, c.call_once-call.ensures.2, c.loop-left.invariant.2, turn_fewer c.args.script.now c.loop-left.handler c.loop-left.used (rw (← c.loop-left.invariant.2) c.loop-left-test.true) (sym c.call_once-call.ensures.0 ∙ c.if-call.false))
 
 pub loop-left-preserved : goal.loop-left-preserved
 loop-left-preserved c =
@@ -53,10 +50,9 @@ shape_of-out c = c.loop-left.invariant.1
 
 pub returns : goal.returns
 returns c =
-    let l = c.loop-left in
-    let rest = drop l.used c.args.script.now in
-    let none : bytes_left l.handler rest ≡ 0 = omega (arith, l.invariant.2, c.loop-left-test.false) in
-    sym (l.invariant.3 ∙ rw (calls_over (bytes_left l.handler rest) l.handler rest none) (put_none _))
+    let rest = drop c.loop-left.used c.args.script.now in
+    let none : bytes_left c.loop-left.handler rest ≡ 0 = omega (arith, c.loop-left.invariant.2, c.loop-left-test.false) in
+    sym (c.loop-left.invariant.3 ∙ rw (calls_over (bytes_left c.loop-left.handler rest) c.loop-left.handler rest none) (put_none _))
 
 pub slice_bounds-call_once-count : goal.slice_bounds-call_once-count
 slice_bounds-call_once-count c = omega (arith, c.loop-left.invariant.0)
