@@ -2,7 +2,7 @@
 
    An operation touches no port: it is lent the bytes that reads gave, and writes into a log. Run on the bytes read so far it writes nothing
    that the whole run would not have written in that place, and where they are not enough it names the port that the whole run reads next
-   (`so-far`, docs/CUT-SCRIPTS.md). So the writes that are new can be made, that port read, and the operation run again. After 2 a record is
+   (`so_far`, docs/CUT-SCRIPTS.md). So the writes that are new can be made, that port read, and the operation run again. After 2 a record is
    as it was passed, and can be lent again.
 
    The ports here are those of a keyboard that is made up; main prints what is read and written. */

@@ -6,11 +6,11 @@
 //!
 //! That this is sound is proved, of every operation, with any script and log (docs/CUT-SCRIPTS.md of the repository):
 //!
-//! - `so-far` (crates/cut_scripts/proofs/SoFar.antt): run on the bytes read so far, it writes no pair that the run on all bytes would not
+//! - `so_far` (crates/cut_scripts/proofs/SoFar.antt): run on the bytes read so far, it writes no pair that the run on all bytes would not
 //!   have written in that place. Where the bytes are not enough, the lack names the port that the whole run reads next; where they are, it
-//!   has ended as the whole run ends. The law behind it is `play-cut` (crates/exchange/proofs/Cut.antt).
-//! - `cut-short` (crates/cut_scripts/proofs/CutShort.antt) carries it to all that a call hands back: after 2 a record is as passed in.
-//! - `with-room` (crates/cut_scripts/proofs/Room.antt): in a log with more room the same pairs come first.
+//!   has ended as the whole run ends. The law behind it is `play_cut` (crates/exchange/proofs/Cut.antt).
+//! - `cut_short` (crates/cut_scripts/proofs/CutShort.antt) carries it to all that a call hands back: after 2 a record is as passed in.
+//! - `with_room` (crates/cut_scripts/proofs/Room.antt): in a log with more room the same pairs come first.
 //!
 //! So the device sees the reads and writes of one uncut run, each once and in its place.
 
@@ -95,7 +95,7 @@ pub fn drive<R: Outcome>(ports: &mut impl Ports, mut operation: impl FnMut(&[u8]
         let outcome = so_far.on(ports, &mut script, &mut log, &mut operation);
         match outcome.refusal() {
             Some(Refusal::ScriptEnds(_)) => script.resize(2 * script.len(), 0),
-            // `with-room`: the pairs that were written are the first ones in a longer log too.
+            // `with_room`: the pairs that were written are the first ones in a longer log too.
             Some(Refusal::LogFull) => log.resize(2 * log.len(), 0),
             _ => {
                 script.truncate(so_far.read);
@@ -138,14 +138,14 @@ impl SoFar {
     ) -> R {
         loop {
             let outcome = operation(&script[..self.read], log);
-            // `so-far`: what was written is the first of these pairs, so those behind it are new; and the whole run writes each of them
+            // `so_far`: what was written is the first of these pairs, so those behind it are new; and the whole run writes each of them
             // before it reads another byte.
             for pair in log[2 * self.written..2 * outcome.pairs()].chunks_exact(2) {
                 ports.write(if pair[0] == Port::Data.number() { Port::Data } else { Port::Status }, pair[1]);
             }
             self.written = outcome.pairs();
             match outcome.lacks() {
-                // `so-far`: this is the port that the whole run reads next.
+                // `so_far`: this is the port that the whole run reads next.
                 Some(port) if self.read < script.len() => script[self.read] = ports.read(port),
                 _ => return outcome,
             }

@@ -105,7 +105,7 @@ pub(crate) fn handled(answer: raw::vd_handled) -> Result<Handled, Refused<Handle
 // So the first sixteen numbers, of which every call writes some, lie on one page: docs/PERFORMANCE.md.
 #[repr(align(128))]
 pub struct Handler {
-    /// Well formed: it was made fresh (`fresh-well`) or tested, and every call leaves it so (`well-handled`, `well-taken`).
+    /// Well formed: it was made fresh (`fresh_well`) or tested, and every call leaves it so (`well_handled`, `well_taken`).
     words: [u64; HANDLER_WORDS],
 }
 
@@ -128,7 +128,7 @@ impl Handler {
     /// assert_eq!(Handler::from_words([u64::MAX; HANDLER_WORDS]), Err(Refusal::MalformedRecord));
     /// ```
     pub fn from_words(words: [u64; HANDLER_WORDS]) -> Result<Handler, Refusal> {
-        // A taking is refused exactly where the record is malformed (`taken-number`); this one is from a copy.
+        // A taking is refused exactly where the record is malformed (`taken_number`); this one is from a copy.
         let mut tried = words;
         match Refusal::answered(raw::vd_take(&mut tried).refusal, 0) {
             None => Ok(Handler { words }),
