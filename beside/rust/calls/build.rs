@@ -1,4 +1,4 @@
-//! Links the port's proved library, which `rt staticlib keyboard_calls` makes.
+//! Links the port's proved library, which `tools/built keyboard_calls` makes.
 
 fn main() {
     let folder = concat!(env!("CARGO_MANIFEST_DIR"), "/../../../target/staticlib");

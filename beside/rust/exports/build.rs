@@ -1,4 +1,4 @@
-//! Links the port's proved library, which `rt staticlib vurdellow` makes.
+//! Links the port's proved library, which `tools/built vurdellow` makes.
 
 fn main() {
     let folder = concat!(env!("CARGO_MANIFEST_DIR"), "/../../../target/staticlib");

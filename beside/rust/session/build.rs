@@ -1,4 +1,4 @@
-//! Links the port's proved library, which `rt staticlib report_calls` makes.
+//! Links the port's proved library, which `tools/built report_calls` makes.
 
 fn main() {
     let folder = concat!(env!("CARGO_MANIFEST_DIR"), "/../../../target/staticlib");

@@ -1,4 +1,4 @@
-//! Links the port's proved library, which `rt staticlib dispatcher_calls` makes.
+//! Links the port's proved library, which `tools/built dispatcher_calls` makes.
 
 fn main() {
     let folder = concat!(env!("CARGO_MANIFEST_DIR"), "/../../../target/staticlib");
