@@ -23,7 +23,7 @@
 //! # Ok::<(), vurdellow::Refused<vurdellow::Handled>>(())
 //! ```
 //!
-//! The library (`libvurdellow.a`, for x86-64 Linux) is built by the repository's `./build-lib`; the build script finds it there, or where
+//! The library (`libvurdellow.a`, for Linux on x86-64-v2) is built by the repository's `./build-lib`; the build script finds it there, or where
 //! the variable `VURDELLOW_LIB` says.
 
 #![cfg_attr(not(feature = "std"), no_std)]
