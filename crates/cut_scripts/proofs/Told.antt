@@ -6,7 +6,6 @@ use mathlib.Core.Option.{Option, none, some}
 use mathlib.Core.Path.{◌≡◌, refl}
 use lib.ListN.{take}
 use Rattle.exchange.specs.Exchange.{Exchange, End, play}
-use Rattle.exchange.specs.Answer.{Answer}
 use Rattle.ps2_init.specs.declared.PS2Controller.{PS2Controller}
 use Rattle.port_words.specs.Told.{told}
 use Rattle.port_words.specs.ToldKept.{told_kept}

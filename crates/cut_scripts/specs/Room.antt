@@ -1,7 +1,7 @@
 -- A log with more room: an operation that found none for a write is run again, on the same script.
 -- Assumes nothing.
 use Rattle.std.specs.Prelude.{ℕ, List, ◌++◌, ◌≡◌}
-use Rattle.exchange.specs.Exchange.{Exchange, no_log, lacks, Played, played, play}
+use Rattle.exchange.specs.Exchange.{Exchange, no_log, lacks, played, play}
 use Rattle.cut_scripts.specs.SoFar.{WroteFirst}
 
 -- The operation with this log, and with one that has more bytes behind it. What is written with the shorter is written with the longer, in that place. Where it was not room that it lacked (3), the rest is the same: the end, the counts, and the log, with the further bytes as they were.

@@ -1,10 +1,9 @@
 -- The packets that steps read of one script are that script, cut into packets.
 -- Assumes nothing.
-use mathlib.Core.Bool.{true}
 use mathlib.Core.List.{List, [], ◌∷◌, ◌++◌, append_assoc}
 use mathlib.Core.Option.{Option, none, some}
 use mathlib.Core.Path.{◌≡◌, refl, sym, ap, subst, ◌∙◌}
-use Prim.Native.Nat.{ℕ, ◌+◌, ◌≤◌}
+use Prim.Native.Nat.{ℕ, ◌≤◌}
 use native.Mathlib.Omega.{arith}
 use lib.ListN.{length, drop}
 use lib.Seq.{drop-drop}
@@ -23,7 +22,7 @@ use Rattle.dispatcher.specs.declared.Dispatcher.{Dispatcher}
 use Rattle.dispatcher.specs.declared.Source.{Source}
 use Rattle.dispatcher.specs.Turns.{served}
 use Rattle.dispatcher.specs.Sources.{Scripts, unused, bytes_of, waits_now}
-use Rattle.dispatcher.specs.Step.{packet_read, packet_answered, packet, Service, serve_mouse, serve_keyboard, serve, Stepped, step_of}
+use Rattle.dispatcher.specs.Step.{packet_read, packet_answered, packet, serve_mouse, serve_keyboard, serve, Stepped, step_of}
 use Rattle.dispatcher.specs.Runs.{Move, stepping, taking, packets_in, moved, moved_by, packets_read, OneMouseScript, no_steps, next_lent}
 use Rattle.dispatcher.specs.Packets.{cut}
 use Rattle.dispatcher.proofs.Turns.{served_waits}

@@ -11,7 +11,6 @@ use Rattle.exchange.specs.Exchange.{Exchange}
 use Rattle.exchange.specs.Answer.{Answer}
 use Rattle.keyboard_sides.specs.declared.Side.{Side}
 use Rattle.dispatcher.specs.declared.Dispatcher.{Dispatcher}
-use Rattle.dispatcher.specs.declared.LastServed.{LastServed}
 use Rattle.dispatcher.specs.declared.Source.{Source}
 use Rattle.dispatcher.specs.Turns.{next, asked_first}
 use Rattle.dispatcher.specs.Sources.{Scripts, waits_now}

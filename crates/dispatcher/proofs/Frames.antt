@@ -12,7 +12,6 @@ use Rattle.exchange.specs.Answer.{Answer}
 use Rattle.exchange.proofs.Kept.{used_le}
 use Rattle.ps2_packet_reading.specs.Reading.{read_signed_packet}
 use Rattle.keyboard_sides.specs.declared.Side.{Side}
-use Rattle.keyboard_sides.specs.Sides.{same_side}
 use Rattle.keyboard_record.specs.declared.Keyboards.{Keyboards}
 use Rattle.keyboard_record.specs.Record.{keyboard_at, call_formed}
 use Rattle.keyboard.specs.Handler.{Called, handled}

@@ -11,7 +11,7 @@ use Rattle.dispatcher.specs.declared.Dispatcher.{Dispatcher}
 use Rattle.dispatcher.specs.declared.Source.{Source}
 use Rattle.dispatcher.specs.Turns.{next}
 use Rattle.dispatcher.specs.Sources.{Scripts, waits_now}
-use Rattle.dispatcher.specs.Step.{Service, keyed, packet, idle, PacketAnswered, with_handler, step_of}
+use Rattle.dispatcher.specs.Step.{Service, keyed, packet, idle, with_handler, step_of}
 
 -- What is done with a dispatcher: a step, with the scripts and the log that it is lent, or a taking from the handler's queue.
 pub data Move : Type 0 where

@@ -1,10 +1,9 @@
 -- The history rule through the dispatcher, for every lamp exchange, and for the keyboards' own.
 -- Assumes nothing.
-use mathlib.Core.Bool.{Bool}
 use mathlib.Core.List.{List}
 use mathlib.Core.Option.{Option, none, some}
 use mathlib.Core.Path.{◌≡◌, refl, sym, ap, ap₂, ◌∙◌}
-use Prim.Native.Nat.{ℕ, ◌+◌}
+use Prim.Native.Nat.{ℕ}
 use lib.ListN.{length}
 use borrow.Author.Tests.{leb-true}
 use Rattle.exchange.specs.Exchange.{Exchange, End, Played}
@@ -16,21 +15,19 @@ use Rattle.keycodes_ascii.specs.declared.KeyEvent.{KeyEvent}
 use Rattle.keyboard_scancodes.proofs.Waiting.{length_bytes}
 use Rattle.keyboard_sides.specs.declared.Side.{Side}
 use Rattle.keyboard_sides.specs.Named.{Sided}
-use Rattle.keyboard_record.specs.declared.KeyboardHandler.{KeyboardHandler}
 use Rattle.keyboard_record.specs.declared.Table.{Table}
 use Rattle.keyboard_record.specs.Record.{keyboard_at}
 use Rattle.keyboard_record.specs.Taking.{taken}
 use Rattle.keyboard.specs.KeyboardLamps.{keyboard_lamps}
 use Rattle.keyboard_history.specs.Past.{Past, nothing, ◌▸◌}
-use Rattle.keyboard_history.specs.Counted.{Call, waits_of}
+use Rattle.keyboard_history.specs.Counted.{waits_of}
 use Rattle.keyboard_history.specs.Run.{leaves, after, answers, takings}
-use Rattle.keyboard_history.specs.History.{History}
 use Rattle.keyboard_history.proofs.History.{history}
 use Rattle.dispatcher.specs.declared.Dispatcher.{Dispatcher}
 use Rattle.dispatcher.specs.declared.Source.{Source}
 use Rattle.dispatcher.specs.Turns.{served}
-use Rattle.dispatcher.specs.Sources.{Scripts, script_of, keyboard_waits, waits_now}
-use Rattle.dispatcher.specs.Step.{Stepped, served_one, packet_read, serve_mouse, serve_keyboard, serve, step_of}
+use Rattle.dispatcher.specs.Sources.{Scripts, keyboard_waits, waits_now}
+use Rattle.dispatcher.specs.Step.{Stepped, served_one, serve_mouse, serve_keyboard, serve, step_of}
 use Rattle.dispatcher.specs.Runs.{Move, stepping, taking, moved}
 use Rattle.dispatcher.proofs.Turns.{same_served, served_waits}
 use Rattle.dispatcher.proofs.Cut.{First, first_packet}

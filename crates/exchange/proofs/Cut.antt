@@ -5,7 +5,7 @@ use native.Mathlib.Nat.{le_refl}
 use native.Mathlib.Omega.{arith}
 use mathlib.Core.List.{List, [], ◌∷◌}
 use mathlib.Core.Path.{refl, ap}
-use lib.ListN.{take, get_or}
+use lib.ListN.{take}
 use Rattle.exchange.specs.Exchange.{Port, number, Exchange, done, read, write, no_script, no_log, yields, lacks, Played, played, after_read, after_write, play}
 use Rattle.exchange.specs.Trace.{ports_read, accesses}
 use Rattle.exchange.specs.Cut.{Cut}

@@ -1,7 +1,7 @@
 -- A note of the bytes that are read adds no read and no write.
 -- Assumes nothing.
 use Prim.Native.Nat.{ℕ}
-use Rattle.exchange.specs.Exchange.{Exchange, done}
+use Rattle.exchange.specs.Exchange.{Exchange}
 use Rattle.exchange.specs.Attains.{Attains, attains_done, attains_read, attains_write}
 use Rattle.exchange.specs.Bounds.{Within, within_done, within_read, within_write}
 use Rattle.exchange.specs.Keeping.{kept, noted, keeping}

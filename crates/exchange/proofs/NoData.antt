@@ -2,7 +2,7 @@
 -- Assumes nothing.
 use Prim.Native.Nat.{ℕ, zero, suc}
 use mathlib.Core.Path.{◌≡◌, refl, ap, fun_ext}
-use Rattle.exchange.specs.Exchange.{p64, Exchange, done, read, write, bind}
+use Rattle.exchange.specs.Exchange.{p64, Exchange, read, write, bind}
 use Rattle.exchange.specs.Repeat.{Turn, found, again, turned, repeat}
 use Rattle.exchange.specs.Keeping.{keeping, NoData, no_data_done, no_data_read, no_data_write}
 

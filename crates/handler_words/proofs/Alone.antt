@@ -22,9 +22,8 @@ use Rattle.keyboard_scancodes.specs.declared.Profile.{Profile}
 use Rattle.keyboard_scancodes.specs.Events.{last_keycode, is_known, event_of}
 use Rattle.keyboard_scancodes.specs.FlagsAfter.{flags_after, flags_then}
 use Rattle.keyboard_scancodes.specs.Profile.{allows, followed, presses_followed}
-use Rattle.keyboard_scancodes.specs.Remembered.{keyboard_of}
 use Rattle.keyboard_scancodes.specs.Strokes.{low_part, is_press, stroke, is_silent}
-use Rattle.keyboard_scancodes.specs.Waiting.{bytes_from, waiting_of}
+use Rattle.keyboard_scancodes.specs.Waiting.{bytes_from}
 use Rattle.keyboard_scancodes.proofs.Tests.{which}
 use Rattle.keyboard_sides.specs.declared.Side.{Side}
 use Rattle.keyboard_sides.specs.Sides.{with_side}

@@ -12,7 +12,7 @@ use lib.Dec.{eqb}
 use lib.ListN.{length, drop, length-append, length-take, length-drop}
 use lib.Seq.{drop-drop}
 use borrow.Author.Tests.{eq-eqb, ne_eqb, eqb-true, eqb-false}
-use Rattle.exchange.specs.Exchange.{Exchange, Played}
+use Rattle.exchange.specs.Exchange.{Played}
 use Rattle.exchange.specs.Parts.{part}
 use Rattle.exchange.proofs.Kept.{used_le}
 use Rattle.exchange.proofs.Parts.{part_drop}

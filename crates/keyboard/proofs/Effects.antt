@@ -1,7 +1,7 @@
 -- What a call makes of its keyboard's part, and what a call with a new event, or with none, makes of the places.
 -- Assumes nothing.
 use mathlib.Core.Path.{◌≡◌, refl, sym, ap, ◌∙◌}
-use mathlib.Core.Bool.{true, false}
+use mathlib.Core.Bool.{true}
 use mathlib.Core.List.{List}
 use mathlib.Core.Logic.{⊎_elim}
 use mathlib.Core.Option.{Option, none, some}
@@ -27,7 +27,7 @@ use Rattle.keyboard.specs.declared.NewEvent.{NewEvent}
 use Rattle.keyboard.specs.Answers.{no_event}
 use Rattle.keyboard.specs.KeyboardLamps.{port_of, port_rules, keyboard_lamps}
 use Rattle.keyboard.specs.Byte.{Keyed, KeyEffects, key_effects_by, key_call, key_effects}
-use Rattle.keyboard.specs.Handler.{Outcome, queued, after_byte, Effects, effects_by, Called, called_with, effects, log_left, handled}
+use Rattle.keyboard.specs.Handler.{Outcome, queued, after_byte, Effects, effects_by, called_with, effects, log_left, handled}
 use Rattle.keyboard.specs.Outcomes.{said_event, said_effect}
 use Rattle.keyboard.proofs.Calls.{key_play, formed_play}
 use Rattle.keyboard.proofs.Refused.{malformed_effects}

@@ -10,7 +10,7 @@ use lib.Dec.{leb}
 use lib.ListN.{length}
 use native.Mathlib.Omega.{arith}
 use Rattle.bits.specs.Bits.{weigh}
-use Rattle.exchange.specs.Exchange.{p60, p64, Exchange, read, write, bind, no_log, End, yields, lacks, told_end, Played, play}
+use Rattle.exchange.specs.Exchange.{p60, p64, Exchange, write, bind, no_log, End, yields, lacks, told_end, Played, play}
 use Rattle.exchange.specs.Answer.{Answer, gives, refuses, and_then, refusing_as, renumbered, on_given}
 use Rattle.exchange.specs.Keeping.{Kept, keeping}
 use Rattle.exchange.specs.Sends.{Sends, sends_done, sends_read, sends_write}

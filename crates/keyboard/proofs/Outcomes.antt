@@ -9,7 +9,7 @@ use Prim.Native.Nat.{ℕ, suc, ◌+◌, ◌-◌, ◌≤◌}
 use lib.ListN.{length, get_or}
 use native.Mathlib.Nat.{zero-add}
 use native.Mathlib.Omega.{arith}
-use Rattle.exchange.specs.Exchange.{p60, no_script, Lack, Exchange, done, read, bind, End, yields, lacks, Played, played, play, Reads}
+use Rattle.exchange.specs.Exchange.{p60, no_script, Lack, Exchange, done, bind, End, yields, lacks, Played, played, play, Reads}
 use Rattle.exchange.specs.Answer.{Answer, gives}
 use Rattle.exchange.specs.Bounds.{Within}
 use Rattle.exchange.specs.Keeping.{Kept, keeping, retold, kept_end}

@@ -23,8 +23,8 @@ use Rattle.keyboard.specs.Rules.{rules_at}
 use Rattle.keyboard.specs.Answers.{ends2_3_21}
 use Rattle.keyboard.specs.Scancode.{Took}
 use Rattle.keyboard.specs.Handler.{handle, Effects, effects, log_left, handled, end_outcome}
-use Rattle.keyboard.proofs.Queued.{KeyNumber, done_0, unknown_19, full_20, side_31, outside_33, queued_number, queued_number_lem, queued_kept}
-use Rattle.keyboard.proofs.Ways.{waits_after, Course, lacking, at_silent, at_key}
+use Rattle.keyboard.proofs.Queued.{KeyNumber, done_0, unknown_19, full_20, side_31, outside_33, queued_number_lem, queued_kept}
+use Rattle.keyboard.proofs.Ways.{waits_after, lacking, at_silent, at_key}
 use Rattle.keyboard.proofs.Calls.{call_end, call_scanned, malformed_play, CallCourse, malformed, formed, call_course}
 use Rattle.keyboard.proofs.Counted.{answer_end, queued_ends}
 

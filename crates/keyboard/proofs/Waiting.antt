@@ -1,13 +1,13 @@
 -- What a counted call leaves waiting, and how many bytes it drops: of those behind its byte and, after them, those that its lamp exchange threw away, the first 16 wait.
 -- Assumes nothing.
-use mathlib.Core.Path.{◌≡◌, refl, sym, ap, ◌∙◌}
-use mathlib.Core.Bool.{true, false}
-use mathlib.Core.List.{List, [], ◌∷◌, ◌++◌, append-nil}
+use mathlib.Core.Path.{◌≡◌, refl, sym, ◌∙◌}
+use mathlib.Core.Bool.{true}
+use mathlib.Core.List.{List, [], ◌∷◌, append-nil}
 use mathlib.Core.Option.{Option, none, some}
 use Prim.Native.Nat.{ℕ, ◌-◌, ◌≤◌}
 use native.Mathlib.Omega.{arith}
 use lib.ListN.{length, take}
-use Rattle.ps2_kept.specs.Kept.{kept_limit, kept_of}
+use Rattle.ps2_kept.specs.Kept.{kept_limit}
 use Rattle.keyboard_scancodes.specs.Strokes.{is_silent}
 use Rattle.keyboard_scancodes.specs.Waiting.{waiting_bytes}
 use Rattle.keyboard_scancodes.proofs.Silent.{silent_lock}

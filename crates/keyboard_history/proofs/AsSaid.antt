@@ -1,16 +1,16 @@
 -- A record that is as the counted bytes and waiting bytes of each side and a row of events say: a fresh one is, and each call leaves one, with the answers that they say.
 -- Assumes nothing.
-use mathlib.Core.Path.{◌≡◌, refl, ap, ap₂, sym, subst, subst⁻¹, ◌∙◌}
+use mathlib.Core.Path.{◌≡◌, refl, ap, ap₂, sym, subst⁻¹, ◌∙◌}
 use mathlib.Core.Bool.{Bool, true, false, not}
 use mathlib.Core.List.{List, [], ◌∷◌, ◌++◌, append-nil}
 use mathlib.Core.Logic.{⊎_elim}
-use mathlib.Core.Option.{Option, none, some}
+use mathlib.Core.Option.{Option, some}
 use Prim.Native.Nat.{ℕ, ◌<◌, ◌≤◌}
 use native.Mathlib.Omega.{arith}
 use lib.Dec.{eqb}
 use lib.ListN.{length, length-set}
 use borrow.Author.Tests.{eqb-true, eqb-false, ne_eqb}
-use Rattle.exchange.specs.Exchange.{no_script, no_log, Lack, Exchange, End, yields, lacks, told_end, Played}
+use Rattle.exchange.specs.Exchange.{no_script, no_log, Lack, Exchange, End, yields, lacks, told_end}
 use Rattle.exchange.specs.Answer.{Answer, gives, refuses}
 use Rattle.exchange.specs.Left.{Left}
 use Rattle.ps2_answers.specs.Refusals.{Success, success}
@@ -20,15 +20,15 @@ use Rattle.keyboard_scancodes.specs.FlagsAfter.{flags_then}
 use Rattle.keyboard_scancodes.specs.Waiting.{waiting_bytes}
 use Rattle.keyboard_scancodes.proofs.Tests.{which}
 use Rattle.keyboard_sides.specs.declared.Side.{Side}
-use Rattle.keyboard_sides.specs.Sides.{bit_sides, count_of, same_side}
-use Rattle.keyboard_sides.specs.Named.{Sided, named, sides_in}
+use Rattle.keyboard_sides.specs.Sides.{same_side}
+use Rattle.keyboard_sides.specs.Named.{Sided, sides_in}
 use Rattle.keyboard_record.specs.declared.HandlerState.{HandlerState}
 use Rattle.keyboard_record.specs.declared.KeyboardHandler.{KeyboardHandler}
 use Rattle.keyboard_record.specs.declared.Table.{Table}
-use Rattle.keyboard_record.specs.Queue.{are_two, meets, admits, if_given, room, place, joined, one_more, places_with, waiting, waiting_sides, oldest, without_oldest}
+use Rattle.keyboard_record.specs.Queue.{meets, admits, room, place, one_more, places_with, waiting, waiting_sides, oldest, without_oldest}
 use Rattle.keyboard_record.specs.Record.{at_table, keyboard_at, with_keyboard, fresh, well_formed, call_formed}
 use Rattle.keyboard_record.specs.Taking.{taken}
-use Rattle.keyboard_record.proofs.AtSides.{place_with, start_with, count_with, sides_with, keyboard_at_left}
+use Rattle.keyboard_record.proofs.AtSides.{place_with, start_with, count_with, keyboard_at_left}
 use Rattle.keyboard_record.proofs.Meeting.{Admits, not_admitted, admitted, admits_cases, place_says, joined_full}
 use Rattle.keyboard_record.proofs.Taking.{taken_none, taken_one}
 use Rattle.keyboard_record.proofs.Waiting.{handler_of, waiting_sides_lem, waiting_with, waiting_none, waiting_oldest, waiting_more}
@@ -36,18 +36,17 @@ use Rattle.keyboard_record.proofs.WellFormed.{WellFormed, is_well, is_call, fres
 use Rattle.keyboard.specs.Answers.{ends2_3_21, ends_with}
 use Rattle.keyboard.specs.Rules.{rules_at}
 use Rattle.keyboard.specs.Scancode.{is_some, scancode}
-use Rattle.keyboard.specs.Byte.{Keyed, end_keyed, key_effects}
+use Rattle.keyboard.specs.Byte.{Keyed, key_effects}
 use Rattle.keyboard.specs.Handler.{Outcome, Called, queued, after_byte, effects, handled, end_outcome}
-use Rattle.keyboard.proofs.Ways.{end_of, scanned}
+use Rattle.keyboard.proofs.Ways.{end_of}
 use Rattle.keyboard.proofs.Calls.{call_scanned, formed_play}
 use Rattle.keyboard.proofs.Counted.{answer_end, counted_exactly}
-use Rattle.keyboard.proofs.Formed.{left, left_at, left_other, left_table, left_dropped, well_handled}
+use Rattle.keyboard.proofs.Formed.{left_at, left_other, left_table, left_dropped, well_handled}
 use Rattle.keyboard.proofs.Refused.{malformed_handled}
 use Rattle.keyboard_history.specs.Past.{Past, nothing}
 use Rattle.keyboard_history.specs.Counted.{count, scancode_after, dropped_after, waiting_after}
 use Rattle.keyboard_history.specs.Row.{less_met, any_met, given_to, event_of_call, first, rest}
-use Rattle.keyboard_history.proofs.Row.{sided, less_none, met_none, less_room, less_full, met_one}
-use Rattle.keyboard_history.proofs.Own.{which_side}
+use Rattle.keyboard_history.proofs.Row.{less_none, met_none, less_room, less_full, met_one}
 use Rattle.keyboard_history.proofs.AsKeyboard.{AsKeyboard, as_fresh_keyboard, Gives, gives_lack, gives_none, gives_unknown, gives_event, scanned_said, as_gives, as_dropped, as_keyed}
 
 -- a record for a table, each of whose keyboards is as its bytes and waiting bytes say, and in whose queue wait the events of a row

@@ -1,13 +1,13 @@
 -- The flags: one byte's effect on the word of flags, by the table, is what the bytes say with that byte counted.
 -- Assumes nothing.
 use mathlib.Core.Path.{◌≡◌, refl, ap, ap₂, sym, ◌∙◌}
-use mathlib.Core.Bool.{Bool, true, false, not, cond, ◌&&◌, ◌||◌, and-eq-true_iff, false≢true}
+use mathlib.Core.Bool.{Bool, true, false, not, cond, and-eq-true_iff}
 use mathlib.Core.List.{List, [], ◌∷◌, Memᴰ}
 use Prim.Native.Nat.{ℕ, suc, ◌-◌, ◌%◌, ◌^◌, ◌<◌}
 use native.Mathlib.Omega.{arith}
 use lib.Dec.{eqb, ltb}
 use lib.ListN.{length}
-use borrow.Author.Tests.{eq-eqb, ltb-true}
+use borrow.Author.Tests.{ltb-true}
 use lib.Pow.{pow_pos}
 use Rattle.bits.specs.Bits.{odd, bit, put_bit}
 use Rattle.bits.proofs.Bits.{digit, bit_put_same, bit_put_other, put_lt}
@@ -19,7 +19,6 @@ use Rattle.keyboard_scancodes.specs.Profile.{followed}
 use Rattle.keyboard_scancodes.specs.FlagTable.{Kind, lock, held, left, right, FlagRow, flag_table, flag_limit, is_of}
 use Rattle.keyboard_scancodes.specs.FlagsAfter.{flag_after, row_after, flags_after}
 use Rattle.keyboard_scancodes.proofs.Flags.{apart, distinct, below, differ, after_apart, row_own, table_distinct, table_below}
-use Rattle.bits.proofs.PutBits.{put_put, put_comm}
 
 -- ---- the whole word
 

@@ -14,12 +14,12 @@ use Rattle.exchange.specs.Answer.{Answer}
 use Rattle.keycodes_ascii.specs.declared.KeyEvent.{KeyEvent}
 use Rattle.keyboard_scancodes.proofs.Tests.{which}
 use Rattle.keyboard_sides.specs.declared.Side.{Side}
-use Rattle.keyboard_sides.specs.Sides.{same_side, count_of}
+use Rattle.keyboard_sides.specs.Sides.{same_side}
 use Rattle.keyboard_sides.specs.Named.{Sided, of_side}
 use Rattle.keyboard_sides.proofs.Named.{of_side-append}
 use Rattle.keyboard_record.specs.declared.KeyboardHandler.{KeyboardHandler}
 use Rattle.keyboard_record.specs.declared.Table.{Table}
-use Rattle.keyboard_record.specs.Queue.{are_two, waiting, waiting_sides}
+use Rattle.keyboard_record.specs.Queue.{are_two, waiting}
 use Rattle.keyboard_record.specs.Record.{at_table, keyboard_at}
 use Rattle.keyboard_record.proofs.Waiting.{waiting-of_side}
 use Rattle.keyboard.specs.Answers.{ends2_3_21, ends_with}
@@ -30,8 +30,8 @@ use Rattle.keyboard_history.specs.Past.{Past, nothing, ◌▸◌, each}
 use Rattle.keyboard_history.specs.Said.{events_given}
 use Rattle.keyboard_history.specs.Counted.{Call, handling, taking, own, scancode_after, counted, waits, counted_of, waits_of, scancode_of, counts}
 use Rattle.keyboard_history.specs.Waited.{dropped}
-use Rattle.keyboard_history.specs.Row.{Given, events, less_met, any_met, given_to, event_of_call, newly, row, given, meets_with, removed}
-use Rattle.keyboard_history.specs.Run.{leaves, after, answers, takings, events_taken, own_number, reported}
+use Rattle.keyboard_history.specs.Row.{events, less_met, any_met, given_to, event_of_call, newly, row, given, meets_with, removed}
+use Rattle.keyboard_history.specs.Run.{leaves, after, answers, takings, events_taken, reported}
 use Rattle.keyboard_history.specs.History.{History}
 use Rattle.keyboard_history.proofs.Row.{less_none, met_none, less_append, events-append, own_given, other_given, more_given, taken_first}
 use Rattle.keyboard_history.proofs.Own.{same_side_lem, which_side, own_more, own_other, own_absent}

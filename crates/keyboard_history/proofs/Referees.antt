@@ -1,37 +1,35 @@
 -- Under the tournament profile: no lock is on after any list of calls, and every event that is taken, or waits, is one of a rated game.
 -- Assumes nothing.
-use mathlib.Core.Path.{◌≡◌, refl, ap, sym, subst, subst⁻¹, ◌∙◌}
+use mathlib.Core.Path.{◌≡◌, refl, sym, ◌∙◌}
 use mathlib.Core.Bool.{Bool, true, false, not, and-eq-true_iff}
 use mathlib.Core.List.{List, [], ◌∷◌, ◌++◌}
 use mathlib.Core.Option.{Option, none, some}
 use Prim.Native.Nat.{ℕ, zero, suc}
-use native.Mathlib.Omega.{arith}
 use lib.Dec.{eqb}
-use Rattle.bits.specs.Bits.{bit, odd, put_bit}
+use Rattle.bits.specs.Bits.{bit, odd}
 use Rattle.bits.proofs.Bits.{bit_put_other}
 use Rattle.exchange.specs.Exchange.{Exchange}
-use Rattle.exchange.specs.Answer.{Answer, gives, refuses}
-use Rattle.ps2_answers.specs.Refusals.{Success, success}
+use Rattle.exchange.specs.Answer.{Answer}
 use Rattle.keyboard_modifiers.specs.Flags.{caps_lock, num_lock, scroll_lock}
 use Rattle.keycodes_ascii.specs.declared.KeyEvent.{KeyEvent}
 use Rattle.keyboard_scancodes.specs.declared.Profile.{Profile}
 use Rattle.keyboard_scancodes.specs.Events.{event_of, gives_event}
 use Rattle.keyboard_scancodes.specs.FlagTable.{FlagRow, flag_table}
-use Rattle.keyboard_scancodes.specs.Profile.{allows, followed}
+use Rattle.keyboard_scancodes.specs.Profile.{followed}
 use Rattle.keyboard_scancodes.proofs.Flags.{apart, differ}
 use Rattle.keyboard_sides.specs.declared.Side.{Side}
 use Rattle.keyboard_sides.specs.Named.{Sided, sides_in}
 use Rattle.keyboard_record.specs.declared.Keyboards.{Keyboards}
 use Rattle.keyboard_record.specs.declared.Table.{Table}
-use Rattle.keyboard_record.specs.Queue.{admits, waiting}
+use Rattle.keyboard_record.specs.Queue.{waiting}
 use Rattle.keyboard_record.specs.Record.{keyboard_at}
 use Rattle.keyboard_record.proofs.Meeting.{Admits, not_admitted, admitted, admits_cases}
 use Rattle.keyboard_history.specs.Past.{Past, nothing, ◌▸◌}
 use Rattle.keyboard_history.specs.Said.{strokes, said, word_of, flags_said, event_given}
 use Rattle.keyboard_history.specs.Counted.{Call, handling, taking, counted_of, scancode_of}
-use Rattle.keyboard_history.specs.Row.{Given, less_met, given_to, event_of_call, newly, row, given}
+use Rattle.keyboard_history.specs.Row.{less_met, given_to, event_of_call, newly, row, given}
 use Rattle.keyboard_history.specs.Run.{after, takings, events_taken}
-use Rattle.keyboard_history.specs.Referees.{Rated, AllRated, no_event, one_event}
+use Rattle.keyboard_history.specs.Referees.{AllRated, no_event, one_event}
 use Rattle.keyboard_history.proofs.Row.{given_none, given_one, less_none, less_room, less_full, less_append}
 use Rattle.keyboard_history.proofs.History.{history}
 

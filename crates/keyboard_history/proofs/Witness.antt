@@ -9,7 +9,7 @@ use native.Mathlib.Nat.{zero-add, suc-add}
 use native.Mathlib.Numerals.{add-one}
 use native.Mathlib.Omega.{arith}
 use lib.ListN.{length, drop, replicate, length-replicate, replicate-append-replicate}
-use Rattle.bits.specs.Bits.{odd, bit, put_bit, weigh}
+use Rattle.bits.specs.Bits.{odd, bit, put_bit}
 use Rattle.bits.specs.Table.{decode}
 use Rattle.exchange.specs.Exchange.{p60, no_script, Exchange, bind, yields, lacks, play}
 use Rattle.exchange.specs.Answer.{Answer, gives, refuses}
@@ -19,13 +19,13 @@ use Rattle.keycodes_ascii.specs.declared.KeyEvent.{KeyEvent}
 use Rattle.keycodes_ascii.specs.declared.Keycode.{Keycode}
 use Rattle.keycodes_ascii.specs.Keycode.{keycode_of, numbered, keycodes}
 use Rattle.keyboard_sides.specs.declared.Side.{Side}
-use Rattle.keyboard_sides.specs.Sides.{same_side, bit_sides, count_of, with_side}
+use Rattle.keyboard_sides.specs.Sides.{bit_sides, count_of, with_side}
 use Rattle.keyboard_sides.specs.Named.{Sided, named, sides_in}
 use Rattle.keyboard_sides.proofs.Named.{sides_in-length}
 use Rattle.keyboard_history.specs.Past.{Past, nothing, ◌▸◌, each}
 use Rattle.keyboard_record.specs.declared.Keyboards.{Keyboards}
 use Rattle.keyboard_record.specs.declared.Table.{Table}
-use Rattle.keyboard_record.specs.Queue.{are_two, meets, admits, round, waiting}
+use Rattle.keyboard_record.specs.Queue.{meets, admits, round, waiting}
 use Rattle.keyboard_record.proofs.Meeting.{meets_free, meets_31, meets_20, admits_allowed}
 use Rattle.keyboard_scancodes.specs.Strokes.{stroke}
 use Rattle.keyboard_history.specs.Said.{prefix_said, flags_said, event_given}
@@ -35,10 +35,10 @@ use Rattle.keyboard_scancodes.specs.FlagTable.{flag_table, flag_limit, is_of, pr
 use Rattle.keyboard_scancodes.specs.Lamps.{lamps_lit}
 use Rattle.keyboard_scancodes.specs.Waiting.{bytes_from}
 use Rattle.keyboard_scancodes.specs.Events.{keycode_at, event_of}
-use Rattle.keyboard_history.specs.Counted.{Call, handling, taking, own, count, scancode_after, thrown_after, behind_after, joined_after, waiting_after, counted, waits, counted_of, waits_of, scancode_of}
+use Rattle.keyboard_history.specs.Counted.{Call, handling, taking, own, scancode_after, thrown_after, behind_after, joined_after, waiting_after, counted, waits, counted_of, waits_of, scancode_of}
 use Rattle.keyboard.specs.Rules.{rules_at}
 use Rattle.keyboard.specs.Scancode.{caught, scancode}
-use Rattle.keyboard_history.specs.Row.{Given, event_of_call, less_met, any_met, given_to, first, rest, newly, row, given, meets_with, removed}
+use Rattle.keyboard_history.specs.Row.{less_met, given_to, first, rest, newly, row, given, meets_with, removed}
 use Rattle.keyboard_record.specs.Record.{at_table, fresh, keyboard_formed, well_formed, call_formed}
 use Rattle.keyboard_scancodes.specs.FlagsAfter.{flags_after, flags_then}
 use Rattle.keyboard.specs.Byte.{key_event, lamp_exchange, on_byte, key_call}
@@ -47,7 +47,7 @@ use Rattle.keyboard_history.specs.Run.{leaves, after, answers, takings, events_t
 use Rattle.keyboard.specs.Answers.{ends_with}
 use Rattle.keyboard_history.specs.Examples.{one, two, press, then_presses, then_takings, short_lamps, four_free, failing_lamps, cut_in_lamps}
 use Rattle.keyboard_history.proofs.Row.{sided, less_room, less_full, met_one}
-use Rattle.keyboard_history.proofs.Own.{same_side_lem, own_more, own_other}
+use Rattle.keyboard_history.proofs.Own.{own_more}
 use Rattle.keyboard_history.proofs.Flags.{flags_none, flags_more}
 use Rattle.keyboard_history.proofs.History.{history}
 

@@ -1,9 +1,9 @@
 -- The row of waiting events, one for both sides, kept from the list of calls alone, and the events that joined it or met 33, 96 of their side or 128.
 -- Assumes nothing.
-use Rattle.std.specs.Prelude.{Bool, true, false, cond, ◌||◌, List, [], ◌∷◌, ◌++◌, map, ℕ, eqb}
+use Rattle.std.specs.Prelude.{Bool, false, ◌||◌, List, [], ◌∷◌, ◌++◌, map, ℕ, eqb}
 use Rattle.std.proofs.Math.Option.{Option, none, some}
 use Rattle.exchange.specs.Exchange.{Exchange}
-use Rattle.exchange.specs.Answer.{Answer, gives, refuses, number_answered}
+use Rattle.exchange.specs.Answer.{Answer, gives, number_answered}
 use Rattle.ps2_answers.specs.Refusals.{Success}
 use Rattle.keycodes_ascii.specs.declared.KeyEvent.{KeyEvent}
 use Rattle.keyboard_scancodes.specs.declared.Profile.{Profile}

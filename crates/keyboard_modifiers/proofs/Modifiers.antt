@@ -2,7 +2,7 @@
 -- Assumes nothing.
 use mathlib.Core.Path.{◌≡◌, ap, ◌∙◌}
 use mathlib.Core.Bool.{Bool, ◌||◌}
-use Prim.Native.Nat.{ℕ, ◌^◌, ◌<◌}
+use Prim.Native.Nat.{ℕ, ◌^◌}
 use lib.Dec.{T, ltb, lit<}
 use Rattle.bits.specs.Bits.{bit, bitwise, meet}
 use Rattle.bits.proofs.Masks.{meet-pow, meet_or}

@@ -2,7 +2,7 @@
 -- Assumes nothing.
 use Rattle.std.specs.Prelude.{Bool, true, false, not, ◌&&◌, ◌||◌, List, [], ◌∷◌, ℕ, ◌^◌, eqb, length}
 use Rattle.keyboard_modifiers.specs.Flags.{shift_left, shift_right, control_left, control_right, alt, super_key_left, super_key_right, caps_lock, num_lock, scroll_lock, alt_right}
-use Rattle.keyboard_scancodes.specs.Strokes.{Stroke, stroke}
+use Rattle.keyboard_scancodes.specs.Strokes.{Stroke}
 
 -- A lock goes on and off with its presses. A held key is on from its press to its release, after a prefix or not. Of two keys with one code, the right one has the strokes directly after a prefix, the left one the rest.
 pub data Kind : Type 0 where

@@ -8,10 +8,10 @@ use Prim.Native.Nat.{ℕ, ◌<◌}
 use native.Mathlib.Omega.{arith}
 use lib.Dec.{ltb}
 use lib.ListN.{length, drop}
-use Rattle.exchange.specs.Answer.{Answer, gives, refuses}
+use Rattle.exchange.specs.Answer.{gives, refuses}
 use Rattle.number_coding.specs.Coding.{numbers_end, coding}
 use Rattle.number_coding.specs.Reading.{Number, taking, groups_of, value_of, is_shortest, judged, read_number}
-use Rattle.number_coding.specs.Coded.{CodedAs, Coded, number, no_number, Answered}
+use Rattle.number_coding.specs.Coded.{CodedAs, number, no_number, Answered}
 use Rattle.number_coding.proofs.RoundTrip.{coding_read, read_of}
 
 -- Reading gives a number, or 27.

@@ -1,21 +1,20 @@
 -- What is written is read, and nothing else is.
 -- Assumes nothing.
-use mathlib.Core.Path.{◌≡◌, refl, sym, ap, ap₂, subst, ◌∙◌}
-use mathlib.Core.Bool.{Bool, true, false, not, ◌&&◌}
+use mathlib.Core.Path.{◌≡◌, refl, sym, ap, subst, ◌∙◌}
+use mathlib.Core.Bool.{Bool, true, false}
 use mathlib.Core.List.{List, [], ◌∷◌, ◌++◌}
-use mathlib.Core.Option.{Option, none, some}
+use mathlib.Core.Option.{some}
 use Prim.Native.Nat.{ℕ, zero, suc, ◌+◌, ◌*◌, ◌^◌, ◌-◌, ◌/◌, ◌%◌, ◌<◌, ◌≤◌}
 use native.Mathlib.Omega.{arith}
 use lib.Dec.{ltb}
 use lib.ListN.{length, drop}
-use lib.Seq.{drop-append_seam}
 use borrow.Author.Tests.{lt-ltb, ltb-true, ltb-false, ne_eqb, not-true}
-use Rattle.exchange.specs.Answer.{Answer, gives, refuses}
+use Rattle.exchange.specs.Answer.{gives, refuses}
 use Rattle.number_coding.specs.Coding.{numbers_end, coding_within, coding}
-use Rattle.number_coding.specs.Reading.{Number, taking, before, groups_of, value_of, ends_in_zero, is_shortest, judged, read_number}
-use Rattle.number_coding.specs.Coded.{CodedAs, Coded, number, no_number}
+use Rattle.number_coding.specs.Reading.{Number, taking, groups_of, value_of, ends_in_zero, is_shortest, judged, read_number}
+use Rattle.number_coding.specs.Coded.{CodedAs}
 use Rattle.number_coding.proofs.Groups.{groups_last, groups_more, Begins, last, more, Found, nothing, found, find, value_first, value_one, value_positive, ends_behind, shortest_first}
-use Rattle.number_coding.proofs.Lengths.{within_last, within_more, length_some, length_last, length_more}
+use Rattle.number_coding.proofs.Lengths.{within_last, within_more}
 
 -- ---- what is written is read
 

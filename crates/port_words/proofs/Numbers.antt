@@ -7,7 +7,7 @@ use lib.Signed.{mag}
 use mir.Syntax.{Width}
 use mir.Val.{hbits, to_z, of_z}
 use mir.Facts.{to_z-of_z}
-use Rattle.exchange.specs.Answer.{Answer, number_ended}
+use Rattle.exchange.specs.Answer.{number_ended}
 use Rattle.ps2_answers.specs.declared.Refusal.{Refusal}
 use Rattle.ps2_answers.specs.Refusals.{refusal_number, refused}
 use Rattle.port_words.specs.declared.PortWords.{PortWords}

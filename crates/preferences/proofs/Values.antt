@@ -1,7 +1,7 @@
 -- The questions of the four fields, and of the fifth behind them, one after another.
 -- Assumes nothing.
 use mathlib.Core.Bool.{Bool, true, false, ◌&&◌}
-use mathlib.Core.Path.{◌≡◌, refl, ◌∙◌, ap₂}
+use mathlib.Core.Path.{◌≡◌, refl}
 use Prim.Native.Nat.{ℕ}
 use Rattle.preferences.specs.Values.{is_scancode_set, is_sampling_rate, is_resolution, is_lamps, is_repeat_byte}
 use Rattle.preferences.specs.Record.{within_values}

@@ -4,7 +4,7 @@ use mathlib.Core.Bool.{Bool, true, false}
 use mathlib.Core.Path.{◌≡◌, refl}
 use Prim.Native.Nat.{ℕ}
 use native.Mathlib.Omega.{arith}
-use Rattle.exchange.specs.Answer.{gives, and_then}
+use Rattle.exchange.specs.Answer.{gives}
 use Rattle.exchange.specs.Attains.{Attains, Most}
 use Rattle.exchange.specs.Bounds.{Within, within_done}
 use Rattle.exchange.proofs.Bounds.{within_more}
@@ -24,7 +24,7 @@ use Rattle.preferences.specs.declared.Fields.{Fields}
 use Rattle.preferences.specs.declared.Preferences.{Preferences}
 use Rattle.preferences.specs.declared.Preferences.TheVariants.{Version1, Version2}
 use Rattle.preferences.specs.Record.{within_values}
-use Rattle.preferences_application.specs.Settings.{set_of, rate_of, resolution_of, lamps_of, four_settings, settings_of}
+use Rattle.preferences_application.specs.Settings.{set_of, rate_of, resolution_of, lamps_of, settings_of}
 use Rattle.preferences_application.specs.Application.{set_keyboard_repeat, apply_settings, apply_preferences}
 use Rattle.preferences_application.proofs.Outside.{within_applied, outside_refused}
 use Rattle.preferences_application.proofs.Steps.{field_order, version_two_steps}

@@ -3,10 +3,10 @@
 use mathlib.Core.Bool.{Bool, true, false, ◌&&◌, ◌||◌}
 use mathlib.Core.List.{List, [], ◌∷◌}
 use mathlib.Core.Path.{◌≡◌, refl, sym, ◌∙◌, subst}
-use Prim.Native.Nat.{ℕ, ◌<◌, ◌≤◌}
+use Prim.Native.Nat.{ℕ, ◌≤◌}
 use native.Mathlib.Omega.{arith}
-use lib.Dec.{T, eqb, leb, ltb}
-use borrow.Author.Tests.{leb-true, ltb-true, eqb-true}
+use lib.Dec.{T, eqb, leb}
+use borrow.Author.Tests.{leb-true, eqb-true}
 use Rattle.bits.proofs.Every.{each}
 use Rattle.exchange.specs.Refuses.{among}
 use Rattle.preferences.specs.declared.Fields.{Fields}

@@ -3,7 +3,6 @@
 use mathlib.Core.Bool.{Bool, true, false}
 use mathlib.Core.Path.{◌≡◌, refl}
 use Rattle.ps2_layouts.specs.Leds.{lamp_byte}
-use Rattle.ps2_bytes.specs.declared.data.ScancodeSet.{ScancodeSet}
 use Rattle.ps2_bytes.specs.declared.data.ScancodeSet.TheVariants.{Get, Set1, Set2, Set3}
 use Rattle.ps2_bytes.specs.declared.data.MouseSampleRate.{MouseSampleRate}
 use Rattle.ps2_bytes.specs.declared.data.MouseSampleRate.TheVariants.{_10, _20, _40, _60, _80, _100, _200}

@@ -1,8 +1,8 @@
 -- A record with a field outside its values is refused with 28 before any read or write; one within its values is applied, and never refused with 28.
 -- Assumes nothing.
 use mathlib.Core.Bool.{true, false}
-use mathlib.Core.List.{List, [], ◌∷◌}
-use mathlib.Core.Path.{◌≡◌, refl, sym, ◌∙◌, ap, subst}
+use mathlib.Core.List.{List}
+use mathlib.Core.Path.{◌≡◌}
 use Prim.Native.Nat.{ℕ}
 use Rattle.exchange.specs.Exchange.{done, yields, Played, played, play}
 use Rattle.exchange.specs.Answer.{Answer, refuses}

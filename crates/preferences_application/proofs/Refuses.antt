@@ -5,21 +5,19 @@ use mathlib.Core.List.{List, [], ◌∷◌}
 use mathlib.Core.Path.{◌≡◌, refl}
 use Prim.Native.Nat.{ℕ}
 use Rattle.exchange.specs.Exchange.{yields, play}
-use Rattle.exchange.specs.Answer.{Answer, gives, refuses}
+use Rattle.exchange.specs.Answer.{refuses}
 use Rattle.exchange.specs.Only.{only_done}
 use Rattle.exchange.specs.Refuses.{Refuses}
 use Rattle.exchange.proofs.Only.{only_play}
 use Rattle.exchange.proofs.Then.{refuses_then, refuses_more}
 use Rattle.ps2_bytes.specs.declared.command.HostToKeyboardCommand.TheVariants.{SetRepeatRateAndDelay}
 use Rattle.ps2_bytes.specs.declared.writable.HostToKeyboardCommandOrData.TheVariants as Byte
-use Rattle.ps2_answers.specs.Refusals.{Success}
 use Rattle.ps2_command.proofs.Refuses.{command_refusals, command_and}
 use Rattle.ps2_keyboard.proofs.Refuses.{refuses_command_to_keyboard, refuses_set_keyboard_led, refuses_set_scancode_set}
 use Rattle.ps2_mouse.proofs.Refuses.{refuses_set_sampling_rate, refuses_set_resolution}
 use Rattle.preferences.specs.declared.Preferences.{Preferences}
 use Rattle.preferences.specs.Record.{within_values}
 use Rattle.preferences_application.specs.declared.Setting.{Setting}
-use Rattle.preferences_application.specs.declared.Setting.TheVariants as Setting
 use Rattle.preferences_application.specs.Settings.{settings_of}
 use Rattle.preferences_application.specs.Application.{set_keyboard_repeat, apply_setting, apply_settings, apply_preferences}
 use Rattle.preferences_application.proofs.Outside.{within_applied}

@@ -13,7 +13,6 @@ use Rattle.ps2_mouse.specs.Mouse.{set_sampling_rate, set_resolution}
 use Rattle.preferences.specs.declared.Fields.{Fields}
 use Rattle.preferences.specs.declared.Preferences.TheVariants.{Version1, Version2}
 use Rattle.preferences_application.specs.declared.Setting.{Setting}
-use Rattle.preferences_application.specs.declared.Setting.TheVariants as Setting
 use Rattle.preferences_application.specs.Settings.{set_of, rate_of, resolution_of, lamps_of, four_settings, settings_of}
 use Rattle.preferences_application.specs.Application.{set_keyboard_repeat, apply_setting, apply_settings}
 

@@ -11,7 +11,6 @@ use Rattle.ps2_mouse.specs.Mouse.{set_sampling_rate, set_resolution}
 use Rattle.preferences.specs.declared.Preferences.{Preferences}
 use Rattle.preferences.specs.Record.{within_values}
 use Rattle.preferences_application.specs.declared.Setting.{Setting}
-use Rattle.preferences_application.specs.declared.Setting.TheVariants as Setting
 use Rattle.preferences_application.specs.Settings.{settings_of}
 
 -- "the repeat byte is sent as F3 and the byte by the keyboard command rule, and its failure gives 4 to 7"

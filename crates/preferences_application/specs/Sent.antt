@@ -5,7 +5,6 @@ use Rattle.ps2_bytes.specs.declared.writable.HostToKeyboardCommandOrData.TheVari
 use Rattle.ps2_bytes.specs.declared.writable.HostToMouseCommandOrData.TheVariants as Mouse
 use Rattle.ps2_bytes.specs.Writable.{to_keyboard, to_mouse}
 use Rattle.preferences_application.specs.declared.Setting.{Setting}
-use Rattle.preferences_application.specs.declared.Setting.TheVariants as Setting
 
 abbrev pub byte_sent : Setting → ℕ
 byte_sent (Setting.ScancodeSet set) = to_keyboard (Keyboard.ScancodeSet set)

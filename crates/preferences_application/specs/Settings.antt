@@ -16,7 +16,6 @@ use Rattle.preferences.specs.declared.Fields.{Fields}
 use Rattle.preferences.specs.declared.Preferences.{Preferences}
 use Rattle.preferences.specs.declared.Preferences.TheVariants.{Version1, Version2}
 use Rattle.preferences_application.specs.declared.Setting.{Setting}
-use Rattle.preferences_application.specs.declared.Setting.TheVariants as Setting
 
 -- ---- a field's number as what the device's own table lists for it
 -- Every number within the values is listed (proofs/Bytes.antt); what stands for others is never sent.

@@ -1,20 +1,19 @@
 -- Numbers read one after another: what is accepted, and which number refuses first.
 -- Assumes nothing.
 use mathlib.Core.Path.{◌≡◌, refl, sym, ap, subst, ◌∙◌}
-use mathlib.Core.Bool.{Bool, true, false, cond, ◌&&◌}
+use mathlib.Core.Bool.{Bool, true, false}
 use mathlib.Core.List.{List, [], ◌∷◌, ◌++◌}
 use Prim.Native.Nat.{ℕ, ◌<◌}
 use native.Mathlib.Omega.{arith}
-use lib.ListN.{length, drop}
+use lib.ListN.{drop}
 use lib.Seq.{drop-append_seam}
 use Rattle.exchange.specs.Answer.{Answer, gives, refuses}
 use Rattle.number_coding.specs.Coding.{numbers_end, coding}
-use Rattle.number_coding.specs.Reading.{Number, taking, read_number}
-use Rattle.number_coding.proofs.RoundTrip.{ReadOf, read_of, coding_read}
+use Rattle.number_coding.specs.Reading.{Number, read_number}
+use Rattle.number_coding.proofs.RoundTrip.{read_of, coding_read}
 use Rattle.number_coding.proofs.Coded.{Read, well, ill, reading}
-use Rattle.preferences.specs.Values.{each_within}
 use Rattle.preferences_coding.specs.Format.{codings}
-use Rattle.preferences_coding.specs.Reading.{behind, asking, at_end, numbers_read}
+use Rattle.preferences_coding.specs.Reading.{behind, numbers_read}
 use Rattle.preferences_coding.specs.Accepted.{Refused, form, value, follow, later}
 use Rattle.preferences_coding.proofs.Codings.{codings_none, codings_first}
 

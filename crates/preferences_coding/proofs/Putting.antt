@@ -1,18 +1,17 @@
 -- Numbers put into an output one after another, from its start on.
 -- Assumes nothing.
-use mathlib.Core.Path.{◌≡◌, refl, sym, ap, ap₂, subst, ◌∙◌}
+use mathlib.Core.Path.{◌≡◌, sym, ap, ap₂, ◌∙◌}
 use mathlib.Core.Bool.{true, false}
 use mathlib.Core.List.{List, [], ◌∷◌, ◌++◌, append_assoc}
-use Prim.Native.Nat.{ℕ, ◌+◌, ◌-◌, ◌<◌, ◌≤◌}
+use Prim.Native.Nat.{ℕ, ◌+◌, ◌<◌, ◌≤◌}
 use native.Mathlib.Omega.{arith}
-use lib.ListN.{length, take, drop, length-append, length-drop}
+use lib.ListN.{length, drop, length-append, length-drop}
 use lib.Seq.{take-append_seam, drop-append-add, drop-drop}
 use borrow.Author.Tests.{le-leb, lt-leb}
 use Rattle.exchange.specs.Answer.{gives, refuses}
 use Rattle.ps2_answers.specs.Refusals.{success}
-use Rattle.number_coding.specs.Coding.{coding_within, coding}
+use Rattle.number_coding.specs.Coding.{coding}
 use Rattle.number_coding.specs.Writing.{Outcome, outcome, with_bytes, number_written}
-use Rattle.number_coding.proofs.Shortest.{coding_most}
 use Rattle.preferences.specs.declared.Fields.{Fields}
 use Rattle.preferences.specs.declared.Preferences.{Preferences}
 use Rattle.preferences.specs.declared.Preferences.TheVariants.{Version1, Version2}

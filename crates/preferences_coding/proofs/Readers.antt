@@ -1,9 +1,9 @@
 -- What the writer writes the readers read, and nothing else is accepted.
 -- Assumes nothing.
 use mathlib.Core.Path.{◌≡◌, refl, sym, ap, subst, ◌∙◌}
-use mathlib.Core.Bool.{Bool, true, false, ◌&&◌}
-use mathlib.Core.List.{List, [], ◌∷◌, ◌++◌}
-use Prim.Native.Nat.{ℕ, ◌<◌, ◌≤◌}
+use mathlib.Core.Bool.{Bool, true, ◌&&◌}
+use mathlib.Core.List.{List}
+use Prim.Native.Nat.{ℕ, ◌<◌}
 use native.Mathlib.Omega.{arith}
 use lib.ListN.{take, drop}
 use borrow.Author.Tests.{leb-true}
@@ -18,7 +18,6 @@ use Rattle.preferences.specs.Record.{four_fields, within_values}
 use Rattle.preferences.proofs.Values.{within_fifth}
 use Rattle.preferences_coding.specs.Format.{numbers_of, record_bytes}
 use Rattle.preferences_coding.specs.Reading.{version_in, questions_of, record_read, any_number, four_of, read1, read2}
-use Rattle.preferences_coding.specs.Writing.{written}
 use Rattle.preferences_coding.specs.Accepted.{RecordOf, version_1, version_2, Refused, WrittenAs, ShownAs, as_1, as_2}
 use Rattle.preferences_coding.proofs.Numbers.{first_refuses, refuses_first}
 use Rattle.preferences_coding.proofs.Records.{both_left, both_right, records_read, read_records}

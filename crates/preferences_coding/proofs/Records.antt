@@ -1,25 +1,24 @@
 -- The strings that are accepted are the records, and no others.
 -- Assumes nothing.
-use mathlib.Core.Path.{◌≡◌, refl, sym, ap, subst, ◌∙◌}
+use mathlib.Core.Path.{◌≡◌, refl, ap, subst, ◌∙◌}
 use mathlib.Core.Bool.{Bool, true, false, cond, ◌&&◌, ◌||◌}
 use mathlib.Core.Logic.{◌⊎◌, inl, inr, ⊎_elim}
 use mathlib.Core.List.{List, [], ◌∷◌, ◌++◌}
-use Prim.Native.Nat.{ℕ, ◌<◌, ◌≤◌}
+use Prim.Native.Nat.{ℕ, ◌<◌}
 use native.Mathlib.Omega.{arith}
 use lib.Dec.{eqb, leb}
 use borrow.Author.Tests.{leb-true, eqb-true}
-use Rattle.exchange.specs.Answer.{Answer, gives, refuses}
+use Rattle.exchange.specs.Answer.{gives}
 use Rattle.exchange.specs.Refuses.{among}
 use Rattle.number_coding.specs.Coding.{numbers_end}
-use Rattle.number_coding.specs.Reading.{Number, read_number}
+use Rattle.number_coding.specs.Reading.{read_number}
 use Rattle.number_coding.proofs.RoundTrip.{coding_read}
 use Rattle.preferences.specs.Values.{is_scancode_set, is_sampling_rate, is_resolution, is_lamps, four_values}
 use Rattle.preferences.specs.declared.Fields.{Fields}
-use Rattle.preferences.specs.declared.Preferences.{Preferences}
 use Rattle.preferences.specs.declared.Preferences.TheVariants.{Version1, Version2}
 use Rattle.preferences.specs.Record.{four_fields, within_values}
-use Rattle.preferences_coding.specs.Format.{codings, numbers_of, record_bytes}
-use Rattle.preferences_coding.specs.Reading.{numbers_read, is_version, is_count, questions_of, version_in, record_read}
+use Rattle.preferences_coding.specs.Format.{codings, numbers_of}
+use Rattle.preferences_coding.specs.Reading.{is_version, is_count, questions_of, version_in, record_read}
 use Rattle.preferences_coding.specs.Accepted.{RecordOf, version_1, version_2}
 use Rattle.preferences_coding.proofs.Codings.{codings_first}
 use Rattle.preferences_coding.proofs.Numbers.{Within, none, one, Accepted, within_read, read_within}

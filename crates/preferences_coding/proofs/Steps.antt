@@ -1,9 +1,9 @@
 -- The steps of a reading, one number after another.
 -- Assumes nothing.
 use mathlib.Core.Path.{◌≡◌, refl, sym, ap, subst, ◌∙◌}
-use mathlib.Core.Bool.{Bool, true, false, cond, ◌||◌}
+use mathlib.Core.Bool.{Bool, true, false, cond}
 use mathlib.Core.List.{List, [], ◌∷◌, ◌++◌}
-use Prim.Native.Nat.{ℕ, ◌+◌, ◌-◌, ◌<◌, ◌≤◌}
+use Prim.Native.Nat.{ℕ, ◌+◌, ◌-◌, ◌≤◌}
 use native.Mathlib.Omega.{arith}
 use lib.Dec.{eqb, leb}
 use lib.ListN.{length, drop, length-append, length-drop, drop_of_length-le}
@@ -12,7 +12,7 @@ use borrow.Author.Tests.{eqb-true, ne_eqb, leb-true, leb-false}
 use Rattle.exchange.specs.Answer.{Answer, gives, refuses}
 use Rattle.number_coding.specs.Coding.{coding}
 use Rattle.number_coding.specs.Reading.{Number, taking, read_number}
-use Rattle.number_coding.proofs.RoundTrip.{ReadOf, read_of}
+use Rattle.number_coding.proofs.RoundTrip.{read_of}
 use Rattle.number_coding.proofs.Shortest.{coding_some}
 use Rattle.preferences.specs.Values.{is_scancode_set, is_sampling_rate, is_resolution, is_lamps, four_values}
 use Rattle.preferences.specs.declared.Fields.{Fields}
@@ -22,7 +22,7 @@ use Rattle.preferences_coding.specs.declared.Taken.{Taken}
 use Rattle.preferences_coding.specs.declared.Head.{Head}
 use Rattle.preferences_coding.specs.declared.Four.{Four}
 use Rattle.preferences_coding.specs.Format.{field_count}
-use Rattle.preferences_coding.specs.Reading.{behind, asking, at_end, numbers_read, is_version, any_number, is_count, questions_of, version_in, record_read, refusal_number}
+use Rattle.preferences_coding.specs.Reading.{behind, asking, numbers_read, is_version, any_number, is_count, version_in, record_read, refusal_number}
 use Rattle.preferences_coding.specs.Steps.{behind_all, taken_says, value_in, checked_as, Takes, Heads, Fours}
 
 -- ---- one number

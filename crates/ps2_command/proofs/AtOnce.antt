@@ -7,14 +7,14 @@ use mathlib.Core.Path.{◌≡◌, refl, sym, ap, ◌∙◌}
 use Prim.Native.Nat.{ℕ, suc, ◌+◌, ◌*◌, ◌<◌, ◌≤◌}
 use native.Mathlib.Omega.{arith}
 use lib.Dec.{eqb, leb}
-use lib.ListN.{length, get_or, set, take, drop}
+use lib.ListN.{length, get_or, take, drop}
 use borrow.Author.Tests.{leb-true, leb-false, le-leb, lt-leb, eqb-true, not-true}
 use Rattle.bits.specs.Bits.{bit}
 use Rattle.bits.specs.Table.{decode}
 use Rattle.exchange.specs.Exchange.{Exchange, yields, played, play, Writes}
 use Rattle.exchange.specs.Answer.{Answer, gives, refuses, on_given, and_then}
 use Rattle.exchange.specs.Keeping.{Kept, keeping, kept, NoData, no_data_done, no_data_write}
-use Rattle.exchange.specs.Parts.{part, restored}
+use Rattle.exchange.specs.Parts.{part}
 use Rattle.exchange.specs.Repeat.{Turn, found, turned, repeat}
 use Rattle.exchange.proofs.Calls.{bind_done}
 use Rattle.exchange.proofs.Keeping.{keeping-bind, keeping-done}

@@ -3,7 +3,7 @@
 use Prim.Native.Nat.{ℕ}
 use mathlib.Core.List.{List}
 use mathlib.Core.Path.{◌≡◌, refl}
-use Rattle.exchange.specs.Exchange.{Exchange, End, yields, lacks, told_end, played, play}
+use Rattle.exchange.specs.Exchange.{End, yields, lacks, told_end, played, play}
 use Rattle.exchange.specs.Answer.{Answer}
 use Rattle.exchange.specs.Keeping.{kept_end}
 use Rattle.exchange.specs.Repeat.{Turn, found_end}

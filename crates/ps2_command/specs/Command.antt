@@ -12,7 +12,6 @@ use Rattle.ps2_ports.specs.declared.DevicePort.{DevicePort}
 use Rattle.ps2_ports.specs.declared.DevicePort.TheVariants.{Port1, Port2}
 use Rattle.ps2_answers.specs.Refusals.{Success, success, said_done}
 use Rattle.ps2_ports.specs.Ports.{write_command}
-use Rattle.ps2_answers.specs.declared.Completion.{Completion}
 use Rattle.ps2_command.specs.declared.Attempt.{Attempt}
 use Rattle.ps2_polling.specs.Polling.{polling_send_receive}
 

@@ -1,12 +1,11 @@
 -- Promises of functions that hand back bytes: from nothing kept; and without the bytes, the promise of the operation as it was.
 -- Assumes nothing.
 use Prim.Native.Nat.{ℕ, ◌≤◌}
-use native.Mathlib.Omega.{arith}
 use mathlib.Core.List.{List, []}
-use mathlib.Core.Path.{◌≡◌, refl, ap, ◌∙◌}
+use mathlib.Core.Path.{◌≡◌, refl, ◌∙◌}
 use Rattle.exchange.specs.Exchange.{Exchange, done, bind, End, played, play, Reads}
 use Rattle.exchange.specs.Bounds.{Within}
-use Rattle.exchange.specs.Keeping.{Kept, keeping, retold, kept_end}
+use Rattle.exchange.specs.Keeping.{keeping, retold, kept_end}
 use Rattle.exchange.proofs.Keeping.{keeping_forgets, end_forgets}
 use Rattle.exchange.proofs.Sequence.{bind_assoc}
 use Rattle.exchange.proofs.Told.{bind_told}
@@ -16,7 +15,7 @@ use Rattle.ps2_answers.specs.declared.Refusal.TheVariants.{Lacking, Failed}
 use Rattle.ps2_kept.specs.declared.KeptBytes.{KeptBytes}
 use Rattle.ps2_kept.specs.Thrown.{thrown}
 use Rattle.ps2_kept.specs.Kept.{kept_of, nothing_kept, keeping_thrown, kept_at, kept_at_refusal}
-use Rattle.ps2_kept.specs.Added.{others_limit, added_thrown, keeping_onto}
+use Rattle.ps2_kept.specs.Added.{others_limit, keeping_onto}
 use Rattle.ps2_kept.specs.Promises.{ReadsKept, PlaysKept}
 use Rattle.ps2_kept.proofs.Thrown.{keeping_thrown_lem}
 

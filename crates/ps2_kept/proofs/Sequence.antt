@@ -3,9 +3,9 @@
 use Prim.Native.Nat.{ℕ, ◌+◌, ◌*◌}
 use mathlib.Core.List.{List}
 use mathlib.Core.Path.{◌≡◌, refl, ap}
-use Rattle.exchange.specs.Exchange.{Exchange, bind, End, yields, played, play, Reads, Writes}
+use Rattle.exchange.specs.Exchange.{Exchange, bind, End, yields, played, play, Writes}
 use Rattle.exchange.specs.Answer.{Answer, gives, refuses, on_given}
-use Rattle.exchange.specs.Keeping.{Kept, keeping, kept_end, NoData}
+use Rattle.exchange.specs.Keeping.{Kept, kept_end, NoData}
 use Rattle.exchange.specs.Parts.{part, restored}
 use Rattle.exchange.proofs.Calls.{bind_done, bind_lacks, bind_yields, bind_yields_reads, writes_then}
 use Rattle.exchange.proofs.Keeping.{keeping-bind, keeping-done}

@@ -25,7 +25,7 @@ use Rattle.ps2_answers.specs.Refusals.{Success, success}
 use Rattle.ps2_ports.specs.declared.DevicePort.{DevicePort}
 use Rattle.ps2_ports.specs.declared.DevicePort.TheVariants.{Port1, Port2}
 use Rattle.ps2_ports.specs.Ports.{read_port, read_status}
-use Rattle.ps2_polling.specs.Polling.{poll_limit, poll}
+use Rattle.ps2_polling.specs.Polling.{poll_limit}
 use Rattle.ps2_polling.proofs.Bounds.{within_poll}
 use Rattle.ps2_polling.proofs.Attained.{attains_poll}
 use Rattle.ps2_command.specs.Search.{listed_turn, self_test_within}

@@ -3,7 +3,7 @@
 use Prim.Native.Nat.{ℕ}
 use mathlib.Core.List.{[], ◌∷◌}
 use Rattle.exchange.specs.Exchange.{Exchange}
-use Rattle.exchange.specs.Answer.{Answer, refuses, and_then}
+use Rattle.exchange.specs.Answer.{Answer, and_then}
 use Rattle.exchange.specs.Only.{only_done}
 use Rattle.exchange.specs.Refuses.{RefusesWith, Refuses}
 use Rattle.exchange.proofs.Then.{only_repeat, refuses_then, refuses_more, refuses_as}

@@ -2,7 +2,7 @@
 -- Assumes nothing.
 use Prim.Native.Nat.{ℕ}
 use mathlib.Core.List.{List}
-use mathlib.Core.Path.{◌≡◌, refl, sym, ap, ◌∙◌}
+use mathlib.Core.Path.{◌≡◌, refl, ap, ◌∙◌}
 use Rattle.exchange.specs.Exchange.{Exchange, done, bind, End, told_end, Played, played, play}
 use Rattle.exchange.specs.Answer.{Answer, gives, refuses, on_given, and_then}
 use Rattle.exchange.proofs.Calls.{bind_done, bind_lacks}

@@ -1,7 +1,7 @@
 -- Movement: a nine-bit two's complement number from -256 to 255, which an i16 holds.
 -- Assumes nothing.
 use mathlib.Core.Path.{◌≡◌, refl, ◌∙◌}
-use mathlib.Core.Bool.{Bool, true, false, cond, ◌||◌}
+use mathlib.Core.Bool.{Bool, true, false, cond}
 use Prim.Native.Nat.{ℕ, ◌+◌, ◌*◌, ◌<◌}
 use native.Mathlib.Nat.{lt_trans}
 use lib.Dec.{lit<}
@@ -10,7 +10,6 @@ use lib.Signed.{mag}
 use mir.Syntax.{w16, w64}
 use mir.Val.{SFits, to_z}
 use mir.Facts.{to_z-of_z}
-use native.Mathlib.Omega.{arith}
 use native.Mathlib.Numerals.{unary_clauses}
 use lib.Bits.{bit_or}
 use Rattle.bits.specs.Bits.{weigh, bitwise, odd}

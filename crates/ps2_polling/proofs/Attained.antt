@@ -5,7 +5,6 @@ use native.Mathlib.Omega.{arith}
 use mathlib.Core.Path.{◌≡◌}
 use Rattle.bits.specs.Bits.{bit, odd}
 use Rattle.bits.specs.Table.{decode}
-use Rattle.exchange.specs.Exchange.{write}
 use Rattle.exchange.specs.Answer.{gives, refuses}
 use Rattle.exchange.specs.Attains.{Attains, attains_done, attains_read, attains_write}
 use Rattle.exchange.specs.Repeat.{Turn, found, again}

@@ -6,7 +6,7 @@ use mathlib.Core.List.{List, [], ◌∷◌, ◌++◌}
 use mathlib.Core.Path.{◌≡◌, refl, ◌∙◌}
 use Rattle.bits.specs.Bits.{bit, odd}
 use Rattle.bits.specs.Table.{decode}
-use Rattle.exchange.specs.Exchange.{p60, p64, Exchange, done, write, bind, yields, played, play}
+use Rattle.exchange.specs.Exchange.{p60, Exchange, done, write, bind, yields, played, play}
 use Rattle.exchange.specs.Answer.{Answer, gives, refuses, on_given, and_then}
 use Rattle.exchange.specs.Bounds.{Within, within_done, within_read, within_write}
 use Rattle.exchange.specs.Repeat.{Turn, found, again, turned, repeat, times}

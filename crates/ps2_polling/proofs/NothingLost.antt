@@ -3,21 +3,21 @@
 use Prim.Native.Nat.{ℕ, zero, suc}
 use native.Mathlib.Omega.{arith}
 use mathlib.Core.Bool.{Bool, true, false, cond}
-use mathlib.Core.List.{List, [], ◌∷◌, ◌++◌}
+use mathlib.Core.List.{List, [], ◌∷◌}
 use mathlib.Core.Path.{◌≡◌, refl, ap, ◌∙◌}
 use Rattle.bits.specs.Bits.{bit}
 use Rattle.bits.proofs.Table.{decode_map}
 use Rattle.exchange.specs.Exchange.{p60, p64, Exchange, done, read, bind}
 use Rattle.exchange.specs.Answer.{Answer, gives, refuses}
-use Rattle.exchange.specs.Repeat.{Turn, again, turned, repeat}
+use Rattle.exchange.specs.Repeat.{again, turned, repeat}
 use Rattle.exchange.specs.Trace.{Access, brought, Makes, nothing, by_read}
 use Rattle.ps2_bytes.specs.declared.response.DeviceToHostResponse.{DeviceToHostResponse}
 use Rattle.ps2_bytes.specs.declared.response.ResponseByte.{ResponseByte}
 use Rattle.ps2_bytes.specs.Responses.{responses, response_read}
 use Rattle.ps2_layouts.specs.Status.{output_buffer_full}
-use Rattle.ps2_kept.specs.Thrown.{unlisted, thrown_in}
+use Rattle.ps2_kept.specs.Thrown.{unlisted}
 use Rattle.ps2_polling.specs.Polling.{poll_limit, data_turn, poll, response_turn, polling_receive}
-use Rattle.ps2_polling.specs.Received.{data_read, by_response, by_none, NothingLost}
+use Rattle.ps2_polling.specs.Received.{by_response, by_none, NothingLost}
 use Rattle.ps2_polling.proofs.Polls.{heard, response_turn_lem}
 use Rattle.ps2_polling.proofs.Receiving.{is_unlisted}
 

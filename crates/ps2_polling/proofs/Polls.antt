@@ -7,7 +7,7 @@ use mathlib.Core.List.{List}
 use mathlib.Core.Path.{◌≡◌, refl, sym, ap, ◌∙◌, fun_ext}
 use Rattle.bits.specs.Bits.{bit}
 use Rattle.bits.proofs.Table.{decode_map}
-use Rattle.exchange.specs.Exchange.{p60, p64, Exchange, done, read, bind, End, yields, told_end, Reads}
+use Rattle.exchange.specs.Exchange.{p64, done, read, bind, End, yields, told_end, Reads}
 use Rattle.exchange.specs.Answer.{Answer, gives, refuses}
 use Rattle.exchange.specs.Repeat.{Turn, found, again, found_end}
 use Rattle.exchange.proofs.Calls.{reads_done}
@@ -20,7 +20,6 @@ use Rattle.ps2_answers.specs.Refusals.{success, refused}
 use Rattle.ps2_ports.specs.Ports.{read_port, read_data}
 use Rattle.ps2_answers.specs.Answers.{said_byte}
 use Rattle.ps2_answers.specs.declared.ByteAnswer.{ByteAnswer}
-use Rattle.ps2_answers.specs.declared.Refusal.{Refusal}
 use Rattle.ps2_answers.specs.declared.Refusal.TheVariants.{Lacking, Failed}
 use Rattle.ps2_answers.proofs.Refusals.{on_answer, reads_refused_turn}
 use Rattle.ps2_polling.specs.Polling.{data_turn, poll, poll_data, turn_of, response_turn, passed_turn, said_polled}

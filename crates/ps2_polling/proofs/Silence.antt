@@ -1,8 +1,7 @@
 -- No 4, 5, 8 or 9 before the script held the full number of status bytes, polls or data bytes, all of them in vain.
 -- Assumes nothing.
 use mathlib.Core.Bool.{Bool, true, false, cond}
-use Prim.Native.Nat.{ℕ, zero, suc, ◌+◌, ◌*◌, ◌≤◌, ◌<◌}
-use native.Mathlib.Nat.{mul-one}
+use Prim.Native.Nat.{ℕ, zero, suc, ◌<◌}
 use native.Mathlib.Omega.{arith}
 use mathlib.Core.List.{List, [], ◌∷◌}
 use mathlib.Core.Path.{◌≡◌, refl, sym, ap, ◌∙◌}
@@ -15,7 +14,6 @@ use Rattle.exchange.specs.Answer.{Answer, gives, refuses, and_then}
 use Rattle.exchange.specs.Only.{Only, only_done, only_read, only_write}
 use Rattle.exchange.specs.Repeat.{Turn, found, again, repeat, Silent, over, silent}
 use Rattle.exchange.proofs.Bounds.{within_used}
-use Rattle.exchange.proofs.Kept.{used_le}
 use Rattle.exchange.proofs.Only.{only_play}
 use Rattle.exchange.proofs.Silence.{silence, silent_used}
 use Rattle.exchange.proofs.Steps.{lacks_yields}
@@ -25,11 +23,10 @@ use Rattle.ps2_layouts.specs.Status.{input_buffer_full, output_buffer_full}
 use Rattle.ps2_bytes.specs.Writable.{to_device}
 use Rattle.ps2_bytes.specs.declared.command.HostToControllerCommand.{HostToControllerCommand}
 use Rattle.ps2_bytes.specs.declared.command.HostToControllerCommand.TheVariants.{TestController}
-use Rattle.ps2_bytes.specs.declared.response.DeviceToHostResponse.{DeviceToHostResponse}
 use Rattle.ps2_bytes.specs.declared.response.PortTestResult.TheVariants.{Passed}
 use Rattle.ps2_bytes.specs.declared.response.ResponseByte.{ResponseByte}
 use Rattle.ps2_bytes.specs.declared.writable.HostToDevice.{HostToDevice}
-use Rattle.ps2_answers.specs.Refusals.{Success, success}
+use Rattle.ps2_answers.specs.Refusals.{success}
 use Rattle.ps2_ports.specs.Ports.{write_port, write_command}
 use Rattle.ps2_polling.specs.Polling.{send_try, polling_send, data_turn, poll, response_turn, polling_receive, controller_test_passed, passed_turn, controller_test_result, test_controller, port_test_result, test_port}
 use Rattle.ps2_polling.specs.Silence.{FirstBytes, SilentPolls, no_data, thrown_away, NoResponse}

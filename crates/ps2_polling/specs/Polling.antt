@@ -6,7 +6,7 @@ use Rattle.bits.specs.Table.{decode}
 use Rattle.exchange.specs.Exchange.{p60, p64, Exchange, done, read, write, End, yields}
 use Rattle.exchange.specs.Answer.{Answer, gives, refuses, and_then}
 use Rattle.exchange.specs.Repeat.{Turn, found, again, found_end, repeat}
-use Rattle.ps2_bytes.specs.declared.command.HostToControllerCommand.TheVariants.{TestController, TestPort1, TestPort2}
+use Rattle.ps2_bytes.specs.declared.command.HostToControllerCommand.TheVariants.{TestController}
 use Rattle.ps2_bytes.specs.declared.command.HostToControllerCommand.{HostToControllerCommand}
 use Rattle.ps2_bytes.specs.declared.response.DeviceToHostResponse.{DeviceToHostResponse}
 use Rattle.ps2_bytes.specs.declared.response.PortTestResult.TheVariants.{Passed}

@@ -2,7 +2,7 @@
 -- Assumes nothing.
 use mathlib.Core.Bool.{Bool, true, false}
 use mathlib.Core.Path.{◌≡◌, refl, ap, ap₂, sym, ◌∙◌}
-use mathlib.Core.List.{List, [], ◌∷◌, ◌++◌, append_assoc, append-nil}
+use mathlib.Core.List.{List, [], ◌∷◌, ◌++◌, append-nil}
 use Prim.Native.Nat.{ℕ, suc, ◌+◌, ◌-◌, ◌≤◌, ◌<◌}
 use native.Mathlib.Nat.{sub-zero, add-zero}
 use native.Mathlib.Omega.{arith}
@@ -12,7 +12,7 @@ use borrow.Author.Tests.{leb-true, leb-false, ltb-true, ltb-false}
 use Rattle.ps2_salvage.specs.declared.SalvageAnswer.{SalvageAnswer}
 use Rattle.ps2_salvage.specs.declared.SalvageAnswer.TheVariants.{Done, NoRoom}
 use Rattle.ps2_salvage.specs.Pieces.{Piece, packet, dropped, all_bytes, packet_bytes, positions_from}
-use Rattle.ps2_salvage.specs.Salvage.{Outcome, ends, after, written}
+use Rattle.ps2_salvage.specs.Salvage.{ends, after, written}
 use Rattle.ps2_salvage.proofs.Written.{after-after, written_nothing, written-packet, no_room_for_packet, written_position, no_place_for_position}
 
 -- the bytes of pieces that are dropped

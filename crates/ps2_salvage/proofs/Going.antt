@@ -2,20 +2,17 @@
 -- Assumes nothing.
 use mathlib.Core.Bool.{true, false}
 use mathlib.Core.Path.{◌≡◌, refl, ap, ap₂, sym, ◌∙◌}
-use mathlib.Core.List.{List, [], ◌∷◌, ◌++◌, append_assoc, append-nil}
-use Prim.Native.Nat.{ℕ, suc, ◌+◌, ◌-◌, ◌≤◌, ◌<◌}
+use mathlib.Core.List.{List, [], ◌∷◌, ◌++◌, append-nil}
+use Prim.Native.Nat.{ℕ, ◌+◌, ◌-◌, ◌≤◌, ◌<◌}
 use native.Mathlib.Omega.{arith}
 use native.Mathlib.Nat.{sub-zero}
-use lib.Dec.{leb, ltb}
 use lib.ListN.{length, get_or, set, take, drop, length-append, length-drop}
 use lib.Seq.{paste, length-take-le}
-use borrow.Author.Tests.{le-leb, lt-leb, lt-ltb, le-ltb}
 use Rattle.ps2_bytes.specs.declared.response.MouseId.{MouseId}
 use Rattle.ps2_packet.specs.Packet.{packet_length}
 use Rattle.ps2_salvage.specs.declared.SalvageAnswer.{SalvageAnswer}
 use Rattle.ps2_salvage.specs.declared.SalvageAnswer.TheVariants.{Done, NoRoom}
-use Rattle.ps2_salvage.specs.declared.Salvaged.{Salvaged}
-use Rattle.ps2_salvage.specs.Pieces.{Piece, packet, dropped, starts, pieces}
+use Rattle.ps2_salvage.specs.Pieces.{starts, pieces}
 use Rattle.ps2_salvage.specs.Salvage.{Outcome, ends, after, written, salvaged, over, Leaves}
 use Rattle.ps2_salvage.proofs.Pieces.{at_end, at_dropped, at_short, at_packet}
 use Rattle.ps2_salvage.proofs.Written.{after_packet, after_position, written_nothing, written-packet, no_room_for_packet, written_position, no_place_for_position}

@@ -11,7 +11,7 @@ use lib.Seq.{drop-append_seam}
 use Rattle.ps2_bytes.specs.declared.response.MouseId.{MouseId}
 use Rattle.ps2_salvage.specs.declared.SalvageAnswer.TheVariants.{Done, NoRoom}
 use Rattle.ps2_salvage.specs.Pieces.{Piece, all_bytes, packet_bytes, positions_from}
-use Rattle.ps2_salvage.specs.Salvage.{Outcome, written, salvaged}
+use Rattle.ps2_salvage.specs.Salvage.{Outcome, written}
 use Rattle.ps2_salvage.specs.Limits.{unhindered, Limits}
 use Rattle.ps2_salvage.proofs.Split.{Split, split, split_pieces}
 use Rattle.ps2_salvage.proofs.Fitting.{dropped_bytes, positions_length, Stops, Fitting, fitting, fitting_written, stop_answer}

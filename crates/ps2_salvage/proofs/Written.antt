@@ -3,10 +3,8 @@
 use mathlib.Core.Path.{◌≡◌, refl, ap, ap₂, sym, ◌∙◌}
 use mathlib.Core.List.{List, [], ◌∷◌, ◌++◌, append_assoc, append-nil}
 use Prim.Native.Nat.{ℕ, ◌+◌, ◌-◌, ◌≤◌, ◌<◌}
-use native.Mathlib.Omega.{arith}
-use lib.ListN.{length, length-append}
+use lib.ListN.{length}
 use borrow.Author.Tests.{le-leb, lt-leb, lt-ltb, le-ltb}
-use Rattle.ps2_salvage.specs.declared.SalvageAnswer.{SalvageAnswer}
 use Rattle.ps2_salvage.specs.declared.SalvageAnswer.TheVariants.{Done, NoRoom}
 use Rattle.ps2_salvage.specs.Pieces.{Piece, packet, dropped}
 use Rattle.ps2_salvage.specs.Salvage.{Outcome, ends, after, written}

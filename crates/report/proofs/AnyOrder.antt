@@ -1,7 +1,7 @@
 -- Reports of sessions that are added in another order are equal, where all are accepted.
 -- Assumes nothing.
 use mathlib.Core.Path.{◌≡◌, refl, ap, sym, ◌∙◌}
-use mathlib.Core.List.{List, [], ◌∷◌}
+use mathlib.Core.List.{List}
 use Rattle.report_totals.specs.declared.Totals.{Totals}
 use Rattle.report_totals.specs.Totals.{Session, totals_of}
 use Rattle.report.specs.declared.Limits.{Limits}

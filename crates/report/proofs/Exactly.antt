@@ -1,25 +1,25 @@
 -- A session is accepted exactly when every number is within its limits at the session's end; otherwise the report stays.
 -- Assumes nothing.
-use mathlib.Core.Path.{◌≡◌, refl, sym, ap, ◌∙◌}
-use mathlib.Core.Bool.{Bool, true, false, cond, ◌&&◌}
+use mathlib.Core.Path.{◌≡◌, refl}
+use mathlib.Core.Bool.{Bool, true, false, cond}
 use mathlib.Core.Logic.{◌↔◌}
-use Prim.Native.Nat.{ℕ, ◌+◌, ◌<◌, ◌≤◌}
+use Prim.Native.Nat.{ℕ, ◌+◌, ◌<◌}
 use native.Mathlib.Omega.{arith}
-use lib.Dec.{T, leb}
+use lib.Dec.{T}
 use lib.IntN.{ℤ}
 use lib.ListN.{get_or}
 use lib.Signed.{◌≤ℤ◌, le_z, le_z_yes}
 use borrow.Author.Tests.{le-leb}
 use Rattle.report_totals.specs.declared.Totals.{Totals}
-use Rattle.report_totals.specs.Keys.{key_count, for_each_key}
+use Rattle.report_totals.specs.Keys.{key_count}
 use Rattle.report_totals.specs.Totals.{Session, totals_of}
 use Rattle.report_totals.proofs.Keys.{at_key}
 use Rattle.report.specs.declared.Limits.{Limits}
 use Rattle.report.specs.declared.Settled.{Settled}
 use Rattle.report.specs.declared.ReportAnswer.TheVariants.{Done, OutOfRange}
-use Rattle.report.specs.Adding.{plus, at_most, between, in_range, settled, added}
+use Rattle.report.specs.Adding.{plus, at_most, between, in_range, added}
 use Rattle.report.specs.Within.{Within}
-use Rattle.report.proofs.Ranges.{and_true_both, at_most_at, at_most_all, InRange, in_range_lem}
+use Rattle.report.proofs.Ranges.{and_true_both, at_most_at, at_most_all, in_range_lem}
 
 true_t : (b : Bool) → b ≡ true → T b
 true_t true e = tt

@@ -2,7 +2,7 @@
 -- Assumes nothing.
 use mathlib.Core.Path.{◌≡◌, refl, ap, sym, ◌∙◌}
 use mathlib.Core.Bool.{Bool, true, false, cond}
-use mathlib.Core.List.{List, [], ◌∷◌, map, foldl}
+use mathlib.Core.List.{List, [], ◌∷◌, foldl}
 use Prim.Native.Nat.{ℕ}
 use native.Mathlib.Omega.{arith}
 use Rattle.report_totals.specs.declared.Totals.{Totals}
@@ -10,8 +10,8 @@ use Rattle.report_totals.specs.Totals.{Session, totals_of}
 use Rattle.report.specs.declared.Limits.{Limits}
 use Rattle.report.specs.declared.Settled.{Settled}
 use Rattle.report.specs.declared.ReportAnswer.TheVariants.{Done, OutOfRange}
-use Rattle.report.specs.Adding.{plus, in_range, added}
-use Rattle.report.specs.Sessions.{Accepted, OneByOne, none, next, join, joined, OneIdentity, alone, and}
+use Rattle.report.specs.Adding.{plus, in_range}
+use Rattle.report.specs.Sessions.{Accepted, OneByOne, none, next, joined, OneIdentity, alone, and}
 use Rattle.report.proofs.Together.{plus_assoc, join_totals}
 
 -- what was accepted is the sum

@@ -1,6 +1,6 @@
 -- The 32-bit report: numbers within its limits fit its types, and a session's end read off from what was settled.
 -- Assumes nothing.
-use mathlib.Core.Path.{◌≡◌, refl, sym, ap, ◌∙◌}
+use mathlib.Core.Path.{◌≡◌, refl}
 use mathlib.Core.Bool.{Bool, true, false, cond}
 use Prim.Native.Nat.{ℕ, ◌<◌}
 use native.Mathlib.Omega.{arith}
@@ -14,11 +14,10 @@ use borrow.Author.Tests.{leb-true}
 use Rattle.report_totals.specs.declared.Totals.{Totals}
 use Rattle.report.specs.declared.Limits.{Limits}
 use Rattle.report.specs.declared.Report.{Report}
-use Rattle.report.specs.declared.Added.{Added}
 use Rattle.report.specs.declared.Settled.{Settled}
 use Rattle.report.specs.declared.ReportAnswer.TheVariants.{Done, OutOfRange}
 use Rattle.report.specs.Adding.{between, in_range, settled}
-use Rattle.report.specs.Narrow.{narrow_limits, report_of, answered, reported}
+use Rattle.report.specs.Narrow.{narrow_limits, report_of, reported}
 use Rattle.report.proofs.Ranges.{and_true_both}
 
 pub narrow_mag : (z : ℤ) → between narrow_limits.low narrow_limits.high z ≡ true → mag z < 2147483648

@@ -1,26 +1,24 @@
 -- Numbers within their limits: what a count or a sum that was tried says, and counts that are being added.
 -- Assumes nothing.
-use mathlib.Core.Path.{◌≡◌, refl, ap, sym, ◌∙◌}
+use mathlib.Core.Path.{◌≡◌, refl, sym, ◌∙◌}
 use mathlib.Core.Bool.{Bool, true, false, cond, ◌&&◌, and-false}
 use mathlib.Core.List.{List, [], ◌∷◌}
 use Prim.Native.Nat.{ℕ, zero, suc, ◌+◌, ◌≤◌, ◌<◌}
 use native.Mathlib.Nat.{not-suc-le-zero}
-use native.Mathlib.Decide.{dec_lt, ℕ_discrete}
+use native.Mathlib.Decide.{ℕ_discrete}
 use native.Mathlib.Omega.{arith}
 use lib.Dec.{leb}
 use lib.IntN.{ℤ}
 use lib.ListN.{length, get_or, set, replicate, length-set, length-replicate}
 use lib.Seq.{get_or-set_same, get_or-set_other}
 use borrow.Author.Tests.{le-leb, lt-leb, leb-true, leb-false}
-use Rattle.report_totals.specs.Keys.{key_count, values_from, for_each_key}
+use Rattle.report_totals.specs.Keys.{key_count, values_from}
 use Rattle.report_totals.proofs.Keys.{keys_are}
 use Rattle.report_totals.specs.declared.Totals.{Totals}
 use Rattle.report.specs.declared.Limits.{Limits}
-use Rattle.report.specs.declared.Count.{Count}
 use Rattle.report.specs.declared.Count.TheVariants as CountIs
-use Rattle.report.specs.declared.Sum.{Sum}
 use Rattle.report.specs.declared.Sum.TheVariants as SumIs
-use Rattle.report.specs.Adding.{at_most, between, in_range, count_within, sum_within, CountsAdded}
+use Rattle.report.specs.Adding.{at_most, between, in_range, count_within, CountsAdded}
 
 -- ---- one number
 

@@ -1,7 +1,7 @@
 -- A session's end: each number that can be outside refuses, and where none is the new totals are taken.
 -- Assumes nothing.
-use mathlib.Core.Path.{◌≡◌, refl}
-use mathlib.Core.Bool.{Bool, true, false, and-false}
+use mathlib.Core.Path.{◌≡◌}
+use mathlib.Core.Bool.{true, false, and-false}
 use mathlib.Core.List.{List}
 use Prim.Native.Nat.{ℕ}
 use lib.Dec.{leb}
@@ -9,7 +9,6 @@ use lib.IntN.{ℤ}
 use Rattle.report_totals.specs.declared.Totals.{Totals}
 use Rattle.report.specs.declared.Limits.{Limits}
 use Rattle.report.specs.declared.ReportAnswer.TheVariants.{Done, OutOfRange}
-use Rattle.report.specs.declared.Settled.{Settled}
 use Rattle.report.specs.Adding.{at_most, between, in_range, settled}
 
 module _ (l : Limits) (old new : Totals) where

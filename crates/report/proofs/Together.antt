@@ -1,14 +1,12 @@
 -- Totals together: in any order, and what joined sessions bring.
 -- Assumes nothing.
-use mathlib.Core.Path.{◌≡◌, refl, ap, ap₂, sym, ◌∙◌}
-use mathlib.Core.List.{List, [], ◌∷◌, ◌++◌}
-use Prim.Native.Nat.{ℕ, ◌+◌, ◌<◌}
+use mathlib.Core.Path.{◌≡◌, ap, ap₂, sym, ◌∙◌}
+use mathlib.Core.List.{List}
+use Prim.Native.Nat.{ℕ, ◌+◌}
 use native.Mathlib.Omega.{arith}
-use lib.IntN.{ℤ, pos, ◌+ℤ◌, +ℤ_assoc, +ℤ_comm, +ℤ_idl}
-use lib.ListN.{length, get_or, length-append}
-use lib.Dec.{eqb}
+use lib.IntN.{ℤ, ◌+ℤ◌, +ℤ_assoc, +ℤ_comm}
+use lib.ListN.{get_or}
 use Rattle.report_totals.specs.declared.Totals.{Totals}
-use Rattle.report_totals.specs.Keys.{key_count, for_each_key}
 use Rattle.report_totals.specs.Totals.{Session, totals_of}
 use Rattle.report_totals.proofs.Keys.{at_key, keys_same}
 use Rattle.report_totals.proofs.Joining.{joined_presses, joined_packets, joined_x, joined_y}

@@ -13,7 +13,7 @@ use Rattle.ps2_packet.specs.Packets.{packets_of}
 use Rattle.report_totals.specs.Totals.{Session, totals_of, no_totals, tallied, tally_bytes}
 use Rattle.report_totals.proofs.Packets.{too_long_many}
 use Rattle.report.specs.declared.Limits.{Limits}
-use Rattle.report.specs.Adding.{plus, at_most, between, in_range}
+use Rattle.report.specs.Adding.{plus, at_most, in_range}
 
 by_length : (b : Bool) (s t : Totals) → (cond {A = Tallied} b (record { too_long = false; totals = s }) (record { too_long = true; totals = t })).too_long ≡ true → b ≡ false
 by_length true s t e = absurd (let n : ◌≡◌ {A = ℕ} 0 1 = cc in omega arith)

@@ -8,7 +8,7 @@ use Rattle.ps2_bytes.specs.declared.response.MouseId.TheVariants as Identity
 use Rattle.report_totals.specs.declared.Totals.{Totals}
 use Rattle.report_totals.specs.Keys.{values_from, for_each_key}
 use Rattle.report_totals.specs.Events.{presses}
-use Rattle.ps2_packet.specs.Packets.{by_threes, by_fours, bytes_of}
+use Rattle.ps2_packet.specs.Packets.{by_threes, by_fours}
 use Rattle.report_totals.specs.Packets.{sum_of}
 use Rattle.report_totals.specs.Totals.{Session}
 use Rattle.report.specs.declared.Mean.TheVariants.{Of, Absent}

@@ -1,27 +1,23 @@
 -- Old reports in 64 bits: no number is changed, and a session that the old report accepted gives the same numbers after conversion as before it.
 -- Assumes nothing.
-use mathlib.Core.Path.{◌≡◌, refl, sym, ap, ◌∙◌}
-use Prim.Native.Nat.{ℕ, ◌+◌, ◌≤◌, ◌<◌}
+use mathlib.Core.Path.{◌≡◌, refl, ap, ◌∙◌}
+use Prim.Native.Nat.{ℕ, ◌+◌}
 use native.Mathlib.Omega.{arith}
-use lib.Dec.{leb, leb→le, le→leb}
+use lib.Dec.{leb→le, le→leb}
 use lib.IntN.{ℤ, pos, negsuc}
 use lib.ListN.{get_or}
 use lib.Signed.{◌≤ℤ◌}
 use Rattle.report_totals.specs.declared.Totals.{Totals}
-use Rattle.report_totals.specs.Keys.{key_count, for_each_key}
 use Rattle.report_totals.specs.Totals.{Session, totals_of}
 use Rattle.report_totals.proofs.Keys.{at_key, keys_same}
 use Rattle.report.specs.declared.Report.{Report}
-use Rattle.report.specs.declared.Settled.{Settled}
-use Rattle.report.specs.declared.Added.{Added}
 use Rattle.report.specs.declared.ReportAnswer.{ReportAnswer}
 use Rattle.report.specs.declared.ReportAnswer.TheVariants.{Done, OutOfRange}
 use Rattle.report.specs.Adding.{plus, added}
 use Rattle.report.specs.Narrow.{narrow_limits, numbers, report_of, answered, reported}
 use Rattle.report.specs.Within.{Within}
 use Rattle.report.proofs.Exactly.{exactly, accepted_is}
-use Rattle.report_long.specs.declared.LongAdded.{LongAdded}
-use Rattle.report_long.specs.Long.{long_limits, long_of, long_reported, widened}
+use Rattle.report_long.specs.Long.{long_limits, long_reported, widened}
 use Rattle.report_long.specs.Widened.{SameNumbers}
 
 pub widened_same : (r : Report) → SameNumbers r (widened r)

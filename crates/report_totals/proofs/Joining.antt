@@ -1,13 +1,11 @@
 -- What is counted and summed over two lists, one behind the other.
 -- Assumes nothing.
-use mathlib.Core.Path.{◌≡◌, refl, ap, sym, ◌∙◌}
+use mathlib.Core.Path.{◌≡◌, ap, sym, ◌∙◌}
 use mathlib.Core.List.{List, [], ◌∷◌, ◌++◌}
 use Prim.Native.Nat.{ℕ, ◌+◌}
 use native.Mathlib.Omega.{arith}
-use lib.Dec.{eqb}
-use lib.IntN.{ℤ, pos, ◌+ℤ◌, +ℤ_assoc, +ℤ_idl}
+use lib.IntN.{ℤ, ◌+ℤ◌, +ℤ_assoc, +ℤ_idl}
 use lib.ListN.{length, length-append}
-use Rattle.bits.specs.Bits.{weigh}
 use Rattle.ps2_bytes.specs.declared.response.MouseId.{MouseId}
 use Rattle.ps2_packet.specs.declared.MousePacketGeneric.{MousePacketGeneric}
 use Rattle.ps2_packet.specs.declared.MousePacket.{MousePacket}

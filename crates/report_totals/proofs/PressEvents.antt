@@ -1,13 +1,11 @@
 -- Presses among codes are presses among the events that they stand for.
 -- Assumes nothing.
-use mathlib.Core.Path.{◌≡◌, refl, ap₂, sym, ◌∙◌}
-use mathlib.Core.Bool.{false}
+use mathlib.Core.Path.{◌≡◌, refl}
 use mathlib.Core.List.{List, [], ◌∷◌, map}
 use Prim.Native.Nat.{ℕ, ◌+◌, ◌%◌, ◌<◌}
 use native.Mathlib.Omega.{arith}
 use lib.Dec.{eqb}
 use borrow.Author.Tests.{ne_eqb}
-use Rattle.bits.specs.Bits.{weigh}
 use Rattle.keycodes_ascii.specs.declared.KeyAction.{KeyAction}
 use Rattle.keycodes_ascii.specs.declared.KeyAction.TheVariants.{Pressed, Released}
 use Rattle.keycodes_ascii.specs.declared.KeyEvent.{KeyEvent}

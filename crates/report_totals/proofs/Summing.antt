@@ -1,8 +1,7 @@
 -- Movements that are being summed: what is summed so far, and what the packets ahead come to, is the whole.
 -- Assumes nothing.
-use mathlib.Core.Path.{◌≡◌, refl, ap, sym, ◌∙◌}
-use mathlib.Core.Bool.{Bool, true, false}
-use mathlib.Core.List.{List, [], ◌∷◌}
+use mathlib.Core.Path.{◌≡◌, ap, sym, ◌∙◌}
+use mathlib.Core.List.{List}
 use Prim.Native.Nat.{ℕ, ◌+◌, ◌*◌, ◌≤◌, ◌<◌}
 use native.Mathlib.Omega.{arith}
 use lib.IntN.{ℤ, pos, negsuc, ◌+ℤ◌, +ℤ_idl, +ℤ_idr, +ℤ_assoc}
@@ -16,13 +15,13 @@ use Rattle.bits.specs.Bits.{bit}
 use Rattle.ps2_bytes.specs.declared.response.MouseId.{MouseId}
 use Rattle.ps2_packet.specs.declared.MousePacketGeneric.{MousePacketGeneric}
 use Rattle.ps2_packet.specs.Signed.{Between}
-use Rattle.ps2_packet.specs.Packet.{generic, common, movement, x_movement, y_movement, x_overflow, x_sign, y_overflow, y_sign, packet_length}
+use Rattle.ps2_packet.specs.Packet.{generic, common, x_movement, y_movement, x_overflow, x_sign, y_overflow, y_sign, packet_length}
 use Rattle.ps2_packet.proofs.Movement.{movement_range}
 use Rattle.ps2_packet.specs.Packets.{packets_of}
 use Rattle.report_totals.specs.Packets.{sum_of, Movements}
 use Rattle.report_totals.specs.Totals.{tally_bytes}
 use Rattle.report_totals.proofs.Sums.{mag-add}
-use Rattle.report_totals.proofs.Packets.{Next, next_packet, no_packet_at, length_low}
+use Rattle.report_totals.proofs.Packets.{next_packet, no_packet_at, length_low}
 
 -- a movement is a number from -256 to 255
 mag_between : (z : ℤ) → Between (negsuc 255) (pos 255) z → mag z ≤ 255

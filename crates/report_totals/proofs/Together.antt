@@ -1,14 +1,12 @@
 -- What a session is tallied to, from its parts.
 -- Assumes nothing.
-use mathlib.Core.Path.{◌≡◌, refl}
+use mathlib.Core.Path.{◌≡◌}
 use mathlib.Core.Bool.{true, false}
 use mathlib.Core.List.{List}
 use Prim.Native.Nat.{ℕ, ◌≤◌, ◌<◌}
 use lib.IntN.{ℤ, pos}
 use lib.ListN.{length, replicate}
 use borrow.Author.Tests.{lt-ltb, le-ltb}
-use Rattle.report_totals.specs.declared.Totals.{Totals}
-use Rattle.report_totals.specs.declared.Tallied.{Tallied}
 use Rattle.report_totals.specs.Keys.{for_each_key, values_from}
 use Rattle.report_totals.specs.Events.{presses}
 use Rattle.report_totals.specs.Packets.{Movements}

@@ -1,15 +1,15 @@
 -- The packets of some bytes are the bytes, but for a short tail; and joined at a packet's end they are joined.
 -- Assumes nothing.
-use mathlib.Core.Path.{◌≡◌, refl, ap, ap₂, sym, ◌∙◌}
+use mathlib.Core.Path.{◌≡◌, refl, ap}
 use mathlib.Core.List.{List, [], ◌∷◌, ◌++◌, append_assoc}
-use Prim.Native.Nat.{ℕ, ◌<◌, ◌+◌}
+use Prim.Native.Nat.{ℕ, ◌<◌}
 use native.Mathlib.Omega.{arith}
 use lib.ListN.{length}
 use Rattle.ps2_bytes.specs.declared.response.MouseId.{MouseId}
 use Rattle.ps2_bytes.specs.declared.response.MouseId.TheVariants as Identity
 use Rattle.ps2_packet.specs.declared.MousePacket.{MousePacket}
 use Rattle.ps2_packet.specs.declared.MousePacket.TheVariants.{Zero, Three, Four}
-use Rattle.ps2_packet.specs.Packet.{generic, packet3, packet4, packet_id, packet_bytes, packet_length}
+use Rattle.ps2_packet.specs.Packet.{generic, packet_id, packet_bytes, packet_length}
 use Rattle.ps2_packet.specs.Packets.{by_threes, by_fours, packets_of, bytes_of}
 use Rattle.report_totals.specs.Whole.{Of, none, and, Whole}
 

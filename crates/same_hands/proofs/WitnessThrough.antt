@@ -2,7 +2,6 @@
 -- Assumes nothing.
 use mathlib.Core.List.{[], ◌∷◌}
 use mathlib.Core.Path.{◌≡◌, refl, sym, ap, ◌∙◌}
-use Prim.Native.Nat.{ℕ}
 use Rattle.bits.specs.Table.{decode}
 use Rattle.exchange.specs.Exchange.{bind, play}
 use Rattle.exchange.specs.Keeping.{keeping}

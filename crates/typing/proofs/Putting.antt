@@ -15,7 +15,7 @@ use Rattle.typing.specs.Keys.{Key, key_of, keys_of}
 use Rattle.typing.specs.Typing.{strokes_of, scancodes, Accepted, typed, outcome, leaves}
 use Rattle.typing.specs.Table.{or_none}
 use Rattle.typing.proofs.Texts.{Keyed, no_text, one_key, keyed}
-use Rattle.typing.proofs.Table.{key, Entry, no_entry, plain, shifted, entry}
+use Rattle.typing.proofs.Table.{Entry, no_entry, plain, shifted, entry}
 use Rattle.typing.proofs.Lengths.{typed_fits}
 use Rattle.typing.proofs.Typable.{key_below}
 

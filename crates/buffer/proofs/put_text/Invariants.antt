@@ -1,6 +1,5 @@
 -- `buffer::put_text` meets its contract: what is left of the text, put at the next place, is the whole put at the first.
 -- Assumes nothing.
-use mathlib.Core.List.{[]}
 use mathlib.Core.Path.{◌≡◌}
 use Prim.Native.Nat.{◌≤◌, ◌-◌}
 use lib.ListN.{length, drop}

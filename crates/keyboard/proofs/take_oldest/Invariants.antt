@@ -1,6 +1,6 @@
 -- `keyboard::take_oldest` meets its contract: from the last place down, each byte goes one place down, and the first is left over.
 -- Assumes nothing.
-use mathlib.Core.List.{List, [], ◌∷◌, ◌++◌}
+use mathlib.Core.List.{List, ◌∷◌, ◌++◌}
 use mathlib.Core.Path.{◌≡◌}
 use Prim.Native.Nat.{ℕ, ◌-◌, ◌≤◌}
 use lib.ListN.{replicate}

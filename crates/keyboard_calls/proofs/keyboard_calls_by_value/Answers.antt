@@ -2,7 +2,6 @@
 -- Assumes nothing.
 use native.Mathlib.Omega.{arith}
 use mathlib.Core.Path.{sym}
-use Rattle.keyboard_calls.specs.Calls.{table_of}
 use Rattle.keyboard_calls.proofs.Calls.{none_called, one_more_called, all_called}
 use Rattle.keyboard_calls.proofs.keyboard_calls_by_value.Goals as goal
 

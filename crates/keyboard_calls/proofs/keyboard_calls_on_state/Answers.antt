@@ -3,7 +3,6 @@
 use native.Mathlib.Omega.{arith}
 use mathlib.Core.Path.{sym, ap}
 use Rattle.keyboard_record.specs.declared.KeyboardHandler.{KeyboardHandler}
-use Rattle.keyboard_calls.specs.Calls.{table_of}
 use Rattle.keyboard_calls.proofs.Calls.{none_called_on, one_more_called_on, all_called_on}
 use Rattle.keyboard_calls.proofs.keyboard_calls_on_state.Goals as goal
 

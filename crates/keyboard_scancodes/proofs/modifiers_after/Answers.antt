@@ -2,7 +2,7 @@
 -- Assumes nothing.
 use borrow.Author.Tests.{lt-ltb, le-ltb}
 use mathlib.Core.Path.{◌≡◌, refl, ap, ap₂, ◌∙◌}
-use mathlib.Core.Bool.{Bool, true, false, xor, ◌||◌}
+use mathlib.Core.Bool.{Bool, xor, ◌||◌}
 use Prim.Native.Nat.{ℕ, ◌<◌, ◌%◌}
 use lib.Bits.{bit_and, and_mask}
 use native.Mathlib.Omega.{arith}

@@ -1,6 +1,5 @@
 -- `preferences_application::apply_four` meets its contract: each field is a byte, and its setting is the one that the byte lists.
 -- Assumes nothing.
-use mathlib.Core.List.{[]}
 use mathlib.Core.Path.{◌∙◌, ap}
 use native.Mathlib.Omega.{arith}
 use Rattle.preferences_application.specs.Settings.{set_of, rate_of, resolution_of}

@@ -1,7 +1,7 @@
 -- `report::add_sum` meets its contract: a sum that doesn't fit 64 bits is in no range, and one that does is asked.
 -- Assumes nothing.
 use mathlib.Core.Path.{◌≡◌, ap, sym, ◌∙◌}
-use mathlib.Core.Bool.{not, true, false}
+use mathlib.Core.Bool.{not}
 use borrow.Author.Tests.{ltb-true, ltb-false, not-true, not-false}
 use lib.Dec.{ltb}
 use lib.IntN.{◌+ℤ◌}

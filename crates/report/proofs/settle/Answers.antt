@@ -1,7 +1,6 @@
 -- `report::settle` meets its contract: the numbers are tried one after the other, presses, packets, x and y.
 -- Assumes nothing.
 use mathlib.Core.Path.{◌≡◌, sym, ◌∙◌}
-use mathlib.Core.Bool.{true, false}
 use Prim.Native.Nat.{◌+◌}
 use borrow.Author.Tests.{not-true, not-false}
 use lib.IntN.{◌+ℤ◌}

@@ -2,8 +2,6 @@
 -- Assumes nothing.
 use mathlib.Core.Path.{◌≡◌}
 use Prim.Native.Nat.{◌-◌, ◌*◌}
-use mir.Syntax.{w64}
-use mir.Val.{to_z}
 use Rattle.ps2_bytes.specs.declared.response.MouseId.{MouseId}
 use Rattle.ps2_packet.specs.Packet.{packet_length}
 use Rattle.report_totals.proofs.Summing.{Summing}

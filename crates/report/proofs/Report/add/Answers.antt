@@ -1,7 +1,6 @@
 -- `report::Report::add` meets its contract: a session that is too long is outside every report's limits, any other is settled.
 -- Assumes nothing.
 use mathlib.Core.Path.{◌≡◌, sym, ap, ◌∙◌}
-use mathlib.Core.Bool.{true, false}
 use native.Mathlib.Omega.{arith}
 use Rattle.report_totals.specs.declared.Tallied.{Tallied}
 use Rattle.report_totals.specs.Totals.{Session, totals_of}
