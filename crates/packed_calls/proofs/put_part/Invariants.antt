@@ -1,7 +1,6 @@
 -- `packed_calls::put_part` meets its contract: every byte goes behind the part's start.
 -- Assumes nothing.
 use Prim.Native.Nat.{◌-◌, ◌≤◌}
-use mathlib.Core.List.{[]}
 use mathlib.Core.Path.{◌≡◌}
 use lib.ListN.{length}
 use Rattle.packed_calls.specs.Replaying.{PutFrom}
