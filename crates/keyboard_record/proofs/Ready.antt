@@ -5,7 +5,7 @@ use mathlib.Core.Bool.{Bool, true, false, ◌&&◌, and-false, and-eq-true_iff, 
 use Prim.Native.Nat.{ℕ, ◌<◌, ◌≤◌}
 use native.Mathlib.Omega.{arith}
 use lib.Dec.{ltb}
-use borrow.Author.Tests.{le-ltb, ltb-true}
+use borrow.Author.Tests.{lt-ltb, le-ltb, le-leb, ltb-true}
 use Rattle.exchange.specs.Answer.{gives}
 use Rattle.ps2_answers.specs.Refusals.{success}
 use Rattle.keyboard_sides.specs.declared.Side.{Side}
@@ -46,6 +46,11 @@ guarded a false h = sym (and-false a)
 pub first_asked : (k : Keyboards) (s : HandlerState) → keyboard_formed s.first ≡ false → sides_formed k s ≡ false
 first_asked Keyboards.One s e = e
 first_asked Keyboards.Two s e = rw e
+
+-- a queue within its limits leaves the answer to the sides
+pub queue_asked : (s : HandlerState) → s.start < 128 → s.count ≤ 128 → well_formed s ≡ sides_formed s.table.keyboards s
+unfolding well_formed
+queue_asked s h i = rw (lt-ltb s.start 128 h, le-leb s.count 128 i)
 
 module _ (side : Side) (s : HandlerState) where
   pub unready_table : at_table s.table.keyboards side ≡ false → is_ready side s ≡ false

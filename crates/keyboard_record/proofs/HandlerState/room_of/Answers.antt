@@ -7,9 +7,9 @@ use borrow.Author.Tests.{leb-true, leb-false}
 use Rattle.keyboard_sides.specs.Sides.{count_of}
 use Rattle.keyboard_sides.proofs.Row.{sides_length}
 use Rattle.keyboard_record.specs.Queue.{are_two, waiting_sides}
-use Rattle.keyboard_record.proofs.Meeting.{InShare, meets_31, meets_20, meets_free}
+use Rattle.keyboard_record.proofs.Meeting.{meets_31, meets_20, meets_free}
 use Rattle.keyboard_record.proofs.HandlerState.room_of.Goals as goal
-use Rattle.keyboard_record.proofs.HandlerState.room_of.Goals.{After-struct_known-1, in-Two+else-has_share, in_default}
+use Rattle.keyboard_record.proofs.HandlerState.room_of.Goals.{in-Two+else-has_share, in_default}
 
 pub returns-then-has_share : goal.returns-then-has_share
 returns-then-has_share c =
@@ -17,21 +17,17 @@ returns-then-has_share c =
     let l = waiting_sides a.self in
     sym (meets_31 a.self.table.keyboards a.side l (ap are_two c.in-Two.is) (leb-true 96 (count_of a.side l) (sym c.has_share.ensures ∙ c.if-has_share.true)))
 
--- past the first question the side has room in its share
-module _ (c : After-struct_known-1) where
-  in_share : let a = c.args in InShare a.self.table.keyboards a.side (waiting_sides a.self)
-  in_share t =
-      elim c.match-keyboards.branch [
-        | in-Two+else-has_share w ↦ leb-false 96 _ (sym w.has_share.ensures ∙ w.if-has_share.false)
-        | in_default w ↦ absurd (true≢false (sym t ∙ ap are_two w.in_default.is))
-      ]
-
+-- past the first question the side has room in its share: with two keyboards it was asked, with one there is none
 pub returns-then-self-ge-QUEUE_LENGTH : goal.returns-then-self-ge-QUEUE_LENGTH
 returns-then-self-ge-QUEUE_LENGTH c =
     let a = c.args in
-    sym (meets_20 a.self.table.keyboards a.side (waiting_sides a.self) (in_share (goal.at.returns-then-self-ge-QUEUE_LENGTH c).After-struct_known-1) (omega (arith, c.if-self-ge-QUEUE_LENGTH.true, sides_length a.self.sides a.self.count)))
+    sym
+    (meets_20 a.self.table.keyboards a.side (waiting_sides a.self) (λ two. elim c.match-keyboards.branch [ in-Two+else-has_share w ↦ leb-false 96 _ (sym w.has_share.ensures ∙ w.if-has_share.false) | in_default w ↦ absurd (true≢false (sym two ∙ ap are_two w.in_default.is)) ])
+    (omega (arith, c.if-self-ge-QUEUE_LENGTH.true, sides_length a.self.sides a.self.count)))
 
 pub returns : goal.returns
 returns c =
     let a = c.args in
-    sym (meets_free a.self.table.keyboards a.side (waiting_sides a.self) (in_share (goal.at.returns c).After-struct_known-1) (omega (arith, c.if-self-ge-QUEUE_LENGTH.false, sides_length a.self.sides a.self.count)))
+    sym
+    (meets_free a.self.table.keyboards a.side (waiting_sides a.self) (λ two. elim c.match-keyboards.branch [ in-Two+else-has_share w ↦ leb-false 96 _ (sym w.has_share.ensures ∙ w.if-has_share.false) | in_default w ↦ absurd (true≢false (sym two ∙ ap are_two w.in_default.is)) ])
+    (omega (arith, c.if-self-ge-QUEUE_LENGTH.false, sides_length a.self.sides a.self.count)))
