@@ -10,14 +10,14 @@ ghost use Rattle.keyboard_sides.specs.Sides.{is_second, sides_of, count_of, olde
 const WORD: usize = 64;
 
 // The side of a table that a keyboard stands at: the first one's is on the first port, the second one's on the second.
-#[derive(Clone, Copy)]
+#[derive(Clone, Copy, PartialEq, Eq)]
 pub enum Side {
     First,
     Second,
 }
 
 // The sides of up to 128 events in two words, the low bits first. A bit that is set says the second side. The bits behind those of the events that wait may be anything.
-#[derive(Clone, Copy)]
+#[derive(Clone, Copy, PartialEq, Eq)]
 pub struct Sides {
     pub low: u64,
     pub high: u64,
@@ -74,12 +74,12 @@ impl Sides {
         if count < WORD {
             Sides {
                 low: put(self.low, count, side),
-                high: self.high,
+                ..self
             }
         } else if count < 2 * WORD {
             Sides {
-                low: self.low,
                 high: put(self.high, count - WORD, side),
+                ..self
             }
         } else {
             self
@@ -92,9 +92,9 @@ fn ones_below(word: u64, n: usize) -> usize
     ensures { result ≡ ones (word % 2 ^ n) }
 {
     if n < WORD {
-        u64::count_ones(word & ((1 << n) - 1)) as usize
+        (word & ((1 << n) - 1)).count_ones() as usize
     } else {
-        u64::count_ones(word) as usize
+        word.count_ones() as usize
     }
 }
 

@@ -4,16 +4,15 @@
 use mathlib.Core.Path.{◌≡◌, refl, sym, ap, ap₂, subst, ◌∙◌}
 use mathlib.Core.Bool.{Bool, true, false, not, ◌&&◌, ◌||◌, xor, true≢false}
 use mathlib.Core.List.{List, [], ◌∷◌}
-use Prim.Native.Nat.{ℕ, zero, suc, ◌<◌, ◌≤◌}
-use lib.Dec.{T, T_not, eqb, eqb→eq, lit<}
+use Prim.Native.Nat.{ℕ, ◌≤◌}
+use lib.Dec.{T, T_not, eqb, eqb→eq}
 use lib.ListN.{length, get_or, drop, get_or-eq_default}
 use mir.Facts.{and_yes}
 use Rattle.bits.specs.Bits.{bit}
 use Rattle.bits.proofs.Every.{each}
 use Rattle.keyboard_modifiers.specs.declared.KeyboardModifiers.{KeyboardModifiers}
 use Rattle.keyboard_modifiers.specs.Flags.{shift_left, shift_right, caps_lock}
-use Rattle.keycodes_ascii.specs.declared.Character.{Character}
-use Rattle.keycodes_ascii.specs.declared.Character.TheVariants.{Ascii, Absent}
+use Rattle.std.specs.Prelude.{Option, Some, None}
 use Rattle.keycodes_ascii.specs.declared.Keycode.{Keycode}
 use Rattle.keycodes_ascii.specs.Keycode.{number_of, keycodes}
 use Rattle.keycodes_ascii.specs.Characters.{writes, character, character_of}
@@ -21,30 +20,18 @@ use Rattle.keycodes_ascii.specs.CharacterTable.{column_of, entry_character, tabl
 use Rattle.keycodes_ascii.proofs.Codes.{every_keycode}
 use Rattle.keycodes_ascii.proofs.Chars.{character_flags}
 
--- there are four columns
-pub column_below : (shift caps : Bool) → column_of shift caps < 4
-column_below false false = lit< tt
-column_below true false = lit< tt
-column_below false true = lit< tt
-column_below true true = lit< tt
+unfoldable pub same : Option ℕ → Option ℕ → Bool
+same (Some a) (Some b) = eqb a b
+same (Some a) None = false
+same None (Some b) = false
+same None None = true
 
--- an entry other than 0 is its character
-pub entry_some : (n : ℕ) → (n ≡ 0 → ⊥) → Ascii n ≡ entry_character n
-entry_some zero h = absurd (h refl)
-entry_some (suc n) h = refl
-
-unfoldable pub same : Character → Character → Bool
-same (Ascii a) (Ascii b) = eqb a b
-same (Ascii a) Absent = false
-same Absent (Ascii b) = false
-same Absent Absent = true
-
-same_eq : (x y : Character) → T (same x y) → x ≡ y
+same_eq : (x y : Option ℕ) → T (same x y) → x ≡ y
 unfolding same
-same_eq (Ascii a) (Ascii b) t = ap Ascii (eqb→eq a b t)
-same_eq (Ascii a) Absent t = absurd t
-same_eq Absent (Ascii b) t = absurd t
-same_eq Absent Absent t = refl
+same_eq (Some a) (Some b) t = ap Some (eqb→eq a b t)
+same_eq (Some a) None t = absurd t
+same_eq None (Some b) t = absurd t
+same_eq None None t = refl
 
 abbrev pub both : (Bool → Bool) → Bool
 both f = f false && f true
@@ -88,7 +75,7 @@ agreement [] e = absurd (true≢false e)
 agreement (row ∷ rows) e = entries (row ∷ rows) (subst T e tt)
 
 -- past a table's end there is no character
-pub past_end : (table : List (List ℕ)) (row column : ℕ) → length table ≤ row → Absent ≡ table_character table row column
+pub past_end : (table : List (List ℕ)) (row column : ℕ) → length table ≤ row → None ≡ table_character table row column
 past_end table row column h = ap (λ r. entry_character (get_or r column 0)) (sym (get_or-eq_default table [] h))
 
 -- the character of a key under some flags stands at the key's number, in the column that the flags say
@@ -100,11 +87,11 @@ table_flags {table} a k m {number} {column} {shift} {caps} n c p q =
     ap₂ (table_character table) n c ∙ a.entry k shift caps ∙ character_flags k m p q
 
 -- 0 can stand for no character, since no key writes it
-is_nul : Character → Bool
-is_nul (Ascii n) = eqb n 0
-is_nul Absent = false
+is_nul : Option ℕ → Bool
+is_nul (Some n) = eqb n 0
+is_nul None = false
 
-pub nul_free : (k : Keycode) (shift caps : Bool) → character (writes k) shift caps ≡ Ascii 0 → ⊥
+pub nul_free : (k : Keycode) (shift caps : Bool) → character (writes k) shift caps ≡ Some 0 → ⊥
 unfolding is_nul keycodes xor
 nul_free k shift caps e =
     T_not (is_nul (character (writes k) shift caps))
@@ -113,4 +100,4 @@ nul_free k shift caps e =
     (at_keycode (λ k. both (λ shift. both (λ caps. not (is_nul (character (writes k) shift caps))))) tt k)
     shift)
     caps)
-    (subst (λ (x : Character). T (is_nul x)) (sym e) tt)
+    (subst (λ (x : Option ℕ). T (is_nul x)) (sym e) tt)

@@ -7,14 +7,15 @@ use Prim.Native.Nat.{ℕ}
 use denote.Enum.Declared.{tag_of}
 use lib.Dec.{T, eqb, eqb→eq}
 use lib.ListN.{get_or}
-use Rattle.bits.proofs.Every.{each, each_at, each_one_of}
+use Rattle.bits.proofs.Every.{each, each_at}
 use Rattle.bits.proofs.Table.{NoRow, decode_missing}
 use Rattle.bits.specs.Table.{rows, decode}
 use Rattle.keycodes_ascii.specs.contracts.Keycode.{the_type}
-use Rattle.keycodes_ascii.specs.declared.FoundKeycode.{FoundKeycode}
-use Rattle.keycodes_ascii.specs.declared.FoundKeycode.TheVariants.{Found, Unknown}
+use Rattle.std.specs.Prelude.{Option, Some, None, Result, Ok, Err, ok_or}
+use Rattle.std.specs.Result.{result_ok}
 use Rattle.keycodes_ascii.specs.declared.Keycode.{Keycode}
-use Rattle.keycodes_ascii.specs.Keycode.{number_of, keycodes, numbered, keycode_of}
+use Rattle.keycodes_ascii.specs.declared.NoKeycode.{NoKeycode}
+use Rattle.keycodes_ascii.specs.Keycode.{number_of, keycodes, numbered, keycode_of, keycode_read}
 
 -- the place of a keycode among its type's variants, and the keycode at a place
 abbrev pub place : Keycode → ℕ
@@ -130,35 +131,30 @@ at_place Keycode.SuperKeyRightReleased = refl
 pub every_keycode : (f : Keycode → Bool) → T (f Keycode.OverflowError) → T (each f keycodes) → (k : Keycode) → T (f k)
 every_keycode f h t k = subst (λ (j : Keycode). T (f j)) (at_place k) (each_at f keycodes Keycode.OverflowError h t (place k))
 
--- what an arm of a `match` on a keycode tells, as a test of the keycodes at the arm's places
-pub arm_keycode : (f : Keycode → Bool) (ns : List ℕ) (k : Keycode) → T (each (λ n. f (keycode_at n)) ns) → types.Run.OneOf ns (place k) → T (f k)
-arm_keycode f ns k t h =
-    subst (λ (j : Keycode). T (f j)) (at_place k) (each_one_of (λ n. f (keycode_at n)) ns (place k) t h)
-
 -- two keycodes at one place are one
 pub same_place : (j k : Keycode) → place j ≡ place k → j ≡ k
 same_place j k e = sym (at_place j) ∙ ap keycode_at e ∙ at_place k
 
 -- whether a byte's keycode is k
-abbrev is_found : Keycode → FoundKeycode → Bool
-is_found k (Found j) = eqb (place j) (place k)
-is_found k Unknown = false
+abbrev is_found : Keycode → Option Keycode → Bool
+is_found k (Some j) = eqb (place j) (place k)
+is_found k None = false
 
-is_found_lem : (k : Keycode) (f : FoundKeycode) → T (is_found k f) → f ≡ Found k
-is_found_lem k (Found j) t = ap Found (same_place j k (eqb→eq (place j) (place k) t))
-is_found_lem k Unknown t = absurd t
+is_found_lem : (k : Keycode) (f : Option Keycode) → T (is_found k f) → f ≡ Some k
+is_found_lem k (Some j) t = ap Some (same_place j k (eqb→eq (place j) (place k) t))
+is_found_lem k None t = absurd t
 
 -- a keycode's number gives the keycode back
-pub keycode_number : (k : Keycode) → keycode_of (number_of k) ≡ Found k
+pub keycode_number : (k : Keycode) → keycode_of (number_of k) ≡ Some k
 unfolding keycode_of numbered keycodes
 keycode_number k = is_found_lem k (keycode_of (number_of k)) (every_keycode (λ k. is_found k (keycode_of (number_of k))) tt tt k)
 
 -- and a keycode that is found for a number has it
-abbrev pub Has : ℕ → FoundKeycode → Type 0
-Has b (Found k) = b ≡ number_of k
-Has b Unknown = Unit {0}
+abbrev pub Has : ℕ → Option Keycode → Type 0
+Has b (Some k) = b ≡ number_of k
+Has b None = Unit {0}
 
-has_first : (b : ℕ) (k : Keycode) (f : FoundKeycode) (t : Bool) → (T t → b ≡ number_of k) → Has b f → Has b (cond t (Found k) f)
+has_first : (b : ℕ) (k : Keycode) (f : Option Keycode) (t : Bool) → (T t → b ≡ number_of k) → Has b f → Has b (cond t (Some k) f)
 has_first b k f true e h = e tt
 has_first b k f false e h = h
 
@@ -171,17 +167,27 @@ pub keycode_has : (b : ℕ) → Has b (keycode_of b)
 unfolding keycode_of
 keycode_has b = numbered_has keycodes b
 
--- what an arm of a `match` on a byte tells: the byte has the arm's keycode
-pub found_keycode : (k : Keycode) {b : ℕ} → b ≡ number_of k → Found k ≡ keycode_of b
-found_keycode k e = sym (ap keycode_of e ∙ keycode_number k)
-
 -- the first keycode that has a number is what the table of all keycodes has for it
-numbered_decode : (ks : List Keycode) (b : ℕ) → numbered ks b ≡ decode Found Unknown (rows number_of ks) b
+numbered_decode : (ks : List Keycode) (b : ℕ) → numbered ks b ≡ decode Some None (rows number_of ks) b
 unfolding numbered decode
 numbered_decode [] b = refl
-numbered_decode (k ∷ ks) b = ap (cond (eqb b (number_of k)) (Found k)) (numbered_decode ks b)
+numbered_decode (k ∷ ks) b = ap (cond (eqb b (number_of k)) (Some k)) (numbered_decode ks b)
 
 -- a byte that is the number of no keycode has none
-pub keycode_missing : (b : ℕ) → NoRow (Unit {0}) (rows number_of keycodes) b → Unknown ≡ keycode_of b
+pub keycode_missing : (b : ℕ) → NoRow (Unit {0}) (rows number_of keycodes) b → None ≡ keycode_of b
 unfolding keycode_of
-keycode_missing b h = sym (numbered_decode keycodes b ∙ decode_missing Found Unknown (Unit {0}) (rows number_of keycodes) b h)
+keycode_missing b h = sym (numbered_decode keycodes b ∙ decode_missing Some None (Unit {0}) (rows number_of keycodes) b h)
+
+-- what a byte is read as tells its keycode
+ok_or_ok : {A E : Type 0} (o : Option A) (e : E) → result_ok (ok_or o e) ≡ o
+ok_or_ok None e = refl
+ok_or_ok (Some a) e = refl
+
+pub ok_read : (b : ℕ) → result_ok (keycode_read b) ≡ keycode_of b
+ok_read b = ok_or_ok (keycode_of b) (record { 0 = b })
+
+pub read_ok : (b : ℕ) {r : Result Keycode NoKeycode} {k : Keycode} → r ≡ keycode_read b → r ≡ Ok k → Some k ≡ keycode_of b
+read_ok b q e = ap result_ok (sym e ∙ q) ∙ ok_read b
+
+pub read_err : (b : ℕ) {r : Result Keycode NoKeycode} {x : NoKeycode} → r ≡ keycode_read b → r ≡ Err x → None ≡ keycode_of b
+read_err b q e = ap result_ok (sym e ∙ q) ∙ ok_read b

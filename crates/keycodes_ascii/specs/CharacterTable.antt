@@ -1,8 +1,6 @@
 -- How the characters stand in the table of src/layout.rt, and when such a table agrees with the rule.
 -- Assumes nothing.
-use Rattle.std.specs.Prelude.{◌≡◌, Bool, true, false, List, [], ℕ, zero, suc, get_or}
-use Rattle.keycodes_ascii.specs.declared.Character.{Character}
-use Rattle.keycodes_ascii.specs.declared.Character.TheVariants.{Ascii, Absent}
+use Rattle.std.specs.Prelude.{◌≡◌, Bool, true, false, List, [], ℕ, zero, suc, get_or, Option, Some, None}
 use Rattle.keycodes_ascii.specs.declared.Keycode.{Keycode}
 use Rattle.keycodes_ascii.specs.Keycode.{number_of}
 use Rattle.keycodes_ascii.specs.Characters.{writes, character}
@@ -15,12 +13,12 @@ column_of false true = 2
 column_of true true = 3
 
 -- "With 0 for no character": the character that an entry stands for.
-abbrev pub entry_character : ℕ → Character
-entry_character zero = Absent
-entry_character (suc n) = Ascii (suc n)
+abbrev pub entry_character : ℕ → Option ℕ
+entry_character zero = None
+entry_character (suc n) = Some (suc n)
 
 -- The character that a table has in a row and a column; past its end there is none.
-abbrev pub table_character : List (List ℕ) → ℕ → ℕ → Character
+abbrev pub table_character : List (List ℕ) → ℕ → ℕ → Option ℕ
 table_character table row column = entry_character (get_or (get_or table row []) column 0)
 
 -- "The rule is shown once for the whole table": at each key's number, with Shift or without, with Caps Lock or without, stands what

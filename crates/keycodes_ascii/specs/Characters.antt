@@ -1,13 +1,9 @@
 -- The characters, key by key: the US layout as the Rust has it.
 -- Assumes nothing.
-use Rattle.std.specs.Prelude.{Bool, true, false, cond, ◌||◌, ℕ}
+use Rattle.std.specs.Prelude.{Bool, true, false, cond, ◌||◌, ℕ, Option, Some, None}
 use Rattle.std.specs.Bool.{xor}
 use Prim.Native.Char.{Char, code}
 use Rattle.bits.specs.Bits.{bit}
-use Rattle.keycodes_ascii.specs.declared.Character.{Character}
-use Rattle.keycodes_ascii.specs.declared.Character.TheVariants.{Ascii, Absent}
-use Rattle.keycodes_ascii.specs.declared.FoundKeycode.{FoundKeycode}
-use Rattle.keycodes_ascii.specs.declared.FoundKeycode.TheVariants.{Found, Unknown}
 use Rattle.keyboard_modifiers.specs.declared.KeyboardModifiers.{KeyboardModifiers}
 use Rattle.keycodes_ascii.specs.declared.Keycode.{Keycode}
 use Rattle.keycodes_ascii.specs.Keycode.{keycode_of}
@@ -134,22 +130,22 @@ is_letter (control n) = false
 is_letter nothing = false
 
 -- The character of a key where Shift is held or not and Caps Lock is on or not. Caps Lock turns Shift round for letters, and does nothing to any other key.
-abbrev pub character : Writes → Bool → Bool → Character
-character (letter a b) shift caps = Ascii (cond (xor shift caps) (code b) (code a))
-character (sign a b) shift caps = Ascii (cond shift (code b) (code a))
-character (same a) shift caps = Ascii (code a)
-character (control n) shift caps = Ascii n
-character nothing shift caps = Absent
+abbrev pub character : Writes → Bool → Bool → Option ℕ
+character (letter a b) shift caps = Some (cond (xor shift caps) (code b) (code a))
+character (sign a b) shift caps = Some (cond shift (code b) (code a))
+character (same a) shift caps = Some (code a)
+character (control n) shift caps = Some n
+character nothing shift caps = None
 
 -- The character of a key under some flags: only both Shifts and Caps Lock matter.
-unfoldable pub character_of : Keycode → KeyboardModifiers → Character
+unfoldable pub character_of : Keycode → KeyboardModifiers → Option ℕ
 character_of k m =
     character (writes k) (bit shift_left m.bits || bit shift_right m.bits) (bit caps_lock m.bits)
 
 -- The character of a byte: that of its keycode, if it has one.
-abbrev pub character_of_found : FoundKeycode → KeyboardModifiers → Character
-character_of_found (Found k) m = character_of k m
-character_of_found Unknown m = Absent
+abbrev pub character_of_found : Option Keycode → KeyboardModifiers → Option ℕ
+character_of_found (Some k) m = character_of k m
+character_of_found None m = None
 
-unfoldable pub scancode_character : KeyboardModifiers → ℕ → Character
+unfoldable pub scancode_character : KeyboardModifiers → ℕ → Option ℕ
 scancode_character m b = character_of_found (keycode_of b) m

@@ -1,9 +1,8 @@
 -- The keycodes and their numbers: a keycode's number is the key's press code in scan code set 1.
 -- Assumes nothing.
-use Rattle.std.specs.Prelude.{cond, List, [], ◌∷◌, ℕ, eqb}
-use Rattle.keycodes_ascii.specs.declared.FoundKeycode.{FoundKeycode}
-use Rattle.keycodes_ascii.specs.declared.FoundKeycode.TheVariants.{Found, Unknown}
+use Rattle.std.specs.Prelude.{cond, List, [], ◌∷◌, ℕ, eqb, Option, Some, None, Result, ok_or}
 use Rattle.keycodes_ascii.specs.declared.Keycode.{Keycode}
+use Rattle.keycodes_ascii.specs.declared.NoKeycode.{NoKeycode}
 
 -- The number of a keycode: 00 to 5D, and the release codes of the six modifier keys, which are values of the Rust's type and occur in no event.
 abbrev pub number_of : Keycode → ℕ
@@ -129,10 +128,14 @@ keycodes =
     Keycode.SuperKeyRightReleased ∷ []
 
 -- The first of some keycodes that has the number b.
-unfoldable pub numbered : List Keycode → ℕ → FoundKeycode
-numbered [] b = Unknown
-numbered (k ∷ ks) b = cond (eqb b (number_of k)) (Found k) (numbered ks b)
+unfoldable pub numbered : List Keycode → ℕ → Option Keycode
+numbered [] b = None
+numbered (k ∷ ks) b = cond (eqb b (number_of k)) (Some k) (numbered ks b)
 
 -- The keycode of a byte: the one that has it for its number. No other byte has one.
-unfoldable pub keycode_of : ℕ → FoundKeycode
+unfoldable pub keycode_of : ℕ → Option Keycode
 keycode_of b = numbered keycodes b
+
+-- What a byte is read as: its keycode, or the refusal that names it.
+abbrev pub keycode_read : ℕ → Result Keycode NoKeycode
+keycode_read b = ok_or (keycode_of b) (record { 0 = b })

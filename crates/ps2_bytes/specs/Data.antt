@@ -1,19 +1,14 @@
--- Data bytes that follow a command to a device: the byte of each value, and what a byte stands for.
+-- Data bytes that follow a command to a device: the byte of each value, and what a byte stands for; one that stands for nothing is handed back.
 -- Assumes nothing.
-use Rattle.std.specs.Prelude.{List, [], ◌∷◌, ℕ}
+use Rattle.std.specs.Prelude.{List, [], ◌∷◌, ℕ, Result, Ok, Err}
 use Rattle.bits.specs.Table.{rows, decode}
+use Rattle.ps2_bytes.specs.declared.Unlisted.{Unlisted}
 use Rattle.ps2_bytes.specs.declared.data.ScancodeSet.{ScancodeSet}
 use Rattle.ps2_bytes.specs.declared.data.ScancodeSet.TheVariants.{Get, Set1, Set2, Set3}
-use Rattle.ps2_bytes.specs.declared.data.ScancodeSetByte.{ScancodeSetByte}
-use Rattle.ps2_bytes.specs.declared.data.ScancodeSetByte.TheVariants as Set
 use Rattle.ps2_bytes.specs.declared.data.MouseSampleRate.{MouseSampleRate}
 use Rattle.ps2_bytes.specs.declared.data.MouseSampleRate.TheVariants.{_10, _20, _40, _60, _80, _100, _200}
-use Rattle.ps2_bytes.specs.declared.data.SampleRateByte.{SampleRateByte}
-use Rattle.ps2_bytes.specs.declared.data.SampleRateByte.TheVariants as Rate
 use Rattle.ps2_bytes.specs.declared.data.MouseResolution.{MouseResolution}
 use Rattle.ps2_bytes.specs.declared.data.MouseResolution.TheVariants.{Count1PerMm, Count2PerMm, Count4PerMm, Count8PerMm}
-use Rattle.ps2_bytes.specs.declared.data.ResolutionByte.{ResolutionByte}
-use Rattle.ps2_bytes.specs.declared.data.ResolutionByte.TheVariants as Resolution
 
 -- ---- scancode sets, F0 of "PS/2 Keyboard"
 
@@ -28,8 +23,8 @@ abbrev pub scancode_sets : List (ℕ × ScancodeSet)
 scancode_sets = rows scancode_set_byte (Get ∷ Set1 ∷ Set2 ∷ Set3 ∷ [])
 
 -- A byte as a scancode set.
-abbrev pub scancode_set_read : ℕ → ScancodeSetByte
-scancode_set_read b = decode Set.Listed Set.Unlisted scancode_sets b
+abbrev pub scancode_set_read : ℕ → Result ScancodeSet Unlisted
+scancode_set_read b = decode Ok (Err (record { 0 = b })) scancode_sets b
 
 -- ---- sample rates, F3 of "PS/2 Mouse"
 
@@ -47,8 +42,8 @@ abbrev pub sample_rates : List (ℕ × MouseSampleRate)
 sample_rates = rows sample_rate_byte (_10 ∷ _20 ∷ _40 ∷ _60 ∷ _80 ∷ _100 ∷ _200 ∷ [])
 
 -- A byte as a sample rate.
-abbrev pub sample_rate_read : ℕ → SampleRateByte
-sample_rate_read b = decode Rate.Listed Rate.Unlisted sample_rates b
+abbrev pub sample_rate_read : ℕ → Result MouseSampleRate Unlisted
+sample_rate_read b = decode Ok (Err (record { 0 = b })) sample_rates b
 
 -- ---- resolutions, E8 of "PS/2 Mouse"
 
@@ -63,5 +58,5 @@ abbrev pub resolutions : List (ℕ × MouseResolution)
 resolutions = rows resolution_byte (Count1PerMm ∷ Count2PerMm ∷ Count4PerMm ∷ Count8PerMm ∷ [])
 
 -- A byte as a resolution.
-abbrev pub resolution_read : ℕ → ResolutionByte
-resolution_read b = decode Resolution.Listed Resolution.Unlisted resolutions b
+abbrev pub resolution_read : ℕ → Result MouseResolution Unlisted
+resolution_read b = decode Ok (Err (record { 0 = b })) resolutions b

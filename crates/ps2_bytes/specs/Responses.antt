@@ -1,19 +1,14 @@
--- Answers of the controller and of the devices: the byte of each, and what a byte stands for.
+-- Answers of the controller and of the devices: the byte of each, and what a byte stands for; one that stands for nothing is handed back.
 -- Assumes nothing.
-use Rattle.std.specs.Prelude.{List, [], ◌∷◌, ℕ}
+use Rattle.std.specs.Prelude.{List, [], ◌∷◌, ℕ, Result, Ok, Err}
 use Rattle.bits.specs.Table.{rows, decode}
+use Rattle.ps2_bytes.specs.declared.Unlisted.{Unlisted}
 use Rattle.ps2_bytes.specs.declared.response.PortTestResult.{PortTestResult}
 use Rattle.ps2_bytes.specs.declared.response.PortTestResult.TheVariants.{Passed, ClockLineStuckLow, ClockLineStuckHigh, DataLineStuckLow, DataLineStuckHigh}
-use Rattle.ps2_bytes.specs.declared.response.PortTestByte.{PortTestByte}
-use Rattle.ps2_bytes.specs.declared.response.PortTestByte.TheVariants as PortTest
 use Rattle.ps2_bytes.specs.declared.response.DeviceToHostResponse.{DeviceToHostResponse}
 use Rattle.ps2_bytes.specs.declared.response.DeviceToHostResponse.TheVariants.{KeyDetectionErrorOrInternalBufferOverrun1, SelfTestPassed, ResponseToEcho, Acknowledge, SelfTestFailed1, SelfTestFailed2, ResendCommand, KeyDetectionErrorOrInternalBufferOverrun2}
-use Rattle.ps2_bytes.specs.declared.response.ResponseByte.{ResponseByte}
-use Rattle.ps2_bytes.specs.declared.response.ResponseByte.TheVariants as Response
 use Rattle.ps2_bytes.specs.declared.response.MouseId.{MouseId}
 use Rattle.ps2_bytes.specs.declared.response.MouseId.TheVariants.{Zero, Three, Four}
-use Rattle.ps2_bytes.specs.declared.response.MouseIdByte.{MouseIdByte}
-use Rattle.ps2_bytes.specs.declared.response.MouseIdByte.TheVariants as Identity
 
 -- ---- a port test, commands A9 and AB of "8042 PS/2 Controller"
 
@@ -31,8 +26,8 @@ port_test_results =
     (Passed ∷ ClockLineStuckLow ∷ ClockLineStuckHigh ∷ DataLineStuckLow ∷ DataLineStuckHigh ∷ [])
 
 -- A byte as an answer.
-abbrev pub port_test_read : ℕ → PortTestByte
-port_test_read b = decode PortTest.Listed PortTest.Unlisted port_test_results b
+abbrev pub port_test_read : ℕ → Result PortTestResult Unlisted
+port_test_read b = decode Ok (Err (record { 0 = b })) port_test_results b
 
 -- ---- a device's response, the special bytes of "PS/2 Keyboard"
 
@@ -54,8 +49,8 @@ responses =
     ∷ SelfTestFailed1 ∷ SelfTestFailed2 ∷ ResendCommand ∷ KeyDetectionErrorOrInternalBufferOverrun2 ∷ [])
 
 -- A byte as a response.
-abbrev pub response_read : ℕ → ResponseByte
-response_read b = decode Response.Listed Response.Unlisted responses b
+abbrev pub response_read : ℕ → Result DeviceToHostResponse Unlisted
+response_read b = decode Ok (Err (record { 0 = b })) responses b
 
 -- ---- a mouse's identity, "PS/2 Mouse"
 
@@ -69,5 +64,5 @@ abbrev pub mouse_ids : List (ℕ × MouseId)
 mouse_ids = rows mouse_id_byte (Zero ∷ Three ∷ Four ∷ [])
 
 -- A byte as an identity.
-abbrev pub mouse_id_read : ℕ → MouseIdByte
-mouse_id_read b = decode Identity.Listed Identity.Unlisted mouse_ids b
+abbrev pub mouse_id_read : ℕ → Result MouseId Unlisted
+mouse_id_read b = decode Ok (Err (record { 0 = b })) mouse_ids b

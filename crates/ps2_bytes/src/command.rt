@@ -3,125 +3,89 @@ ghost use Rattle.std.specs.Prelude.{◌≡◌};
 ghost use Rattle.ps2_bytes.specs.Commands.{controller_byte, keyboard_byte, mouse_byte};
 
 // Commands to the controller itself, written to port 64. "Output" is what a device sends to the host, "input" what it gets.
-#[derive(Clone, Copy)]
+#[derive(Clone, Copy, PartialEq, Eq)]
 pub enum HostToControllerCommand {
     // Returns the configuration byte.
-    ReadFromInternalRAMByte0,
+    ReadFromInternalRAMByte0 = 0x20,
     // Sets the configuration byte.
-    WriteToInternalRAMByte0,
+    WriteToInternalRAMByte0 = 0x60,
     // Sets `port2_clock_disabled`.
-    DisablePort2,
+    DisablePort2 = 0xA7,
     // Clears `port2_clock_disabled`.
-    EnablePort2,
+    EnablePort2 = 0xA8,
     // Returns a `PortTestResult`.
-    TestPort2,
-    TestController,
+    TestPort2 = 0xA9,
+    TestController = 0xAA,
     // Returns a `PortTestResult`.
-    TestPort1,
+    TestPort1 = 0xAB,
     // Sets `port1_clock_disabled`.
-    DisablePort1,
+    DisablePort1 = 0xAD,
     // Clears `port1_clock_disabled`.
-    EnablePort1,
+    EnablePort1 = 0xAE,
     // Sends the next byte to the second port.
-    WriteByteToPort2InputBuffer,
+    WriteByteToPort2InputBuffer = 0xD4,
 }
 
-impl HostToControllerCommand {
-    pub fn to_byte(self) -> u8
-        ensures { result ≡ controller_byte self }
-    {
-        match self {
-            HostToControllerCommand::ReadFromInternalRAMByte0 => 0x20,
-            HostToControllerCommand::WriteToInternalRAMByte0 => 0x60,
-            HostToControllerCommand::DisablePort2 => 0xA7,
-            HostToControllerCommand::EnablePort2 => 0xA8,
-            HostToControllerCommand::TestPort2 => 0xA9,
-            HostToControllerCommand::TestController => 0xAA,
-            HostToControllerCommand::TestPort1 => 0xAB,
-            HostToControllerCommand::DisablePort1 => 0xAD,
-            HostToControllerCommand::EnablePort1 => 0xAE,
-            HostToControllerCommand::WriteByteToPort2InputBuffer => 0xD4,
-        }
+impl From<HostToControllerCommand> for u8 {
+    ghost from_gives = { λ to_controller byte. byte ≡ controller_byte to_controller };
+
+    fn from(to_controller: HostToControllerCommand) -> u8 {
+        to_controller as u8
     }
 }
 
 // Commands to the keyboard, written to port 60.
-#[derive(Clone, Copy)]
+#[derive(Clone, Copy, PartialEq, Eq)]
 pub enum HostToKeyboardCommand {
     // Takes an `LEDState`.
-    SetLEDStatus,
+    SetLEDStatus = 0xED,
     // Takes a `ScancodeSet`.
-    ScancodeSet,
-    IdentifyKeyboard,
+    ScancodeSet = 0xF0,
+    IdentifyKeyboard = 0xF2,
     // Also called typematic.
-    SetRepeatRateAndDelay,
-    EnableScanning,
+    SetRepeatRateAndDelay = 0xF3,
+    EnableScanning = 0xF4,
     // Might also restore default parameters.
-    DisableScanning,
-    ResendByte,
-    ResetAndStartSelfTest,
+    DisableScanning = 0xF5,
+    ResendByte = 0xFE,
+    ResetAndStartSelfTest = 0xFF,
 }
 
-impl HostToKeyboardCommand {
-    pub fn to_byte(self) -> u8
-        ensures { result ≡ keyboard_byte self }
-    {
-        match self {
-            HostToKeyboardCommand::SetLEDStatus => 0xED,
-            HostToKeyboardCommand::ScancodeSet => 0xF0,
-            HostToKeyboardCommand::IdentifyKeyboard => 0xF2,
-            HostToKeyboardCommand::SetRepeatRateAndDelay => 0xF3,
-            HostToKeyboardCommand::EnableScanning => 0xF4,
-            HostToKeyboardCommand::DisableScanning => 0xF5,
-            HostToKeyboardCommand::ResendByte => 0xFE,
-            HostToKeyboardCommand::ResetAndStartSelfTest => 0xFF,
-        }
+impl From<HostToKeyboardCommand> for u8 {
+    ghost from_gives = { λ to_keyboard byte. byte ≡ keyboard_byte to_keyboard };
+
+    fn from(to_keyboard: HostToKeyboardCommand) -> u8 {
+        to_keyboard as u8
     }
 }
 
 // Commands to the mouse, written to port 60 after the controller command D4.
-#[derive(Clone, Copy)]
+#[derive(Clone, Copy, PartialEq, Eq)]
 pub enum HostToMouseCommand {
     // The Rust has this one byte for scaling 1 or 2; the wiki's E6 is 1:1.
-    SetScaling,
+    SetScaling = 0xE6,
     // Takes a `MouseResolution`.
-    SetResolution,
-    StatusRequest,
-    SetStreamMode,
-    ReadData,
-    ResetWrapMode,
-    SetWrapMode,
-    SetRemoteMode,
-    GetDeviceID,
+    SetResolution = 0xE8,
+    StatusRequest = 0xE9,
+    SetStreamMode = 0xEA,
+    ReadData = 0xEB,
+    ResetWrapMode = 0xEC,
+    SetWrapMode = 0xEE,
+    SetRemoteMode = 0xF0,
+    GetDeviceID = 0xF2,
     // Takes a `MouseSampleRate`.
-    SampleRate,
-    EnableDataReporting,
-    DisableDataReporting,
-    SetDefaults,
-    ResendByte,
-    Reset,
+    SampleRate = 0xF3,
+    EnableDataReporting = 0xF4,
+    DisableDataReporting = 0xF5,
+    SetDefaults = 0xF6,
+    ResendByte = 0xFE,
+    Reset = 0xFF,
 }
 
-impl HostToMouseCommand {
-    pub fn to_byte(self) -> u8
-        ensures { result ≡ mouse_byte self }
-    {
-        match self {
-            HostToMouseCommand::SetScaling => 0xE6,
-            HostToMouseCommand::SetResolution => 0xE8,
-            HostToMouseCommand::StatusRequest => 0xE9,
-            HostToMouseCommand::SetStreamMode => 0xEA,
-            HostToMouseCommand::ReadData => 0xEB,
-            HostToMouseCommand::ResetWrapMode => 0xEC,
-            HostToMouseCommand::SetWrapMode => 0xEE,
-            HostToMouseCommand::SetRemoteMode => 0xF0,
-            HostToMouseCommand::GetDeviceID => 0xF2,
-            HostToMouseCommand::SampleRate => 0xF3,
-            HostToMouseCommand::EnableDataReporting => 0xF4,
-            HostToMouseCommand::DisableDataReporting => 0xF5,
-            HostToMouseCommand::SetDefaults => 0xF6,
-            HostToMouseCommand::ResendByte => 0xFE,
-            HostToMouseCommand::Reset => 0xFF,
-        }
+impl From<HostToMouseCommand> for u8 {
+    ghost from_gives = { λ to_mouse byte. byte ≡ mouse_byte to_mouse };
+
+    fn from(to_mouse: HostToMouseCommand) -> u8 {
+        to_mouse as u8
     }
 }

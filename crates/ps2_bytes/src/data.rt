@@ -1,4 +1,6 @@
 // Data bytes, which follow a command to a device: scancode sets, sample rates, resolutions.
+#![tactic(auto, unfolding(bits::specs::Table::decode))]
+
 ghost use Rattle.std.specs.Prelude.{◌≡◌};
 ghost use Rattle.ps2_bytes.specs.Data.{
   scancode_set_byte,
@@ -9,134 +11,111 @@ ghost use Rattle.ps2_bytes.specs.Data.{
   resolution_read,
 };
 
+use crate::Unlisted;
+
+// Each type below has its own `match` on a byte, and shares no function: the rows are what is to be read, and a list of them to be searched is no plainer.
+
 // Data of the keyboard command `ScancodeSet`, and what the keyboard answers to `Get`, untranslated.
-#[derive(Clone, Copy)]
+#[derive(Clone, Copy, PartialEq, Eq)]
 pub enum ScancodeSet {
-    Get,
-    Set1,
-    Set2,
-    Set3,
+    Get = 0,
+    Set1 = 1,
+    Set2 = 2,
+    Set3 = 3,
 }
 
-// A byte as a scancode set.
-#[derive(Clone, Copy)]
-pub enum ScancodeSetByte {
-    Listed(ScancodeSet),
-    Unlisted,
-}
+impl TryFrom<u8> for ScancodeSet {
+    type Error = Unlisted;
 
-impl ScancodeSet {
-    pub fn from_byte(byte: u8) -> ScancodeSetByte
-        ensures { result ≡ scancode_set_read byte }
-    {
+    ghost try_from_gives = { λ byte read. read ≡ scancode_set_read byte };
+
+    fn try_from(byte: u8) -> Result<Self, Unlisted> {
         match byte {
-            0 => ScancodeSetByte::Listed(ScancodeSet::Get),
-            1 => ScancodeSetByte::Listed(ScancodeSet::Set1),
-            2 => ScancodeSetByte::Listed(ScancodeSet::Set2),
-            3 => ScancodeSetByte::Listed(ScancodeSet::Set3),
-            _ => ScancodeSetByte::Unlisted,
+            0 => Ok(ScancodeSet::Get),
+            1 => Ok(ScancodeSet::Set1),
+            2 => Ok(ScancodeSet::Set2),
+            3 => Ok(ScancodeSet::Set3),
+            _ => Err(Unlisted(byte)),
         }
     }
+}
 
-    pub fn to_byte(self) -> u8
-        ensures { result ≡ scancode_set_byte self }
-    {
-        match self {
-            ScancodeSet::Get => 0,
-            ScancodeSet::Set1 => 1,
-            ScancodeSet::Set2 => 2,
-            ScancodeSet::Set3 => 3,
-        }
+impl From<ScancodeSet> for u8 {
+    ghost from_gives = { λ set byte. byte ≡ scancode_set_byte set };
+
+    fn from(set: ScancodeSet) -> u8 {
+        set as u8
     }
 }
 
 // Packets a second, data of the mouse command `SampleRate`.
-#[derive(Clone, Copy)]
+#[derive(Clone, Copy, PartialEq, Eq)]
 pub enum MouseSampleRate {
-    _10,
-    _20,
-    _40,
-    _60,
-    _80,
-    _100,
-    _200,
+    _10 = 10,
+    _20 = 20,
+    _40 = 40,
+    _60 = 60,
+    _80 = 80,
+    _100 = 100,
+    _200 = 200,
 }
 
-// A byte as a sample rate.
-#[derive(Clone, Copy)]
-pub enum SampleRateByte {
-    Listed(MouseSampleRate),
-    Unlisted,
-}
+impl TryFrom<u8> for MouseSampleRate {
+    type Error = Unlisted;
 
-impl MouseSampleRate {
-    pub fn from_byte(byte: u8) -> SampleRateByte
-        ensures { result ≡ sample_rate_read byte }
-    {
+    ghost try_from_gives = { λ byte read. read ≡ sample_rate_read byte };
+
+    fn try_from(byte: u8) -> Result<Self, Unlisted> {
         match byte {
-            10 => SampleRateByte::Listed(MouseSampleRate::_10),
-            20 => SampleRateByte::Listed(MouseSampleRate::_20),
-            40 => SampleRateByte::Listed(MouseSampleRate::_40),
-            60 => SampleRateByte::Listed(MouseSampleRate::_60),
-            80 => SampleRateByte::Listed(MouseSampleRate::_80),
-            100 => SampleRateByte::Listed(MouseSampleRate::_100),
-            200 => SampleRateByte::Listed(MouseSampleRate::_200),
-            _ => SampleRateByte::Unlisted,
+            10 => Ok(MouseSampleRate::_10),
+            20 => Ok(MouseSampleRate::_20),
+            40 => Ok(MouseSampleRate::_40),
+            60 => Ok(MouseSampleRate::_60),
+            80 => Ok(MouseSampleRate::_80),
+            100 => Ok(MouseSampleRate::_100),
+            200 => Ok(MouseSampleRate::_200),
+            _ => Err(Unlisted(byte)),
         }
     }
+}
 
-    pub fn to_byte(self) -> u8
-        ensures { result ≡ sample_rate_byte self }
-    {
-        match self {
-            MouseSampleRate::_10 => 10,
-            MouseSampleRate::_20 => 20,
-            MouseSampleRate::_40 => 40,
-            MouseSampleRate::_60 => 60,
-            MouseSampleRate::_80 => 80,
-            MouseSampleRate::_100 => 100,
-            MouseSampleRate::_200 => 200,
-        }
+impl From<MouseSampleRate> for u8 {
+    ghost from_gives = { λ rate byte. byte ≡ sample_rate_byte rate };
+
+    fn from(rate: MouseSampleRate) -> u8 {
+        rate as u8
     }
 }
 
 // Counts per millimetre, data of the mouse command `SetResolution`.
-#[derive(Clone, Copy)]
+#[derive(Clone, Copy, PartialEq, Eq)]
 pub enum MouseResolution {
-    Count1PerMm,
-    Count2PerMm,
-    Count4PerMm,
-    Count8PerMm,
+    Count1PerMm = 0,
+    Count2PerMm = 1,
+    Count4PerMm = 2,
+    Count8PerMm = 3,
 }
 
-// A byte as a resolution.
-#[derive(Clone, Copy)]
-pub enum ResolutionByte {
-    Listed(MouseResolution),
-    Unlisted,
-}
+impl TryFrom<u8> for MouseResolution {
+    type Error = Unlisted;
 
-impl MouseResolution {
-    pub fn from_byte(byte: u8) -> ResolutionByte
-        ensures { result ≡ resolution_read byte }
-    {
+    ghost try_from_gives = { λ byte read. read ≡ resolution_read byte };
+
+    fn try_from(byte: u8) -> Result<Self, Unlisted> {
         match byte {
-            0 => ResolutionByte::Listed(MouseResolution::Count1PerMm),
-            1 => ResolutionByte::Listed(MouseResolution::Count2PerMm),
-            2 => ResolutionByte::Listed(MouseResolution::Count4PerMm),
-            3 => ResolutionByte::Listed(MouseResolution::Count8PerMm),
-            _ => ResolutionByte::Unlisted,
+            0 => Ok(MouseResolution::Count1PerMm),
+            1 => Ok(MouseResolution::Count2PerMm),
+            2 => Ok(MouseResolution::Count4PerMm),
+            3 => Ok(MouseResolution::Count8PerMm),
+            _ => Err(Unlisted(byte)),
         }
     }
+}
 
-    pub fn to_byte(self) -> u8
-        ensures { result ≡ resolution_byte self }
-    {
-        match self {
-            MouseResolution::Count1PerMm => 0,
-            MouseResolution::Count2PerMm => 1,
-            MouseResolution::Count4PerMm => 2,
-            MouseResolution::Count8PerMm => 3,
-        }
+impl From<MouseResolution> for u8 {
+    ghost from_gives = { λ resolution byte. byte ≡ resolution_byte resolution };
+
+    fn from(resolution: MouseResolution) -> u8 {
+        resolution as u8
     }
 }

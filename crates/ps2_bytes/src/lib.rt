@@ -7,13 +7,12 @@ mod response;
 mod writable;
 
 pub use command::{HostToControllerCommand, HostToKeyboardCommand, HostToMouseCommand};
-pub use data::{
-    MouseResolution, MouseSampleRate, ResolutionByte, SampleRateByte, ScancodeSet, ScancodeSetByte,
-};
-pub use response::{
-    DeviceToHostResponse, KeyboardType, MouseId, MouseIdByte, PortTestByte, PortTestResult,
-    ResponseByte,
-};
+pub use data::{MouseResolution, MouseSampleRate, ScancodeSet};
+pub use response::{DeviceToHostResponse, KeyboardType, MouseId, PortTestResult};
 pub use writable::{
     HostToDevice, HostToKeyboardCommandOrData, HostToMouseCommandOrData, WritableData,
 };
+
+// A byte that stands for none of what it was read as.
+#[derive(Clone, Copy, PartialEq, Eq)]
+pub struct Unlisted(pub u8);

@@ -1,9 +1,13 @@
 // What the controller and the devices answer, read from a byte.
+#![tactic(auto, unfolding(bits::specs::Table::decode))]
+
 ghost use Rattle.std.specs.Prelude.{◌≡◌};
 ghost use Rattle.ps2_bytes.specs.Responses.{port_test_read, response_read, mouse_id_byte, mouse_id_read};
 
+use crate::Unlisted;
+
 // What a port test found.
-#[derive(Clone, Copy)]
+#[derive(Clone, Copy, PartialEq, Eq)]
 pub enum PortTestResult {
     Passed,
     ClockLineStuckLow,
@@ -12,30 +16,25 @@ pub enum PortTestResult {
     DataLineStuckHigh,
 }
 
-// A byte as a port test's answer.
-#[derive(Clone, Copy)]
-pub enum PortTestByte {
-    Listed(PortTestResult),
-    Unlisted,
-}
+impl TryFrom<u8> for PortTestResult {
+    type Error = Unlisted;
 
-impl PortTestResult {
-    pub fn from_byte(byte: u8) -> PortTestByte
-        ensures { result ≡ port_test_read byte }
-    {
+    ghost try_from_gives = { λ byte read. read ≡ port_test_read byte };
+
+    fn try_from(byte: u8) -> Result<Self, Unlisted> {
         match byte {
-            0x00 => PortTestByte::Listed(PortTestResult::Passed),
-            0x01 => PortTestByte::Listed(PortTestResult::ClockLineStuckLow),
-            0x02 => PortTestByte::Listed(PortTestResult::ClockLineStuckHigh),
-            0x03 => PortTestByte::Listed(PortTestResult::DataLineStuckLow),
-            0x04 => PortTestByte::Listed(PortTestResult::DataLineStuckHigh),
-            _ => PortTestByte::Unlisted,
+            0x00 => Ok(PortTestResult::Passed),
+            0x01 => Ok(PortTestResult::ClockLineStuckLow),
+            0x02 => Ok(PortTestResult::ClockLineStuckHigh),
+            0x03 => Ok(PortTestResult::DataLineStuckLow),
+            0x04 => Ok(PortTestResult::DataLineStuckHigh),
+            _ => Err(Unlisted(byte)),
         }
     }
 }
 
 // What a device answers to a command. Every other byte of a keyboard is a scancode; a mouse sends only AA, FC, FA, its identity and packets.
-#[derive(Clone, Copy)]
+#[derive(Clone, Copy, PartialEq, Eq)]
 pub enum DeviceToHostResponse {
     KeyDetectionErrorOrInternalBufferOverrun1,
     // Sent after a reset or at power up.
@@ -50,78 +49,62 @@ pub enum DeviceToHostResponse {
     KeyDetectionErrorOrInternalBufferOverrun2,
 }
 
-// A byte as a device's response.
-#[derive(Clone, Copy)]
-pub enum ResponseByte {
-    Listed(DeviceToHostResponse),
-    Unlisted,
-}
+impl TryFrom<u8> for DeviceToHostResponse {
+    type Error = Unlisted;
 
-impl DeviceToHostResponse {
-    pub fn from_byte(byte: u8) -> ResponseByte
-        ensures { result ≡ response_read byte }
-    {
+    ghost try_from_gives = { λ byte read. read ≡ response_read byte };
+
+    fn try_from(byte: u8) -> Result<Self, Unlisted> {
         match byte {
-            0x00 => ResponseByte::Listed(
-                DeviceToHostResponse::KeyDetectionErrorOrInternalBufferOverrun1,
-            ),
-            0xAA => ResponseByte::Listed(DeviceToHostResponse::SelfTestPassed),
-            0xEE => ResponseByte::Listed(DeviceToHostResponse::ResponseToEcho),
-            0xFA => ResponseByte::Listed(DeviceToHostResponse::Acknowledge),
-            0xFC => ResponseByte::Listed(DeviceToHostResponse::SelfTestFailed1),
-            0xFD => ResponseByte::Listed(DeviceToHostResponse::SelfTestFailed2),
-            0xFE => ResponseByte::Listed(DeviceToHostResponse::ResendCommand),
-            0xFF => ResponseByte::Listed(
-                DeviceToHostResponse::KeyDetectionErrorOrInternalBufferOverrun2,
-            ),
-            _ => ResponseByte::Unlisted,
+            0x00 => Ok(DeviceToHostResponse::KeyDetectionErrorOrInternalBufferOverrun1),
+            0xAA => Ok(DeviceToHostResponse::SelfTestPassed),
+            0xEE => Ok(DeviceToHostResponse::ResponseToEcho),
+            0xFA => Ok(DeviceToHostResponse::Acknowledge),
+            0xFC => Ok(DeviceToHostResponse::SelfTestFailed1),
+            0xFD => Ok(DeviceToHostResponse::SelfTestFailed2),
+            0xFE => Ok(DeviceToHostResponse::ResendCommand),
+            0xFF => Ok(DeviceToHostResponse::KeyDetectionErrorOrInternalBufferOverrun2),
+            _ => Err(Unlisted(byte)),
         }
     }
 }
 
 // A mouse's identity, which says what its packets hold.
-#[derive(Clone, Copy)]
+#[derive(Clone, Copy, PartialEq, Eq)]
 pub enum MouseId {
     // No wheel.
-    Zero,
+    Zero = 0,
     // A wheel.
-    Three,
+    Three = 3,
     // A wheel and buttons 4 and 5.
-    Four,
+    Four = 4,
 }
 
-// A byte as a mouse's identity.
-#[derive(Clone, Copy)]
-pub enum MouseIdByte {
-    Listed(MouseId),
-    Unlisted,
-}
+impl TryFrom<u8> for MouseId {
+    type Error = Unlisted;
 
-impl MouseId {
-    pub fn from_byte(byte: u8) -> MouseIdByte
-        ensures { result ≡ mouse_id_read byte }
-    {
+    ghost try_from_gives = { λ byte read. read ≡ mouse_id_read byte };
+
+    fn try_from(byte: u8) -> Result<Self, Unlisted> {
         match byte {
-            0 => MouseIdByte::Listed(MouseId::Zero),
-            3 => MouseIdByte::Listed(MouseId::Three),
-            4 => MouseIdByte::Listed(MouseId::Four),
-            _ => MouseIdByte::Unlisted,
+            0 => Ok(MouseId::Zero),
+            3 => Ok(MouseId::Three),
+            4 => Ok(MouseId::Four),
+            _ => Err(Unlisted(byte)),
         }
     }
+}
 
-    pub fn to_byte(self) -> u8
-        ensures { result ≡ mouse_id_byte self }
-    {
-        match self {
-            MouseId::Zero => 0,
-            MouseId::Three => 3,
-            MouseId::Four => 4,
-        }
+impl From<MouseId> for u8 {
+    ghost from_gives = { λ id byte. byte ≡ mouse_id_byte id };
+
+    fn from(id: MouseId) -> u8 {
+        id as u8
     }
 }
 
 // What `keyboard_detect` recognises.
-#[derive(Clone, Copy)]
+#[derive(Clone, Copy, PartialEq, Eq)]
 pub enum KeyboardType {
     MF2Keyboard,
     MF2KeyboardWithPSControllerTranslator,

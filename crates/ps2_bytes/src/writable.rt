@@ -7,43 +7,43 @@ use crate::data::{MouseResolution, MouseSampleRate, ScancodeSet};
 use ps2_layouts::{ControllerConfigurationByte, LEDState};
 
 // Kinds of data that can be written to port 60.
-#[derive(Clone, Copy)]
+#[derive(Clone, Copy, PartialEq, Eq)]
 pub enum WritableData {
     Configuration(ControllerConfigurationByte),
     HostToDevice(HostToDevice),
 }
 
-impl WritableData {
-    pub fn to_byte(self) -> u8
-        ensures { result ≡ written self }
-    {
-        match self {
-            WritableData::Configuration(value) => value.to_byte(),
-            WritableData::HostToDevice(value) => value.to_byte(),
+impl From<WritableData> for u8 {
+    ghost from_gives = { λ sent byte. byte ≡ written sent };
+
+    fn from(sent: WritableData) -> u8 {
+        match sent {
+            WritableData::Configuration(value) => u8::from(value),
+            WritableData::HostToDevice(value) => u8::from(value),
         }
     }
 }
 
-// A byte for one of the devices.
-#[derive(Clone, Copy)]
+// A byte for one of the devices. Each case holds an enum of its own, as document 01 asks.
+#[derive(Clone, Copy, PartialEq, Eq)]
 pub enum HostToDevice {
     Keyboard(HostToKeyboardCommandOrData),
     Mouse(HostToMouseCommandOrData),
 }
 
-impl HostToDevice {
-    pub fn to_byte(self) -> u8
-        ensures { result ≡ to_device self }
-    {
-        match self {
-            HostToDevice::Keyboard(value) => value.to_byte(),
-            HostToDevice::Mouse(value) => value.to_byte(),
+impl From<HostToDevice> for u8 {
+    ghost from_gives = { λ sent byte. byte ≡ to_device sent };
+
+    fn from(sent: HostToDevice) -> u8 {
+        match sent {
+            HostToDevice::Keyboard(value) => u8::from(value),
+            HostToDevice::Mouse(value) => u8::from(value),
         }
     }
 }
 
 // A byte for the keyboard.
-#[derive(Clone, Copy)]
+#[derive(Clone, Copy, PartialEq, Eq)]
 pub enum HostToKeyboardCommandOrData {
     KeyboardCommand(HostToKeyboardCommand),
     LEDState(LEDState),
@@ -52,35 +52,35 @@ pub enum HostToKeyboardCommandOrData {
     RepeatRateAndDelay(u8),
 }
 
-impl HostToKeyboardCommandOrData {
-    pub fn to_byte(self) -> u8
-        ensures { result ≡ to_keyboard self }
-    {
-        match self {
-            HostToKeyboardCommandOrData::KeyboardCommand(c) => c.to_byte(),
-            HostToKeyboardCommandOrData::LEDState(l) => l.to_byte(),
-            HostToKeyboardCommandOrData::ScancodeSet(s) => s.to_byte(),
+impl From<HostToKeyboardCommandOrData> for u8 {
+    ghost from_gives = { λ sent byte. byte ≡ to_keyboard sent };
+
+    fn from(sent: HostToKeyboardCommandOrData) -> u8 {
+        match sent {
+            HostToKeyboardCommandOrData::KeyboardCommand(c) => u8::from(c),
+            HostToKeyboardCommandOrData::LEDState(l) => u8::from(l),
+            HostToKeyboardCommandOrData::ScancodeSet(s) => u8::from(s),
             HostToKeyboardCommandOrData::RepeatRateAndDelay(b) => b,
         }
     }
 }
 
 // A byte for the mouse.
-#[derive(Clone, Copy)]
+#[derive(Clone, Copy, PartialEq, Eq)]
 pub enum HostToMouseCommandOrData {
     MouseCommand(HostToMouseCommand),
     SampleRate(MouseSampleRate),
     MouseResolution(MouseResolution),
 }
 
-impl HostToMouseCommandOrData {
-    pub fn to_byte(self) -> u8
-        ensures { result ≡ to_mouse self }
-    {
-        match self {
-            HostToMouseCommandOrData::MouseCommand(c) => c.to_byte(),
-            HostToMouseCommandOrData::SampleRate(s) => s.to_byte(),
-            HostToMouseCommandOrData::MouseResolution(r) => r.to_byte(),
+impl From<HostToMouseCommandOrData> for u8 {
+    ghost from_gives = { λ sent byte. byte ≡ to_mouse sent };
+
+    fn from(sent: HostToMouseCommandOrData) -> u8 {
+        match sent {
+            HostToMouseCommandOrData::MouseCommand(c) => u8::from(c),
+            HostToMouseCommandOrData::SampleRate(s) => u8::from(s),
+            HostToMouseCommandOrData::MouseResolution(r) => u8::from(r),
         }
     }
 }

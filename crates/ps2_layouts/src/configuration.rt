@@ -24,24 +24,30 @@ const PORT1_SCANCODE_TRANSLATION_ENABLED: u8 = 6;
 const MUST_BE_ZERO: u8 = 7;
 
 // Features of the controller that are on or off. A setter gives the byte with one bit changed and the others kept.
-#[derive(Clone, Copy)]
+#[derive(Clone, Copy, PartialEq, Eq)]
 pub struct ControllerConfigurationByte {
     bits: u8,
 }
 
-impl ControllerConfigurationByte {
-    pub fn from_byte(byte: u8) -> Self
-        ensures { result.bits ≡ byte }
-    {
+// All of a byte's bits are kept, both ways.
+impl From<u8> for ControllerConfigurationByte {
+    ghost from_gives = { λ byte configuration. configuration.bits ≡ byte };
+
+    fn from(byte: u8) -> Self {
         ControllerConfigurationByte { bits: byte }
     }
+}
 
-    pub fn to_byte(self) -> u8
-        ensures { result ≡ self.bits }
-    {
-        self.bits
+impl From<ControllerConfigurationByte> for u8 {
+    ghost from_gives = { λ configuration byte. byte ≡ configuration.bits };
+
+    fn from(configuration: ControllerConfigurationByte) -> u8 {
+        configuration.bits
     }
+}
 
+// Each bit has its own accessor, and a setter where it is set, by mask and shift as document 01 asks; one by a parameter is no plainer, since the names are the table.
+impl ControllerConfigurationByte {
     // Interrupt when the first port has a byte.
     pub fn port1_interrupt_enabled(self) -> bool
         ensures { result ≡ bit port1_interrupt self.bits }

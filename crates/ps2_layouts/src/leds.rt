@@ -14,9 +14,26 @@ const NUMBER_LOCK: u8 = 1;
 const CAPS_LOCK: u8 = 2;
 
 // The keyboard's LEDs, data of `SetLEDStatus`.
-#[derive(Clone, Copy)]
+#[derive(Clone, Copy, PartialEq, Eq)]
 pub struct LEDState {
     bits: u8,
+}
+
+// The LEDs that a byte says, all of its bits kept.
+impl From<u8> for LEDState {
+    ghost from_gives = { λ byte leds. leds.bits ≡ byte };
+
+    fn from(byte: u8) -> Self {
+        LEDState { bits: byte }
+    }
+}
+
+impl From<LEDState> for u8 {
+    ghost from_gives = { λ leds byte. byte ≡ leds.bits };
+
+    fn from(leds: LEDState) -> u8 {
+        leds.bits
+    }
 }
 
 impl LEDState {
@@ -25,19 +42,6 @@ impl LEDState {
         ensures { result.bits ≡ 0 }
     {
         LEDState { bits: 0 }
-    }
-
-    // The LEDs that a byte says, all of its bits kept.
-    pub fn from_byte(byte: u8) -> Self
-        ensures { result.bits ≡ byte }
-    {
-        LEDState { bits: byte }
-    }
-
-    pub fn to_byte(self) -> u8
-        ensures { result ≡ self.bits }
-    {
-        self.bits
     }
 
     pub fn scroll_lock(self) -> bool

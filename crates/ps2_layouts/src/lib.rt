@@ -12,7 +12,7 @@ pub use configuration::ControllerConfigurationByte;
 pub use leds::LEDState;
 pub use status::ControllerToHostStatus;
 
-// A byte with bit `k` made `value` and the others kept.
+// A byte with bit `k` made `value` and the others kept. It asks for a bit of a byte, as the shift does: its callers name eight constants, and a type of bits is no plainer.
 fn with(x: u8, k: u8, value: bool) -> u8
     requires { k < 8 }
     ensures { result ≡ put_bit k value x }

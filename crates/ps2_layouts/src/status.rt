@@ -23,24 +23,30 @@ const TIMEOUT_ERROR: u8 = 6;
 const PARITY_ERROR: u8 = 7;
 
 // What the controller says of its buffers.
-#[derive(Clone, Copy)]
+#[derive(Clone, Copy, PartialEq, Eq)]
 pub struct ControllerToHostStatus {
     bits: u8,
 }
 
-impl ControllerToHostStatus {
-    pub fn from_byte(byte: u8) -> Self
-        ensures { result.bits ≡ byte }
-    {
+// All of a byte's bits are kept, both ways.
+impl From<u8> for ControllerToHostStatus {
+    ghost from_gives = { λ byte status. status.bits ≡ byte };
+
+    fn from(byte: u8) -> Self {
         ControllerToHostStatus { bits: byte }
     }
+}
 
-    pub fn to_byte(self) -> u8
-        ensures { result ≡ self.bits }
-    {
-        self.bits
+impl From<ControllerToHostStatus> for u8 {
+    ghost from_gives = { λ status byte. byte ≡ status.bits };
+
+    fn from(status: ControllerToHostStatus) -> u8 {
+        status.bits
     }
+}
 
+// Each bit has its own accessor, by mask and shift as document 01 asks; the system flag is the configuration's too, but a bit of another register.
+impl ControllerToHostStatus {
     // Must be set before port 60 is read.
     pub fn output_buffer_full(self) -> bool
         ensures { result ≡ bit output_buffer_full self.bits }

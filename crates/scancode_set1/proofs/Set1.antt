@@ -9,8 +9,7 @@ use lib.Dec.{T, eqb}
 use lib.Text.{eqt}
 use Rattle.bits.specs.Table.{listed}
 use Rattle.bits.proofs.Every.{each}
-use Rattle.keycodes_ascii.specs.declared.FoundKeycode.{FoundKeycode}
-use Rattle.keycodes_ascii.specs.declared.FoundKeycode.TheVariants.{Found, Unknown}
+use Rattle.std.specs.Prelude.{Option, Some, None}
 use Rattle.keycodes_ascii.specs.declared.Keycode.{Keycode}
 use Rattle.keycodes_ascii.specs.Keycode.{number_of, keycodes, numbered, keycode_of}
 use Rattle.scancode_set1.specs.Set1.{set1, set1_after_e0, release_of, Listed, key, key_after_e0, release_of_key, release_of_key_after_e0, not_listed, listed_as, unlisted, after_e0_as}
@@ -34,8 +33,8 @@ unfolding has_code nowhere keycodes
 keycode_set1 k = every_keycode (λ k. has_code (listed_as k) (number_of k)) tt tt k
 
 -- whether the keycode of a row's code is the row's key
-unfoldable pub is_key : String → FoundKeycode → Bool
-is_key name (Found k) = names name (listed_as k)
+unfoldable pub is_key : String → Option Keycode → Bool
+is_key name (Some k) = names name (listed_as k)
   where
     names : String → Listed → Bool
     names n (key m) = eqt n m
@@ -43,7 +42,7 @@ is_key name (Found k) = names name (listed_as k)
     names n (release_of_key m) = false
     names n (release_of_key_after_e0 m) = false
     names n not_listed = false
-is_key name Unknown = false
+is_key name None = false
 
 -- every key of the wiki's table is the keycode of its code
 pub set1_keycode : T (each (λ row. is_key row.1 (keycode_of row.0)) set1)

@@ -1,18 +1,21 @@
 -- `keycodes_ascii::scancode_to_ascii` meets its contract: the character of the byte's keycode, if it has one.
 -- Assumes nothing.
-use mathlib.Core.Path.{sym, ap, ◌∙◌}
+use mathlib.Core.Path.{ap, ◌∙◌}
+use Rattle.std.specs.Result.{result_ok}
 use Rattle.keycodes_ascii.specs.Characters.{character_of_found, scancode_character}
+use Rattle.keycodes_ascii.proofs.Codes.{ok_read}
 use Rattle.keycodes_ascii.proofs.scancode_to_ascii.Goals as goal
 
-pub returns-in-Found : goal.returns-in-Found
+pub returns-in_err-ok : goal.returns-in_err-ok
 unfolding scancode_character
-returns-in-Found c =
-    let f = c.from_byte in
-    let m = c.args.modifiers in
-    c.to_ascii.ensures ∙ ap (λ f. character_of_found f m) (sym c.in-Found.is ∙ f.ensures)
+returns-in_err-ok c =
+    let a = c.args in
+    c.from_residual.ensures
+    ∙ ap (λ f. character_of_found f a.modifiers) (c.in_err-ok.ensures.value ∙ ap result_ok c.try_from.ensures ∙ ok_read a.scan_code)
 
-pub returns-in-Unknown : goal.returns-in-Unknown
+pub returns : goal.returns
 unfolding scancode_character
-returns-in-Unknown c =
-    let m = c.args.modifiers in
-    ap (λ f. character_of_found f m) (sym c.in-Unknown.is ∙ c.from_byte.ensures)
+returns c =
+    let a = c.args in
+    c.to_ascii.ensures
+    ∙ ap (λ f. character_of_found f a.modifiers) (c.in_ok-ok.ensures.value ∙ ap result_ok c.try_from.ensures ∙ ok_read a.scan_code)
