@@ -1,4 +1,4 @@
--- Movement: a nine-bit two's complement number from -256 to 255, which an i16 holds.
+-- Movement: a nine-bit two's complement number from -256 to 255.
 -- Assumes nothing.
 use mathlib.Core.Path.{◌≡◌, refl, ◌∙◌}
 use mathlib.Core.Bool.{Bool, true, false, cond}
@@ -7,9 +7,8 @@ use native.Mathlib.Nat.{lt_trans}
 use lib.Dec.{lit<}
 use lib.IntN.{pos, negsuc, ◌-ℤ◌, ◌*ℤ◌}
 use lib.Signed.{mag}
-use mir.Syntax.{w16, w64}
-use mir.Val.{SFits, to_z}
-use mir.Facts.{to_z-of_z}
+use mir.Syntax.{w64}
+use mir.Val.{SFits}
 use native.Mathlib.Numerals.{unary_clauses}
 use lib.Bits.{bit_or}
 use Rattle.bits.specs.Bits.{weigh, bitwise, odd}
@@ -17,14 +16,6 @@ use Rattle.bits.proofs.Masks.{or_bitwise, or_zero}
 use Rattle.ps2_packet.specs.Signed.{less_if, twos_complement, Between}
 use Rattle.ps2_packet.specs.Packet.{movement}
 use Rattle.ps2_packet.proofs.Signed.{mag_less, mag_range, sign_apart}
-
--- a byte is the same number as an i16
-pub wide : (b : ℕ) → b < 256 → to_z w16 b ≡ pos b
-wide b h = to_z-of_z {w = w16} {z = pos b} (record { sfits = lt_trans h (lit< tt) })
-
--- less 256 or not, a byte fits an i16
-pub less_fits : (sign : Bool) (b : ℕ) → b < 256 → SFits w16 (less_if sign 256 b)
-less_fits sign b h = record { sfits = lt_trans (mag_less sign 256 b h) (lit< tt) }
 
 mag-movement : (overflow sign : Bool) (b : ℕ) → b < 256 → mag (movement overflow sign b) < 256
 mag-movement true sign b h = mag_less sign 256 255 (lit< tt)
@@ -43,10 +34,6 @@ unfolding bitwise odd
 ones_over true b h = or_bitwise 8 255 b (lit< tt) h
 ones_over false b h = or_bitwise 8 0 b (lit< tt) h ∙ or_zero 8 b h
 
-pub ones_fit : (overflow : Bool) → 255 * weigh overflow < 256
-ones_fit true = lit< tt
-ones_fit false = lit< tt
-
 -- 256 or 0, by the sign bit, fits 64 bits; a value less that is a movement, and fits them too
 pub sign_fits : (sign : Bool) → SFits w64 (pos 256 *ℤ pos (weigh sign))
 sign_fits true = record { sfits = lit< tt }
@@ -58,6 +45,3 @@ less_taken false b = simp unary_clauses
 
 pub movement_fits : (overflow sign : Bool) (b : ℕ) → b < 256 → SFits w64 (movement overflow sign b)
 movement_fits overflow sign b h = record { sfits = lt_trans (mag-movement overflow sign b h) (lit< tt) }
-
-pub movement_narrow : (overflow sign : Bool) (b : ℕ) → b < 256 → SFits w16 (movement overflow sign b)
-movement_narrow overflow sign b h = record { sfits = lt_trans (mag-movement overflow sign b h) (lit< tt) }

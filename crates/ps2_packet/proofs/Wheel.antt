@@ -1,38 +1,31 @@
--- The wheel: what an i8 holds of byte 4, and its range.
+-- The wheel: byte 4 as an i8, and its range.
 -- Assumes nothing.
-use mathlib.Core.Path.{◌≡◌, ap, ◌∙◌}
-use mathlib.Core.Bool.{Bool}
+use mathlib.Core.Path.{◌≡◌, sym, ap, ◌∙◌}
+use mathlib.Core.Bool.{Bool, true, false, not}
 use Prim.Native.Nat.{ℕ, ◌%◌, ◌<◌}
 use native.Mathlib.Nat.{lt_trans, mod-eq_of_lt}
 use native.Mathlib.Omega.{arith}
-use lib.Bits.{bit_and, and_mask, mask_lt}
-use lib.Dec.{lit<, le→leb}
+use lib.Dec.{ltb, lit<, le→leb}
 use lib.IntN.{pos, negsuc}
 use mir.Syntax.{w8}
 use mir.Val.{SFits, to_z}
-use mir.Facts.{to_z-of_z}
 use Rattle.bits.specs.Bits.{bit}
 use Rattle.ps2_packet.specs.Signed.{less_if, twos_complement, Between, AgreeModulo}
 use Rattle.ps2_packet.specs.Packet.{wheel3, wheel4, signed_wheel4}
 use Rattle.ps2_packet.specs.declared.MousePacket3.{MousePacket3}
 use Rattle.ps2_packet.specs.declared.MousePacket4.{MousePacket4}
-use Rattle.ps2_packet.proofs.Signed.{mag_less, mag_twos, mag_range, less_modulo}
+use Rattle.ps2_packet.proofs.Signed.{bit_top, pos_less, mag_less, mag_twos, mag_range, less_modulo}
 
--- a byte less 256 where bit 7 is set is a signed byte
-pub by_bit_7 : (b : ℕ) → b < 256 → less_if (bit 7 b) 256 b ≡ twos_complement 8 b
-by_bit_7 b h = rw (mod-eq_of_lt h)
+-- a number whose topmost bit of eight is said, read as a signed byte
+by_top : (sign : Bool) (v : ℕ) → v < 256 → ltb v 128 ≡ not sign → to_z w8 v ≡ less_if sign 256 v
+by_top true v h e = rw e (sym (pos_less 256 v h))
+by_top false v h e = rw e
 
-pub signed_fits : (b : ℕ) → SFits w8 (twos_complement 8 b)
-signed_fits b = record { sfits = mag_twos 7 b }
+-- a byte read as a signed byte is its eight bits in two's complement
+pub signed_read : (b : ℕ) → b < 256 → to_z w8 b ≡ twos_complement 8 b
+signed_read b h = ap (to_z w8) (sym (mod-eq_of_lt h)) ∙ by_top (bit 7 b) (b % 256) (omega arith) (bit_top 7 b)
 
--- the low four bits
-pub low_four_fits : (b : ℕ) → SFits w8 (pos (bit_and b 15))
-low_four_fits b = record { sfits = lt_trans (mask_lt b 4) (lit< tt) }
-
-pub low_four : (b : ℕ) → to_z w8 (bit_and b 15) ≡ pos (b % 16)
-low_four b = to_z-of_z (low_four_fits b) ∙ ap pos (and_mask b 4)
-
--- less 16 or not, they fit
+-- four bits, less 16 or not, fit an i8
 pub four_less_fits : (sign : Bool) (b : ℕ) → SFits w8 (less_if sign 16 (b % 16))
 four_less_fits sign b = record { sfits = lt_trans (mag_less sign 16 (b % 16) (omega arith)) (lit< tt) }
 

@@ -1,9 +1,8 @@
 // Mouse packets: three bytes at identity 0, four at identities 3 and 4.
 #![tactic(auto)]
 
-ghost use Rattle.std.specs.Prelude.{◌≡◌, pos};
+ghost use Rattle.std.specs.Prelude.{◌≡◌};
 ghost use Rattle.bits.specs.Bits.{bit, weigh};
-ghost use Rattle.ps2_packet.specs.Signed.{twos_complement, less_if};
 ghost use Rattle.ps2_packet.specs.Packet.{
   left_button,
   right_button,
@@ -54,8 +53,8 @@ const BUTTON_4: u8 = 4;
 
 const BUTTON_5: u8 = 5;
 
-// What every packet starts with.
-#[derive(Clone, Copy)]
+// What every packet starts with. The accessors of x and y and of each bit stay apart: each is a name and a bit, by mask and shift as document 01 asks; one with a parameter is no plainer.
+#[derive(Clone, Copy, PartialEq, Eq)]
 pub struct MousePacketGeneric {
     byte1: u8,
     byte2: u8,
@@ -63,6 +62,7 @@ pub struct MousePacketGeneric {
 }
 
 impl MousePacketGeneric {
+    // No `From` of an array here and below: a reading has its bytes one by one, and would pack what is taken apart here; it is no plainer.
     pub fn from_bytes(byte1: u8, byte2: u8, byte3: u8) -> Self
         ensures { result ≡ generic byte1 byte2 byte3 }
     {
@@ -109,7 +109,7 @@ impl MousePacketGeneric {
         self.wide_y_movement() as i16
     }
 
-    // The movements in the width of their sums.
+    // The movements in the width of their sums. They aren't made by `i64::from` of the above: that narrows what it then widens again, and is no plainer.
     pub fn wide_x_movement(self) -> i64
         ensures { result ≡ x_movement self }
     {
@@ -129,35 +129,12 @@ fn moved(byte1: u8, overflow: u8, bit9: u8, bit1to8: u8) -> i64
     ensures { result ≡ movement (bit overflow byte1) (bit bit9 byte1) bit1to8 }
 {
     let ones = 255 * bit_of(byte1, overflow);
-    let low = wide(ones | bit1to8);
-    let sign = wide(bit_of(byte1, bit9));
-    low - 256 * sign
-}
-
-fn wide(byte: u8) -> i64
-    ensures { result ≡ pos byte }
-{
-    byte as i64
-}
-
-// The number of nine bits whose ninth, the sign, stands by itself.
-fn to_2s_complement(bit1to8: u8, bit9: bool) -> i16
-    ensures { result ≡ less_if bit9 256 bit1to8 }
-{
-    let signed = bit1to8 as i16;
-    if bit9 { signed - 256 } else { signed }
-}
-
-// A byte as a signed byte.
-fn signed_byte(byte: u8) -> i8
-    ensures { result ≡ twos_complement 8 byte }
-{
-    let wide = to_2s_complement(byte, has(byte, 7));
-    wide as i8
+    let low = i64::from(ones | bit1to8);
+    low - 256 * i64::from(bit_of(byte1, bit9))
 }
 
 // The packet of a mouse with a wheel.
-#[derive(Clone, Copy)]
+#[derive(Clone, Copy, PartialEq, Eq)]
 pub struct MousePacket3 {
     generic_part: MousePacketGeneric,
     byte4: u8,
@@ -168,11 +145,7 @@ impl MousePacket3 {
         ensures { result ≡ packet3 byte1 byte2 byte3 byte4 }
     {
         MousePacket3 {
-            generic_part: MousePacketGeneric {
-                byte1,
-                byte2,
-                byte3,
-            },
+            generic_part: MousePacketGeneric::from_bytes(byte1, byte2, byte3),
             byte4,
         }
     }
@@ -180,12 +153,12 @@ impl MousePacket3 {
     pub fn scroll_movement(self) -> i8
         ensures { result ≡ wheel3 self }
     {
-        signed_byte(self.byte4)
+        self.byte4.cast_signed()
     }
 }
 
 // The packet of a mouse with a wheel and buttons 4 and 5.
-#[derive(Clone, Copy)]
+#[derive(Clone, Copy, PartialEq, Eq)]
 pub struct MousePacket4 {
     generic_part: MousePacketGeneric,
     byte4: u8,
@@ -196,11 +169,7 @@ impl MousePacket4 {
         ensures { result ≡ packet4 byte1 byte2 byte3 byte4 }
     {
         MousePacket4 {
-            generic_part: MousePacketGeneric {
-                byte1,
-                byte2,
-                byte3,
-            },
+            generic_part: MousePacketGeneric::from_bytes(byte1, byte2, byte3),
             byte4,
         }
     }
@@ -237,7 +206,7 @@ impl MousePacket4 {
 }
 
 // A packet of any kind. What a kind lacks has a standard value: a wheel at rest, a button not pressed.
-#[derive(Clone, Copy)]
+#[derive(Clone, Copy, PartialEq, Eq)]
 pub enum MousePacket {
     Zero(MousePacketGeneric),
     Three(MousePacket3),
@@ -259,11 +228,10 @@ impl MousePacket {
     fn flag(self, k: u8) -> bool
         ensures { result ≡ bit k (common self).byte1 }
     {
-        let m = self.generic_part();
-        has(m.byte1, k)
+        has(self.generic_part().byte1, k)
     }
 
-    // Bit `k` of byte 4 at identity 4.
+    // Bit `k` of byte 4 at identity 4. No `matches!`: tried, and an arm that is wrong is then refused at the search's limit and by no fact.
     fn side_flag(self, k: u8) -> bool
         ensures { result ≡ side_button k self }
     {
@@ -334,7 +302,7 @@ impl MousePacket {
 }
 
 // A packet whose wheel is signed at identity 4 too, as the OSDev wiki has it. All else is the packet's own; `packet.scroll_movement()` is the Rust's wheel.
-#[derive(Clone, Copy)]
+#[derive(Clone, Copy, PartialEq, Eq)]
 pub struct SignedPacket {
     pub packet: MousePacket,
 }
@@ -343,10 +311,9 @@ impl SignedPacket {
     pub fn scroll_movement(self) -> i8
         ensures { result ≡ signed_wheel self.packet }
     {
-        let packet = self.packet;
-        match packet {
+        match self.packet {
             MousePacket::Four(m) => m.signed_scroll_movement(),
-            _ => packet.scroll_movement(),
+            packet => packet.scroll_movement(),
         }
     }
 }
@@ -357,7 +324,6 @@ pub fn packet_length(id: MouseId) -> usize
 {
     match id {
         MouseId::Zero => 3,
-        MouseId::Three => 4,
-        MouseId::Four => 4,
+        MouseId::Three | MouseId::Four => 4,
     }
 }

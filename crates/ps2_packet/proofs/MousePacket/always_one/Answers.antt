@@ -1,5 +1,0 @@
--- `MousePacket::always_one` meets its contract: the bit of the part that all kinds share. Assumes nothing.
-use Rattle.ps2_packet.proofs.MousePacket.always_one.Goals as goal
-
-pub returns : goal.returns
-returns c = cc
