@@ -1,3 +1,4 @@
 -- Laws of refusals, and of one operation after another.
 pub mod Refusals
 pub mod Then
+pub mod Reading

@@ -1,28 +1,44 @@
--- What the code's answers say of the end of a play.
+-- What the code's answers say of the end of a play, and an answer with the counts of what came before it.
 -- Assumes nothing.
-use Rattle.std.specs.Prelude.{Bool, ℕ}
-use Rattle.exchange.specs.Exchange.{End, yields}
+use Rattle.std.specs.Prelude.{ℕ, ◌+◌, ◌%◌, ◌^◌, List, Result, Ok, Err}
+use Rattle.exchange.specs.Exchange.{End, yields, Played, played}
 use Rattle.exchange.specs.Answer.{Answer, gives}
-use Rattle.ps2_layouts.specs.declared.configuration.ControllerConfigurationByte.{ControllerConfigurationByte}
-use Rattle.ps2_layouts.specs.declared.status.ControllerToHostStatus.{ControllerToHostStatus}
+use Rattle.exchange.specs.Repeat.{Turn, found_end}
 use Rattle.ps2_answers.specs.Refusals.{refused}
-use Rattle.ps2_answers.specs.declared.ByteAnswer.{ByteAnswer}
-use Rattle.ps2_answers.specs.declared.StatusAnswer.{StatusAnswer}
-use Rattle.ps2_answers.specs.declared.ConfigAnswer.{ConfigAnswer}
-use Rattle.ps2_answers.specs.declared.FullAnswer.{FullAnswer}
+use Rattle.ps2_answers.specs.declared.Counted.{Counted}
+use Rattle.ps2_answers.specs.declared.Refusal.{Refusal}
 
-abbrev pub said_byte : ByteAnswer → End (Answer ℕ)
-said_byte (ByteAnswer.Byte b) = yields (gives b)
-said_byte (ByteAnswer.Refused r) = refused r
+abbrev pub counted : {V : Type 0} → V → ℕ → ℕ → Counted V
+counted v u w = record { value = v; used = u; pairs = w }
 
-abbrev pub said_status : StatusAnswer → End (Answer ControllerToHostStatus)
-said_status (StatusAnswer.Status s) = yields (gives s)
-said_status (StatusAnswer.Refused r) = refused r
+-- The end of the play: what was brought, or the refusal.
+abbrev pub ended : {T : Type 0} → Result (Counted T) (Counted Refusal) → End (Answer T)
+ended (Ok a) = yields (gives a.value)
+ended (Err e) = refused e.value
 
-abbrev pub said_config : ConfigAnswer → End (Answer ControllerConfigurationByte)
-said_config (ConfigAnswer.Config c) = yields (gives c)
-said_config (ConfigAnswer.Refused r) = refused r
+-- The end of one turn of a repetition, by what its value is worth; a refusal ends the repetition.
+abbrev pub turn_end : {T B : Type 0} → (T → Turn (Answer B)) → Result (Counted T) (Counted Refusal) → End (Turn (Answer B))
+turn_end worth (Ok a) = yields (worth a.value)
+turn_end worth (Err e) = found_end (refused e.value)
 
-abbrev pub said_full : FullAnswer → End (Answer Bool)
-said_full (FullAnswer.Full full) = yields (gives full)
-said_full (FullAnswer.Refused r) = refused r
+-- The counts, in either case.
+abbrev pub used_of : {T : Type 0} → Result (Counted T) (Counted Refusal) → ℕ
+used_of (Ok a) = a.used
+used_of (Err e) = e.used
+
+abbrev pub pairs_of : {T : Type 0} → Result (Counted T) (Counted Refusal) → ℕ
+pairs_of (Ok a) = a.pairs
+pairs_of (Err e) = e.pairs
+
+-- The play that an answer tells, with the log as it is left.
+abbrev pub told : {T : Type 0} → Result (Counted T) (Counted Refusal) → List ℕ → Played (Answer T)
+told r log = played (ended r) (used_of r) (pairs_of r) log
+
+-- A sum of two counts, as code adds them.
+abbrev pub sum : ℕ → ℕ → ℕ
+sum m n = (m + n) % 2 ^ 64
+
+-- The answer of what came next, with the counts of what came before it added.
+abbrev pub behind : {V T : Type 0} → Counted V → Result (Counted T) (Counted Refusal) → Result (Counted T) (Counted Refusal)
+behind a (Ok b) = Ok (counted b.value (sum a.used b.used) (sum a.pairs b.pairs))
+behind a (Err e) = Err (counted e.value (sum a.used e.used) (sum a.pairs e.pairs))

@@ -3,15 +3,13 @@
 use Rattle.std.specs.Prelude.{ℕ}
 use Rattle.exchange.specs.Exchange.{Port, p60, p64, no_script, no_log, End, yields, lacks}
 use Rattle.exchange.specs.Exchange as exchange
-use Rattle.exchange.specs.Answer.{Answer, gives, refuses, lack_number}
+use Rattle.exchange.specs.Answer.{Answer, refuses, lack_number}
 use Rattle.ps2_answers.specs.declared.ReadPort.{ReadPort}
 use Rattle.ps2_answers.specs.declared.Lack.{Lack}
 use Rattle.ps2_answers.specs.declared.Failure.{Failure}
 use Rattle.ps2_answers.specs.declared.Failure.TheVariants.{AlreadyInitialized, InputBufferFull, NoResponse, SelfTestFailed, NotAcknowledged, ControllerTestFailed, PortTestFailed, ResetFailed, NoSetOrIdentity, UnknownKeyboard, FirstIdentityFour, LedsNotSet, RateOrResolutionNotSet, PacketsNotStopped, PacketsNotStarted, KeyboardNotDetected, FieldOutsideValues}
 use Rattle.ps2_answers.specs.declared.Refusal.{Refusal}
 use Rattle.ps2_answers.specs.declared.Refusal.TheVariants.{Lacking, Failed}
-use Rattle.ps2_answers.specs.declared.Completion.{Completion}
-use Rattle.ps2_answers.specs.declared.Completion.TheVariants.{Done, Refused}
 
 -- The number of each failure in document 01's questions, and in document 02's where a request added it.
 abbrev pub number_of : Failure → ℕ
@@ -54,9 +52,8 @@ refused (Lacking l) = lacks (lack_of l)
 refused (Failed f) = yields (refuses (number_of f))
 
 -- The value of an operation that gives nothing but its success.
-pub data Success : Type 0 where
-  success : Success
+abbrev pub Success : Type 0
+Success = Unit
 
-abbrev pub said_done : Completion → End (Answer Success)
-said_done Done = yields (gives success)
-said_done (Refused r) = refused r
+abbrev pub success : Success
+success = tt

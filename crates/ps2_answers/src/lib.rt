@@ -5,61 +5,58 @@ ghost use Rattle.std.specs.Prelude.{◌≡◌};
 ghost use Rattle.exchange.specs.Exchange.{number as port_number};
 ghost use Rattle.exchange.specs.Answer.{lack_number};
 ghost use Rattle.ps2_answers.specs.Refusals.{port_of, lack_of, number_of, refusal_number};
-
-use ps2_layouts::{ControllerConfigurationByte, ControllerToHostStatus};
+ghost use Rattle.ps2_answers.specs.Answers.{counted, behind};
 
 // The controller's ports as they are read: data from 60, the status from 64.
-#[derive(Clone, Copy)]
+#[derive(Clone, Copy, PartialEq, Eq)]
 pub enum ReadPort {
-    Data,
-    Status,
+    Data = 0x60,
+    Status = 0x64,
 }
 
 // What a call lacked: a script byte for its next read, which was to be of this port, or two free log bytes for its next write.
-#[derive(Clone, Copy)]
+#[derive(Clone, Copy, PartialEq, Eq)]
 pub enum Lack {
     Script(ReadPort),
     Log,
 }
 
 // Why the controller or a device did not do what was asked, or was not asked. Documents 01 and 02 number each.
-#[derive(Clone, Copy)]
+#[derive(Clone, Copy, PartialEq, Eq)]
 pub enum Failure {
-    AlreadyInitialized,
-    InputBufferFull,
-    NoResponse,
-    SelfTestFailed,
-    NotAcknowledged,
-    ControllerTestFailed,
-    PortTestFailed,
-    ResetFailed,
-    NoSetOrIdentity,
-    UnknownKeyboard,
-    FirstIdentityFour,
-    LedsNotSet,
-    RateOrResolutionNotSet,
-    PacketsNotStopped,
-    PacketsNotStarted,
-    KeyboardNotDetected,
-    FieldOutsideValues,
+    AlreadyInitialized = 1,
+    InputBufferFull = 4,
+    NoResponse = 5,
+    SelfTestFailed = 6,
+    NotAcknowledged = 7,
+    ControllerTestFailed = 8,
+    PortTestFailed = 9,
+    ResetFailed = 10,
+    NoSetOrIdentity = 11,
+    UnknownKeyboard = 12,
+    FirstIdentityFour = 13,
+    LedsNotSet = 14,
+    RateOrResolutionNotSet = 15,
+    PacketsNotStopped = 16,
+    PacketsNotStarted = 17,
+    KeyboardNotDetected = 18,
+    FieldOutsideValues = 28,
 }
 
 // Why a call ended without what it is for: it lacked a byte or room, or it failed.
-#[derive(Clone, Copy)]
+#[derive(Clone, Copy, PartialEq, Eq)]
 pub enum Refusal {
     Lacking(Lack),
     Failed(Failure),
 }
 
+// Kept: `number` here and below is a method, since documents 01 and 02 call it a number; `u8::from(refusal)` says less.
 impl ReadPort {
     // The port's number.
     pub fn number(self) -> u8
         ensures { result ≡ port_number (port_of self) }
     {
-        match self {
-            ReadPort::Data => 0x60,
-            ReadPort::Status => 0x64,
-        }
+        self as u8
     }
 }
 
@@ -68,6 +65,7 @@ impl Lack {
     pub fn number(self) -> u8
         ensures { result ≡ lack_number (lack_of self) }
     {
+        // Kept as a match: `Lack::Script` carries a port, so there is no discriminant to cast; `Refusal` likewise.
         match self {
             Lack::Script(_) => 2,
             Lack::Log => 3,
@@ -80,25 +78,7 @@ impl Failure {
     pub fn number(self) -> u8
         ensures { result ≡ number_of self }
     {
-        match self {
-            Failure::AlreadyInitialized => 1,
-            Failure::InputBufferFull => 4,
-            Failure::NoResponse => 5,
-            Failure::SelfTestFailed => 6,
-            Failure::NotAcknowledged => 7,
-            Failure::ControllerTestFailed => 8,
-            Failure::PortTestFailed => 9,
-            Failure::ResetFailed => 10,
-            Failure::NoSetOrIdentity => 11,
-            Failure::UnknownKeyboard => 12,
-            Failure::FirstIdentityFour => 13,
-            Failure::LedsNotSet => 14,
-            Failure::RateOrResolutionNotSet => 15,
-            Failure::PacketsNotStopped => 16,
-            Failure::PacketsNotStarted => 17,
-            Failure::KeyboardNotDetected => 18,
-            Failure::FieldOutsideValues => 28,
-        }
+        self as u8
     }
 }
 
@@ -114,71 +94,55 @@ impl Refusal {
     }
 }
 
-// The answer of an operation that gives nothing but its success.
+// A value with the counts of what brought it: `used` script bytes, `pairs` written to the log.
 #[derive(Clone, Copy)]
-pub enum Completion {
-    Done,
-    Refused(Refusal),
-}
-
-// The answers of the reads: what was read, or why nothing was.
-#[derive(Clone, Copy)]
-pub enum ByteAnswer {
-    Byte(u8),
-    Refused(Refusal),
-}
-
-#[derive(Clone, Copy)]
-pub enum StatusAnswer {
-    Status(ControllerToHostStatus),
-    Refused(Refusal),
-}
-
-#[derive(Clone, Copy)]
-pub enum ConfigAnswer {
-    Config(ControllerConfigurationByte),
-    Refused(Refusal),
-}
-
-// Whether a device has a byte to read.
-#[derive(Clone, Copy)]
-pub enum FullAnswer {
-    Full(bool),
-    Refused(Refusal),
-}
-
-// An answer with its counts: `used` script bytes, `pairs` written to the log.
-#[derive(Clone, Copy)]
-pub struct Completed {
-    pub answer: Completion,
+pub struct Counted<V> {
+    pub value: V,
     pub used: usize,
     pub pairs: usize,
 }
 
-#[derive(Clone, Copy)]
-pub struct ByteRead {
-    pub answer: ByteAnswer,
-    pub used: usize,
-    pub pairs: usize,
-}
+// What an exchange answers: what it brought, or why it ended without; with the counts of either.
+pub type Answer<T> = Result<Counted<T>, Counted<Refusal>>;
 
-#[derive(Clone, Copy)]
-pub struct StatusRead {
-    pub answer: StatusAnswer,
-    pub used: usize,
-    pub pairs: usize,
-}
+impl<V: Copy> Counted<V> {
+    // A value before anything is read or written.
+    pub fn new(value: V) -> Counted<V>
+        ensures { result ≡ counted value 0 0 }
+    {
+        Counted {
+            value,
+            used: 0,
+            pairs: 0,
+        }
+    }
 
-#[derive(Clone, Copy)]
-pub struct ConfigRead {
-    pub answer: ConfigAnswer,
-    pub used: usize,
-    pub pairs: usize,
-}
+    // Another value with the same counts.
+    pub fn with<W: Copy>(self, value: W) -> Counted<W>
+        ensures { result ≡ counted value self.used self.pairs }
+    {
+        Counted {
+            value,
+            used: self.used,
+            pairs: self.pairs,
+        }
+    }
 
-#[derive(Clone, Copy)]
-pub struct FullRead {
-    pub answer: FullAnswer,
-    pub used: usize,
-    pub pairs: usize,
+    // The answer of the exchange that came next, with the counts of what came before it added. The sums wrap, which no counts of one script and log do.
+    pub fn then<W: Copy>(self, next: Answer<W>) -> Answer<W>
+        ensures { result ≡ behind self next }
+    {
+        match next {
+            Ok(brought) => Ok(Counted {
+                value: brought.value,
+                used: self.used.wrapping_add(brought.used),
+                pairs: self.pairs.wrapping_add(brought.pairs),
+            }),
+            Err(refused) => Err(Counted {
+                value: refused.value,
+                used: self.used.wrapping_add(refused.used),
+                pairs: self.pairs.wrapping_add(refused.pairs),
+            }),
+        }
+    }
 }

@@ -13,7 +13,7 @@ use Rattle.bits.specs.Bits.{bit}
 use Rattle.bits.specs.Table.{decode}
 use Rattle.exchange.specs.Exchange.{Exchange, yields, played, play, Writes}
 use Rattle.exchange.specs.Answer.{Answer, gives, refuses, on_given, and_then}
-use Rattle.exchange.specs.Keeping.{Kept, keeping, kept, NoData, no_data_done, no_data_write}
+use Rattle.exchange.specs.Keeping.{Kept, keeping, kept, kept_end, NoData, no_data_done, no_data_write}
 use Rattle.exchange.specs.Parts.{part}
 use Rattle.exchange.specs.Repeat.{Turn, found, turned, repeat}
 use Rattle.exchange.proofs.Calls.{bind_done}
@@ -27,6 +27,7 @@ use Rattle.ps2_bytes.specs.declared.response.DeviceToHostResponse.TheVariants.{A
 use Rattle.ps2_bytes.specs.declared.writable.HostToDevice.{HostToDevice}
 use Rattle.ps2_bytes.specs.Writable.{to_device}
 use Rattle.ps2_answers.specs.Refusals.{Success, success}
+use Rattle.ps2_answers.specs.Answers.{counted}
 use Rattle.ps2_kept.specs.declared.KeptBytes.{KeptBytes}
 use Rattle.ps2_kept.specs.Added.{added_thrown, keeping_onto}
 use Rattle.ps2_kept.specs.Promises.{ReadsKept, PlaysKept}
@@ -34,7 +35,6 @@ use Rattle.ps2_kept.proofs.Sequence.{onto_then, no_data_then_reads, writes_then_
 use Rattle.ps2_ports.specs.declared.DevicePort.{DevicePort}
 use Rattle.ps2_ports.specs.declared.DevicePort.TheVariants.{Port1, Port2}
 use Rattle.ps2_ports.specs.Ports.{write_port, write_command}
-use Rattle.ps2_polling.specs.declared.ResponseAnswer.{ResponseAnswer}
 use Rattle.ps2_polling.specs.Polling.{send_try, polling_send, poll, response_turn, polling_receive, polling_send_receive}
 use Rattle.ps2_polling.proofs.Receiving.{no_data_send}
 use Rattle.ps2_command.specs.Command.{attempt, command, command_to_port2, command_by}
@@ -101,12 +101,13 @@ module _ (k : KeptBytes) (value : HostToDevice) (sent came : ℕ) (a : bit input
   once_settled z = keeping_onto z.bytes (turned z.value (repeat 3 (refuses 7) (attempt value)))
 
   -- so the first attempt settles the command
-  settles : PlaysKept (keeping_onto k (attempt value)) script (x ∷ y ∷ log) (yields (found (gives success))) 3 1 logged k
+  settles : played (kept_end (yields (found (gives success))) k) 3 1 logged ≡ play (keeping_onto k (attempt value)) script (x ∷ y ∷ log)
   unfolding polling_send_receive and_then
   settles =
       let r : ReadsKept (keeping_onto k polling_receive) (part 1 script) (yields (gives Acknowledge)) 2 0 k = rw (part_drop 1 script) receives in
-      attempt_response value k script (x ∷ y ∷ log) (ResponseAnswer.Response Acknowledge)
-      (no_data_then_reads (polling_send value) (λ (_ : Success). polling_receive) (no_data_send value) k script (x ∷ y ∷ log) sends refl r) Acknowledge refl refl
+      let q : PlaysKept (keeping_onto k (polling_send_receive value)) script (x ∷ y ∷ log) (yields (gives Acknowledge)) 3 1 logged k =
+      no_data_then_reads (polling_send value) (λ (_ : Success). polling_receive) (no_data_send value) k script (x ∷ y ∷ log) sends refl r in
+      attempt_response value k k script (x ∷ y ∷ log) (counted Acknowledge 3 1) q.plays refl
 
   accepted : PlaysKept (keeping_onto k (command value)) script (x ∷ y ∷ log) (yields (gives success)) 3 1 logged k
   unfolding command
@@ -114,7 +115,7 @@ module _ (k : KeptBytes) (value : HostToDevice) (sent came : ℕ) (a : bit input
       record {
         plays =
             rw (repeat_step 4 3 (refuses 7) (attempt value) refl, keeping-bind added_thrown (λ r. turned r (repeat 3 (refuses 7) (attempt value))) k (attempt value))
-            (bind_done (keeping_onto k (attempt value)) once_settled script (x ∷ y ∷ log) settles.plays refl (keeping-done added_thrown k (gives success)));
+            (bind_done (keeping_onto k (attempt value)) once_settled script (x ∷ y ∷ log) settles refl (keeping-done added_thrown k (gives success)));
         ended = refl;
       }
 

@@ -16,7 +16,7 @@ use Rattle.ps2_command.proofs.Search.{self_test_gives, self_test_refuses}
 
 -- there is one success
 pub the_success : (x : Success) → x ≡ success
-the_success success = refl
+the_success x = refl
 
 module _ (ff : Exchange (Answer Success)) (n : ℕ) (then : Exchange (Answer Success)) (s l : List ℕ) where
   pub own_aa : ((s l : List ℕ) → (play then s l).end ≡ yields (gives success) → (play (self_test_within n) s l).end ≡ yields (gives success))

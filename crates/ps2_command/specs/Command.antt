@@ -1,18 +1,18 @@
 -- The command rule: one byte to a device, in up to four attempts.
 -- Assumes nothing.
-use Rattle.std.specs.Prelude.{ℕ}
-use Rattle.exchange.specs.Exchange.{Exchange, done, bind, End, yields}
+use Rattle.std.specs.Prelude.{ℕ, Bool, true, false, Result, Ok, Err}
+use Rattle.exchange.specs.Exchange.{Exchange, done, bind}
 use Rattle.exchange.specs.Answer.{Answer, gives, refuses, and_then}
-use Rattle.exchange.specs.Repeat.{Turn, found, again, found_end, repeat}
+use Rattle.exchange.specs.Repeat.{Turn, found, again, repeat}
 use Rattle.ps2_bytes.specs.declared.command.HostToControllerCommand.TheVariants.{WriteByteToPort2InputBuffer}
 use Rattle.ps2_bytes.specs.declared.response.DeviceToHostResponse.{DeviceToHostResponse}
 use Rattle.ps2_bytes.specs.declared.response.DeviceToHostResponse.TheVariants.{KeyDetectionErrorOrInternalBufferOverrun1, SelfTestPassed, ResponseToEcho, Acknowledge, SelfTestFailed1, SelfTestFailed2, ResendCommand, KeyDetectionErrorOrInternalBufferOverrun2}
 use Rattle.ps2_bytes.specs.declared.writable.HostToDevice.{HostToDevice}
 use Rattle.ps2_ports.specs.declared.DevicePort.{DevicePort}
 use Rattle.ps2_ports.specs.declared.DevicePort.TheVariants.{Port1, Port2}
-use Rattle.ps2_answers.specs.Refusals.{Success, success, said_done}
+use Rattle.ps2_answers.specs.Refusals.{Success, success, number_of}
+use Rattle.ps2_answers.specs.declared.Failure.{Failure}
 use Rattle.ps2_ports.specs.Ports.{write_command}
-use Rattle.ps2_command.specs.declared.Attempt.{Attempt}
 use Rattle.ps2_polling.specs.Polling.{polling_send_receive}
 
 -- "FA and AA succeed, FC and FD give 6; FE, 00, EE and FF try again."
@@ -56,7 +56,12 @@ abbrev pub command_by : DevicePort → HostToDevice → Exchange (Answer Success
 command_by Port1 value = command value
 command_by Port2 value = command_to_port2 value
 
--- What the code's attempt says of the end of a play.
-abbrev pub said_attempt : Attempt → End (Turn (Answer Success))
-said_attempt (Attempt.Settled a) = found_end (said_done a)
-said_attempt Attempt.Again = yields again
+-- What the code's attempt is worth: it is accepted, or another is to be made.
+abbrev pub accepted : Bool → Turn (Answer Success)
+accepted true = found (gives success)
+accepted false = again
+
+-- What the code says of a response.
+abbrev pub said_verdict : Result Bool Failure → Turn (Answer Success)
+said_verdict (Ok b) = accepted b
+said_verdict (Err f) = found (refuses (number_of f))

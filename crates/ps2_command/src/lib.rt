@@ -2,23 +2,25 @@
 #![tactic(auto)]
 
 ghost use Rattle.std.specs.Prelude.{◌≡◌, ◌+◌, ◌≤◌, length, set};
-ghost use Rattle.exchange.specs.Exchange.{told_end, yields, Reads};
+ghost use Rattle.exchange.specs.Exchange.{told_end, played, play, Reads};
 ghost use Rattle.exchange.specs.Answer.{and_then, renumbered};
-ghost use Rattle.ps2_answers.specs.Refusals.{number_of, said_done};
+ghost use Rattle.exchange.specs.Keeping.{kept_end};
+ghost use Rattle.ps2_answers.specs.Refusals.{number_of};
+ghost use Rattle.ps2_answers.specs.Answers.{ended, turn_end, used_of, pairs_of};
 ghost use Rattle.ps2_kept.specs.Kept.{keeping_thrown};
 ghost use Rattle.ps2_kept.specs.Added.{keeping_onto};
-ghost use Rattle.ps2_kept.specs.Promises.{PlaysKept};
+ghost use Rattle.ps2_kept.specs.Promises.{PlaysKept, told_kept};
 ghost use Rattle.ps2_ports.specs.declared.DevicePort.TheVariants.{Port1, Port2};
-ghost use Rattle.ps2_command.specs.Command.{command as command_rule, command_to_port2, command_by, attempt as attempt_rule, said_attempt, verdict as verdict_rule};
+ghost use Rattle.ps2_command.specs.Command.{command as command_rule, command_to_port2, command_by, attempt as attempt_rule, accepted, said_verdict, verdict as verdict_rule};
 ghost use Rattle.ps2_command.specs.AtOnce.{at_once, TwoWritten, TwoAtOnce};
 ghost use Rattle.ps2_command.specs.Replaced.{replaced_by};
 ghost use Rattle.ps2_command.specs.Search.{self_test_within};
 
-use ps2_answers::{Completed, Completion, Failure, Refusal};
+use ps2_answers::{Answer, Counted, Failure, Refusal};
 use ps2_bytes::{DeviceToHostResponse, HostToControllerCommand, HostToDevice};
-use ps2_kept::{KeptBytes, kept_at, none_kept};
+use ps2_kept::{KeptBytes, none_kept};
 use ps2_layouts::ControllerToHostStatus;
-use ps2_polling::{ResponseAnswer, Waiting, polling_send_receive_onto, read_test_result};
+use ps2_polling::{Waiting, polling_send_receive_keeping, read_test_result};
 use ps2_ports::{DevicePort, PS2_COMMAND_AND_STATUS_PORT, PS2_DATA_PORT, write_command};
 
 // The attempts that a command has.
@@ -30,102 +32,67 @@ const SELF_TEST_PASSED: u8 = 0xAA;
 // A device's byte for a command that it accepts.
 const ACKNOWLEDGE: u8 = 0xFA;
 
-// What one attempt comes to: it settles the command, or another is to be made.
-#[derive(Clone, Copy)]
-pub enum Attempt {
-    Settled(Completion),
-    Again,
-}
-
-#[derive(Clone, Copy)]
-pub struct Attempted {
-    pub attempt: Attempt,
-    pub used: usize,
-    pub pairs: usize,
-    pub kept: KeptBytes,
-}
-
 // What a command comes to, with the bytes that its whole run threw away.
 #[derive(Clone, Copy)]
 pub struct Commanded {
-    pub answer: Completion,
-    pub used: usize,
-    pub pairs: usize,
+    pub answer: Answer<()>,
     pub kept: KeptBytes,
 }
 
-// What a response says of the command.
-fn verdict(response: DeviceToHostResponse) -> Attempt
-    ensures { said_attempt result ≡ yields (verdict_rule response) }
+// What a response says of the command: whether it is accepted, or else another attempt is to be made; or why it failed.
+fn verdict(response: DeviceToHostResponse) -> Result<bool, Failure>
+    ensures { said_verdict result ≡ verdict_rule response }
 {
     match response {
-        DeviceToHostResponse::KeyDetectionErrorOrInternalBufferOverrun1 => Attempt::Again,
-        DeviceToHostResponse::SelfTestPassed => Attempt::Settled(Completion::Done),
-        DeviceToHostResponse::ResponseToEcho => Attempt::Again,
-        DeviceToHostResponse::Acknowledge => Attempt::Settled(Completion::Done),
-        DeviceToHostResponse::SelfTestFailed1 => {
-            Attempt::Settled(Completion::Refused(Refusal::Failed(Failure::SelfTestFailed)))
-        }
-        DeviceToHostResponse::SelfTestFailed2 => {
-            Attempt::Settled(Completion::Refused(Refusal::Failed(Failure::SelfTestFailed)))
-        }
-        DeviceToHostResponse::ResendCommand => Attempt::Again,
-        DeviceToHostResponse::KeyDetectionErrorOrInternalBufferOverrun2 => Attempt::Again,
+        DeviceToHostResponse::KeyDetectionErrorOrInternalBufferOverrun1 => Ok(false),
+        DeviceToHostResponse::SelfTestPassed => Ok(true),
+        DeviceToHostResponse::ResponseToEcho => Ok(false),
+        DeviceToHostResponse::Acknowledge => Ok(true),
+        DeviceToHostResponse::SelfTestFailed1 => Err(Failure::SelfTestFailed),
+        DeviceToHostResponse::SelfTestFailed2 => Err(Failure::SelfTestFailed),
+        DeviceToHostResponse::ResendCommand => Ok(false),
+        DeviceToHostResponse::KeyDetectionErrorOrInternalBufferOverrun2 => Ok(false),
     }
 }
 
-// One attempt: sends the byte, and reads the response. What is thrown away comes behind the bytes kept before, here and below.
-fn attempt_once(script: &[u8], log: &mut [u8], value: HostToDevice, before: KeptBytes) -> Attempted
-    ensures { PlaysKept (keeping_onto before (attempt_rule value)) script.now log.old (said_attempt result.attempt) result.used result.pairs log.new result.kept }
+// One attempt: sends the byte, and reads the response. What is thrown away is added to the bytes kept before, here and below.
+fn attempt_once(
+    script: &[u8],
+    log: &mut [u8],
+    value: HostToDevice,
+    kept: &mut KeptBytes,
+) -> Answer<bool>
+    ensures { played (kept_end (turn_end accepted result) kept.new) (used_of result) (pairs_of result) log.new ≡ play (keeping_onto kept.old (attempt_rule value)) script.now log.old }
 {
-    let s = polling_send_receive_onto(script, log, value, before);
-    let used = s.used;
-    let pairs = s.pairs;
-    let kept = s.kept;
-    let answer = s.answer;
-    let attempt = match answer {
-        ResponseAnswer::Response(response) => verdict(response),
-        ResponseAnswer::Refused(e) => Attempt::Settled(Completion::Refused(e)),
-    };
-    Attempted {
-        attempt,
-        used,
-        pairs,
-        kept,
+    let response = polling_send_receive_keeping(script, log, value, kept)?;
+    match verdict(response.value) {
+        Ok(done) => Ok(response.with(done)),
+        Err(failure) => Err(response.with(Refusal::Failed(failure))),
     }
 }
 
 // A command to the device of the first port, or to whichever the controller was told to send the next byte to.
-fn command_onto(script: &[u8], log: &mut [u8], value: HostToDevice, before: KeptBytes) -> Commanded
-    ensures { PlaysKept (keeping_onto before (command_rule value)) script.now log.old (said_done result.answer) result.used result.pairs log.new result.kept }
+// Kept as `loop`, and as two slices here and below: document 01 has bounded loops that yield by `break`, and the log's tail lent.
+fn command_onto(
+    script: &[u8],
+    log: &mut [u8],
+    value: HostToDevice,
+    kept: &mut KeptBytes,
+) -> Answer<()>
+    ensures { told_kept result kept.new log.new ≡ play (keeping_onto kept.old (command_rule value)) script.now log.old }
 {
-    let mut used: usize = 0;
-    let mut pairs: usize = 0;
+    let mut at = Counted::new(false);
     let mut attempts = ATTEMPTS;
-    let mut kept = before;
-    let answer = loop {
+    loop {
         if attempts == 0 {
-            break Completion::Refused(Refusal::Failed(Failure::NotAcknowledged));
+            break Err(at.with(Refusal::Failed(Failure::NotAcknowledged)));
         }
-        let at = 2 * pairs;
-        let a = attempt_once(&script[used..], &mut log[at..], value, kept);
-        used += a.used;
-        pairs += a.pairs;
-        kept = a.kept;
-        let attempt = a.attempt;
-        match attempt {
-            Attempt::Settled(answer) => {
-                break answer;
-            }
-            Attempt::Again => {}
+        let tail = 2 * at.pairs;
+        at = at.then(attempt_once(&script[at.used..], &mut log[tail..], value, kept))?;
+        if at.value {
+            break Ok(at.with(()));
         }
         attempts -= 1;
-    };
-    Commanded {
-        answer,
-        used,
-        pairs,
-        kept,
     }
 }
 
@@ -134,33 +101,13 @@ fn command_to_port2_onto(
     script: &[u8],
     log: &mut [u8],
     value: HostToDevice,
-    before: KeptBytes,
-) -> Commanded
-    ensures { PlaysKept (keeping_onto before (command_to_port2 value)) script.now log.old (said_done result.answer) result.used result.pairs log.new result.kept }
+    kept: &mut KeptBytes,
+) -> Answer<()>
+    ensures { told_kept result kept.new log.new ≡ play (keeping_onto kept.old (command_to_port2 value)) script.now log.old }
 {
-    let w = write_command(log, HostToControllerCommand::WriteByteToPort2InputBuffer);
-    let pairs = w.pairs;
-    let written = w.answer;
-    match written {
-        Completion::Done => {
-            let at = 2 * pairs;
-            let c = command_onto(script, &mut log[at..], value, before);
-            let answer = c.answer;
-            let kept = c.kept;
-            Commanded {
-                answer,
-                used: c.used,
-                pairs: pairs + c.pairs,
-                kept,
-            }
-        }
-        Completion::Refused(e) => Commanded {
-            answer: Completion::Refused(e),
-            used: 0,
-            pairs,
-            kept: kept_at(e, before),
-        },
-    }
+    let told = write_command(log, HostToControllerCommand::WriteByteToPort2InputBuffer)?;
+    let tail = 2 * told.pairs;
+    told.then(command_onto(script, &mut log[tail..], value, kept))
 }
 
 // A command to the device of either port.
@@ -169,17 +116,33 @@ fn command_by_onto(
     log: &mut [u8],
     port: DevicePort,
     value: HostToDevice,
-    before: KeptBytes,
-) -> Commanded
-    ensures { PlaysKept (keeping_onto before (command_by port value)) script.now log.old (said_done result.answer) result.used result.pairs log.new result.kept }
+    kept: &mut KeptBytes,
+) -> Answer<()>
+    ensures { told_kept result kept.new log.new ≡ play (keeping_onto kept.old (command_by port value)) script.now log.old }
 {
     match port {
-        DevicePort::Port1 => command_onto(script, log, value, before),
-        DevicePort::Port2 => command_to_port2_onto(script, log, value, before),
+        DevicePort::Port1 => command_onto(script, log, value, kept),
+        DevicePort::Port2 => command_to_port2_onto(script, log, value, kept),
     }
 }
 
 // Two commands to a device, the second only where the first was accepted.
+pub fn command_pair_keeping(
+    script: &[u8],
+    log: &mut [u8],
+    port: DevicePort,
+    first: HostToDevice,
+    second: HostToDevice,
+    kept: &mut KeptBytes,
+) -> Answer<()>
+    ensures { told_kept result kept.new log.new ≡ play (keeping_onto kept.old (and_then (command_by port first) (λ _. command_by port second))) script.now log.old }
+{
+    let done = command_by_onto(script, log, port, first, kept)?;
+    let tail = 2 * done.pairs;
+    done.then(command_by_onto(&script[done.used..], &mut log[tail..], port, second, kept))
+}
+
+// The same, with the bytes kept before taken and given by value.
 pub fn command_pair_onto(
     script: &[u8],
     log: &mut [u8],
@@ -188,46 +151,28 @@ pub fn command_pair_onto(
     second: HostToDevice,
     before: KeptBytes,
 ) -> Commanded
-    ensures { PlaysKept (keeping_onto before (and_then (command_by port first) (λ _. command_by port second))) script.now log.old (said_done result.answer) result.used result.pairs log.new result.kept }
+    ensures { PlaysKept (keeping_onto before (and_then (command_by port first) (λ _. command_by port second))) script.now log.old (ended result.answer) (used_of result.answer) (pairs_of result.answer) log.new result.kept }
 {
-    let c = command_by_onto(script, log, port, first, before);
-    let used = c.used;
-    let pairs = c.pairs;
-    let kept = c.kept;
-    let accepted = c.answer;
-    match accepted {
-        Completion::Done => {
-            let at = 2 * pairs;
-            let d = command_by_onto(&script[used..], &mut log[at..], port, second, kept);
-            let answer = d.answer;
-            let both = d.kept;
-            Commanded {
-                answer,
-                used: used + d.used,
-                pairs: pairs + d.pairs,
-                kept: both,
-            }
-        }
-        Completion::Refused(e) => Commanded {
-            answer: Completion::Refused(e),
-            used,
-            pairs,
-            kept,
-        },
+    let mut kept = before;
+    let answer = command_pair_keeping(script, log, port, first, second, &mut kept);
+    Commanded {
+        answer,
+        kept: kept.after(answer),
     }
 }
 
 // Whether a script begins with a device's acknowledgement at once: the first status lets a byte be sent, and the first poll brings FA.
+// Kept as tests in turn: tried as one `&&`, which proves alone, but then its wrong program is refused by a limit alone, and by no fact.
 fn acknowledges_at_once(script: &[u8]) -> bool
     ensures { result ≡ at_once script.now }
 {
     if script.len() < 3 {
         return false;
     }
-    if ControllerToHostStatus::from_byte(script[0]).input_buffer_full() {
+    if ControllerToHostStatus::from(script[0]).input_buffer_full() {
         return false;
     }
-    if !ControllerToHostStatus::from_byte(script[1]).output_buffer_full() {
+    if !ControllerToHostStatus::from(script[1]).output_buffer_full() {
         return false;
     }
     script[2] == ACKNOWLEDGE
@@ -260,7 +205,7 @@ fn two_to_port2(log: &mut [u8], first: u8, second: u8) -> usize
     if log.len() < 8 {
         return 0;
     }
-    let next_to_port2 = HostToControllerCommand::WriteByteToPort2InputBuffer.to_byte();
+    let next_to_port2 = u8::from(HostToControllerCommand::WriteByteToPort2InputBuffer);
     put_pair(log, 0, PS2_COMMAND_AND_STATUS_PORT, next_to_port2);
     put_pair(log, 2, PS2_DATA_PORT, first);
     put_pair(log, 4, PS2_COMMAND_AND_STATUS_PORT, next_to_port2);
@@ -285,16 +230,21 @@ pub fn command_pair_at_once(
         return 0;
     }
     match port {
-        DevicePort::Port1 => two_to_port1(log, first.to_byte(), second.to_byte()),
-        DevicePort::Port2 => two_to_port2(log, first.to_byte(), second.to_byte()),
+        DevicePort::Port1 => two_to_port1(log, u8::from(first), u8::from(second)),
+        DevicePort::Port2 => two_to_port2(log, u8::from(first), u8::from(second)),
     }
 }
 
 // A command to the device of either port, with no byte kept before it.
 pub fn command_by(script: &[u8], log: &mut [u8], port: DevicePort, value: HostToDevice) -> Commanded
-    ensures { PlaysKept (keeping_thrown (command_by port value)) script.now log.old (said_done result.answer) result.used result.pairs log.new result.kept }
+    ensures { PlaysKept (keeping_thrown (command_by port value)) script.now log.old (ended result.answer) (used_of result.answer) (pairs_of result.answer) log.new result.kept }
 {
-    command_by_onto(script, log, port, value, none_kept())
+    let mut kept = none_kept();
+    let answer = command_by_onto(script, log, port, value, &mut kept);
+    Commanded {
+        answer,
+        kept: kept.after(answer),
+    }
 }
 
 // Two commands to a device, with no byte kept before them.
@@ -305,14 +255,14 @@ pub fn command_pair(
     first: HostToDevice,
     second: HostToDevice,
 ) -> Commanded
-    ensures { PlaysKept (keeping_thrown (and_then (command_by port first) (λ _. command_by port second))) script.now log.old (said_done result.answer) result.used result.pairs log.new result.kept }
+    ensures { PlaysKept (keeping_thrown (and_then (command_by port first) (λ _. command_by port second))) script.now log.old (ended result.answer) (used_of result.answer) (pairs_of result.answer) log.new result.kept }
 {
     command_pair_onto(script, log, port, first, second, none_kept())
 }
 
 // Reads data, without asking the status, until a device says that it passed its self test.
-pub fn read_self_test_result(script: &[u8], reads: u32) -> Completed
-    ensures { Reads (self_test_within reads) script.now (said_done result.answer) result.used result.pairs }
+pub fn read_self_test_result(script: &[u8], reads: u32) -> Answer<()>
+    ensures { Reads (self_test_within reads) script.now (ended result) (used_of result) (pairs_of result) }
 {
     read_test_result(
         script,
@@ -334,11 +284,13 @@ pub fn refusing_as(e: Refusal, failure: Failure) -> Refusal
 }
 
 // The answer of an operation with its refusals replaced by one of its own.
-pub fn failing_as(answer: Completion, failure: Failure) -> Completion
-    ensures { said_done result ≡ told_end (renumbered (number_of failure)) (said_done answer) }
+pub fn failing_as<T: Copy>(answer: Answer<T>, failure: Failure) -> Answer<T>
+    ensures end { ended result ≡ told_end (renumbered (number_of failure)) (ended answer) }
+    ensures used { used_of result ≡ used_of answer }
+    ensures pairs { pairs_of result ≡ pairs_of answer }
 {
     match answer {
-        Completion::Done => Completion::Done,
-        Completion::Refused(e) => Completion::Refused(refusing_as(e, failure)),
+        Ok(done) => Ok(done),
+        Err(refused) => Err(refused.with(refusing_as(refused.value, failure))),
     }
 }

@@ -4,6 +4,7 @@ use Prim.Native.Nat.{ℕ}
 use mathlib.Core.Bool.{true, false}
 use mathlib.Core.Path.{◌≡◌}
 use lib.Dec.{eqb}
+use Rattle.std.specs.Prelude.{Option, Some, None}
 use Rattle.exchange.specs.Answer.{Answer, gives}
 use Rattle.exchange.specs.Repeat.{Turn, found, again}
 use Rattle.ps2_bytes.specs.declared.response.KeyboardType.{KeyboardType}
@@ -11,14 +12,13 @@ use Rattle.ps2_command.specs.Search.{listed_turn}
 use Rattle.ps2_keyboard.proofs.Turns.{heard_turn}
 use Rattle.ps2_detect.specs.Detection.{came00, came_ab, first_turn, second_bytes}
 use Rattle.ps2_detect.specs.Answers.{second_byte_read}
-use Rattle.ps2_detect.specs.declared.SecondByte.{SecondByte}
 
-abbrev pub told_type : SecondByte → Turn (Answer KeyboardType)
-told_type (SecondByte.Listed t) = found (gives t)
-told_type SecondByte.Unlisted = again
+abbrev pub told_type : Option KeyboardType → Turn (Answer KeyboardType)
+told_type (Some t) = found (gives t)
+told_type None = again
 
-pub second_turn : (b : ℕ) {x y : SecondByte} → x ≡ second_byte_read b → x ≡ y → listed_turn second_bytes b ≡ told_type y
-second_turn b = heard_turn told_type SecondByte.Listed SecondByte.Unlisted second_bytes b
+pub second_turn : (b : ℕ) {x y : Option KeyboardType} → x ≡ second_byte_read b → x ≡ y → listed_turn second_bytes b ≡ told_type y
+second_turn b = heard_turn told_type Some None second_bytes b
 
 -- the first byte of an identity, by the code's two tests
 module _ (b : ℕ) where

@@ -3,18 +3,15 @@
 use Prim.Native.Nat.{ℕ, ◌≤◌}
 use mathlib.Core.List.{List, []}
 use mathlib.Core.Path.{◌≡◌, refl, ◌∙◌}
-use Rattle.exchange.specs.Exchange.{Exchange, done, bind, End, played, play, Reads}
+use Rattle.exchange.specs.Exchange.{Exchange, done, bind, End, yields, lacks, played, play, Reads}
 use Rattle.exchange.specs.Bounds.{Within}
-use Rattle.exchange.specs.Keeping.{keeping, retold, kept_end}
+use Rattle.exchange.specs.Keeping.{Kept, keeping, retold, kept_end}
 use Rattle.exchange.proofs.Keeping.{keeping_forgets, end_forgets}
 use Rattle.exchange.proofs.Sequence.{bind_assoc}
 use Rattle.exchange.proofs.Told.{bind_told}
-use Rattle.ps2_answers.specs.Refusals.{refused}
-use Rattle.ps2_answers.specs.declared.Refusal.{Refusal}
-use Rattle.ps2_answers.specs.declared.Refusal.TheVariants.{Lacking, Failed}
 use Rattle.ps2_kept.specs.declared.KeptBytes.{KeptBytes}
 use Rattle.ps2_kept.specs.Thrown.{thrown}
-use Rattle.ps2_kept.specs.Kept.{kept_of, nothing_kept, keeping_thrown, kept_at, kept_at_refusal}
+use Rattle.ps2_kept.specs.Kept.{kept_of, nothing_kept, keeping_thrown, kept_at}
 use Rattle.ps2_kept.specs.Added.{others_limit, keeping_onto}
 use Rattle.ps2_kept.specs.Promises.{ReadsKept, PlaysKept}
 use Rattle.ps2_kept.proofs.Thrown.{keeping_thrown_lem}
@@ -49,8 +46,19 @@ module _ {A : Type 0} (t : Exchange A) where
     pub reads_forgets : ReadsKept (keeping_thrown t) script e used pairs k → Reads t script e used pairs
     reads_forgets x = record { with_any = λ l. forgets k script l e (x.reads.with_any l); no_pairs = x.reads.no_pairs }
 
--- ---- what is handed back with a refusal is what its end says
+-- ---- what is handed back is what was kept, and nothing after a lack
 
-pub kept_refused : (A : Type 0) (x : Refusal) (k : KeptBytes) → kept_at_refusal x k ≡ kept_at (refused {A = A} x) (kept_at_refusal x k)
-kept_refused A (Lacking l) k = refl
-kept_refused A (Failed f) k = refl
+handed_end : {A : Type 0} (e : End A) (k : KeptBytes) {k₂ : KeptBytes} → k₂ ≡ kept_at e k → kept_end e k₂ ≡ kept_end e k
+handed_end (yields a) k q = rw q
+handed_end (lacks x) k q = refl
+
+handed_again : {A : Type 0} (e : End A) (k : KeptBytes) {k₂ : KeptBytes} → k₂ ≡ kept_at e k → k₂ ≡ kept_at e k₂
+handed_again (yields a) k q = refl
+handed_again (lacks x) k q = q
+
+module _ {A : Type 0} (e : End A) (k : KeptBytes) {t : Exchange (Kept KeptBytes A)} {script : List ℕ} {used pairs : ℕ} {k₂ : KeptBytes} where
+  pub reads_handed : k₂ ≡ kept_at e k → Reads t script (kept_end e k) used pairs → ReadsKept t script e used pairs k₂
+  reads_handed q x = record { reads = record { with_any = λ l. rw (handed_end e k q) (x.with_any l); no_pairs = x.no_pairs }; ended = handed_again e k q }
+
+  pub plays_handed : {log left : List ℕ} → k₂ ≡ kept_at e k → played (kept_end e k) used pairs left ≡ play t script log → PlaysKept t script log e used pairs left k₂
+  plays_handed q x = record { plays = rw (handed_end e k q) x; ended = handed_again e k q }

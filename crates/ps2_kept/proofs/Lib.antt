@@ -4,3 +4,4 @@ pub mod Thrown
 pub mod Made
 pub mod Contracts
 pub mod Sequence
+pub mod Then

@@ -14,16 +14,15 @@ use Rattle.ps2_answers.specs.Refusals.{refused}
 use Rattle.ps2_answers.specs.declared.Refusal.{Refusal}
 use Rattle.ps2_answers.specs.declared.Refusal.TheVariants.{Lacking, Failed}
 use Rattle.ps2_kept.specs.declared.KeptBytes.{KeptBytes}
-use Rattle.ps2_kept.specs.Kept.{kept_at, kept_at_refusal}
+use Rattle.ps2_kept.specs.Kept.{kept_at}
 use Rattle.ps2_kept.specs.Added.{added_thrown, keeping_onto}
 use Rattle.ps2_kept.specs.Promises.{ReadsKept, PlaysKept}
-use Rattle.ps2_kept.proofs.Contracts.{kept_refused}
 
 -- ---- both keep
 
 module _ {A B : Type 0} (t : Exchange A) (g : A → Exchange B) (k : KeptBytes) (s l : List ℕ) where
   -- what follows the first and its bytes
-  abbrev then : Kept KeptBytes A → Exchange (Kept KeptBytes B)
+  abbrev pub then : Kept KeptBytes A → Exchange (Kept KeptBytes B)
   then x = keeping_onto x.bytes (g x.value)
 
   pub onto_then : {e : End A} {u w : ℕ} {l' : List ℕ} {k₂ : KeptBytes} → PlaysKept (keeping_onto k t) s l e u w l' k₂ → {a : A} → e ≡ yields a
@@ -36,27 +35,15 @@ module _ {A B : Type 0} (t : Exchange A) (g : A → Exchange B) (k : KeptBytes) 
       }
 
 module _ {A B : Type 0} (t : Exchange (Answer A)) (g : A → Exchange (Answer B)) (k : KeptBytes) (s l : List ℕ) where
-  refused_plays : {u w : ℕ} {l' : List ℕ} (k₂ : KeptBytes) (x : Refusal) → played (kept_end (refused x) k₂) u w l' ≡ play (keeping_onto k t) s l
+  pub refused_plays : {u w : ℕ} {l' : List ℕ} (k₂ : KeptBytes) (x : Refusal) → played (kept_end (refused x) k₂) u w l' ≡ play (keeping_onto k t) s l
       → played (kept_end (refused x) k₂) u w l' ≡ play (bind (keeping_onto k t) (then t (on_given g) k s l)) s l
   refused_plays k₂ (Lacking x) r = bind_lacks (keeping_onto k t) (then t (on_given g) k s l) s l r refl
   refused_plays k₂ (Failed f) r = bind_done (keeping_onto k t) (then t (on_given g) k s l) s l r refl (keeping-done added_thrown k₂ (refuses _))
 
-  refused_ended : (k₂ : KeptBytes) (x : Refusal) → k₂ ≡ kept_at (refused {A = A} x) k₂ → k₂ ≡ kept_at (refused {A = B} x) k₂
-  refused_ended k₂ (Lacking x) h = h
-  refused_ended k₂ (Failed f) h = h
-
-  pub onto_refused : {e : End (Answer A)} {u w : ℕ} {l' : List ℕ} {k₂ : KeptBytes} → PlaysKept (keeping_onto k t) s l e u w l' k₂ → (x : Refusal) → e ≡ refused x
-      → PlaysKept (keeping_onto k (bind t (on_given g))) s l (refused x) u w l' k₂
-  onto_refused {k₂ = k₂} r x q =
-      record {
-        plays = rw (keeping-bind added_thrown (on_given g) k t) (refused_plays k₂ x (rw q at r.plays));
-        ended = refused_ended k₂ x (rw q at r.ended);
-      }
-
 -- ---- the first reads no data, so it keeps nothing: a sending, a write
 
 module _ {A B : Type 0} (t : Exchange (Answer A)) (g : A → Exchange (Answer B)) (n : NoData t) (k : KeptBytes) (s l : List ℕ) where
-  abbrev next : Answer A → Exchange (Kept KeptBytes (Answer B))
+  abbrev pub next : Answer A → Exchange (Kept KeptBytes (Answer B))
   next a = keeping_onto k (on_given g a)
 
   module _ {e : End (Answer A)} {u w : ℕ} {l' : List ℕ} (r : played e u w l' ≡ play t s l) where
@@ -66,12 +53,9 @@ module _ {A B : Type 0} (t : Exchange (Answer A)) (g : A → Exchange (Answer B)
     no_data_then_reads q x =
         record { plays = rw (keeping_after added_thrown k (on_given g) n) (bind_yields_reads t next s l r q x.reads); ended = x.ended }
 
-    not_sent : (x : Refusal) → e ≡ refused x → played (kept_end (refused x) (kept_at_refusal x k)) u w l' ≡ play (bind t next) s l
+    pub not_sent : (x : Refusal) → e ≡ refused x → played (kept_end (refused x) k) u w l' ≡ play (bind t next) s l
     not_sent (Lacking x) q = bind_lacks t next s l r q
     not_sent (Failed f) q = bind_done t next s l r q (keeping-done added_thrown k (refuses _))
-
-    pub no_data_refused : (x : Refusal) → e ≡ refused x → PlaysKept (keeping_onto k (bind t (on_given g))) s l (refused x) u w l' (kept_at_refusal x k)
-    no_data_refused x q = record { plays = rw (keeping_after added_thrown k (on_given g) n) (not_sent x q); ended = kept_refused _ x k }
 
   -- it only writes, and the second has the whole script
   pub writes_then_keeps : {e : End (Answer A)} {u w : ℕ} {l' : List ℕ} → Writes t l e u w l' → {a : A} → e ≡ yields (gives a)

@@ -3,8 +3,6 @@
 use Rattle.std.specs.Prelude.{ℕ, ◌-◌, List, [], ◌++◌, length, take, replicate}
 use Rattle.exchange.specs.Exchange.{Exchange, done, bind, End, yields, lacks}
 use Rattle.exchange.specs.Keeping.{Kept, keeping, retold}
-use Rattle.ps2_answers.specs.declared.Refusal.{Refusal}
-use Rattle.ps2_answers.specs.declared.Refusal.TheVariants.{Lacking, Failed}
 use Rattle.ps2_kept.specs.declared.KeptBytes.{KeptBytes}
 use Rattle.ps2_kept.specs.Thrown.{thrown}
 
@@ -26,8 +24,3 @@ keeping_thrown t = bind (keeping thrown [] t) (λ k. done (retold kept_of k))
 abbrev pub kept_at : {A : Type 0} → End A → KeptBytes → KeptBytes
 kept_at (yields a) k = k
 kept_at (lacks x) k = nothing_kept
-
--- The same with a refusal.
-abbrev pub kept_at_refusal : Refusal → KeptBytes → KeptBytes
-kept_at_refusal (Lacking l) k = nothing_kept
-kept_at_refusal (Failed f) k = k

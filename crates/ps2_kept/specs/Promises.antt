@@ -1,8 +1,12 @@
 -- What the code's functions promise that hand back bytes beside their answer and counts.
 -- Assumes nothing.
-use Rattle.std.specs.Prelude.{ℕ, List, ◌≡◌}
-use Rattle.exchange.specs.Exchange.{Exchange, End, Reads, played, play}
+use Rattle.std.specs.Prelude.{ℕ, List, ◌≡◌, Result}
+use Rattle.exchange.specs.Answer.{Answer}
+use Rattle.exchange.specs.Exchange.{Exchange, End, Reads, Played, played, play}
 use Rattle.exchange.specs.Keeping.{Kept, kept_end}
+use Rattle.ps2_answers.specs.Answers.{ended, used_of, pairs_of}
+use Rattle.ps2_answers.specs.declared.Counted.{Counted}
+use Rattle.ps2_answers.specs.declared.Refusal.{Refusal}
 use Rattle.ps2_kept.specs.declared.KeptBytes.{KeptBytes}
 use Rattle.ps2_kept.specs.Kept.{kept_at}
 
@@ -15,3 +19,7 @@ pub record ReadsKept {A : Type 0} (t : Exchange (Kept KeptBytes A)) (script : Li
 pub record PlaysKept {A : Type 0} (t : Exchange (Kept KeptBytes A)) (script log : List ℕ) (e : End A) (used pairs : ℕ) (log_left : List ℕ) (k : KeptBytes) : Type 0 where
   pub plays : played (kept_end e k) used pairs log_left ≡ play t script log
   pub ended : k ≡ kept_at e k
+
+-- The play that an answer tells, with the bytes that are kept and the log as they are left.
+abbrev pub told_kept : {T : Type 0} → Result (Counted T) (Counted Refusal) → KeptBytes → List ℕ → Played (Kept KeptBytes (Answer T))
+told_kept r k log = played (kept_end (ended r) k) (used_of r) (pairs_of r) log

@@ -2,18 +2,17 @@
 #![tactic(auto)]
 
 ghost use Rattle.std.specs.Prelude.{◌≡◌};
-ghost use Rattle.ps2_kept.specs.Kept.{nothing_kept, kept_at_refusal};
+ghost use Rattle.ps2_answers.specs.Answers.{ended};
+ghost use Rattle.ps2_kept.specs.Kept.{nothing_kept, kept_at};
 ghost use Rattle.ps2_kept.specs.Added.{added};
 
-use ps2_answers::Refusal;
+use ps2_answers::{Answer, Refusal};
 
 // The bytes that are kept; any further ones are only counted.
 pub const KEPT_LIMIT: usize = 16;
 
-// The greatest number that the count of the others can be.
-const OTHERS_LIMIT: u32 = 4294967295;
-
 // Bytes that were thrown away: the earliest, in order, in the first `count` places, and how many others there were.
+// Kept as places with a count: document 02 hands back the earliest 16 bytes, in memory of a fixed size.
 #[derive(Clone, Copy)]
 pub struct KeptBytes {
     pub bytes: [u8; KEPT_LIMIT],
@@ -32,38 +31,31 @@ pub fn none_kept() -> KeptBytes
     }
 }
 
-// One byte more: in the first free place, or counted. The count stops at its greatest number, which no operation of the ports reaches.
-pub fn add_byte(kept: KeptBytes, byte: u8) -> KeptBytes
-    ensures { result ≡ added kept byte }
-{
-    let mut bytes = kept.bytes;
-    let count = kept.count;
-    let others = kept.others;
-    let place = count as usize;
-    if place < KEPT_LIMIT {
-        bytes[place] = byte;
-        return KeptBytes {
-            bytes,
-            count: count + 1,
-            others,
-        };
+impl KeptBytes {
+    // One byte more: in the first free place, or counted. The count stops at its greatest number, which no operation of the ports reaches.
+    #[tactic(auto, unfolding(crate::specs::Added::added))]
+    pub fn add(&mut self, byte: u8)
+        ensures { self.new ≡ added self.old byte }
+    {
+        let place = usize::from(self.count);
+        if place < KEPT_LIMIT {
+            self.bytes[place] = byte;
+            self.count += 1;
+        } else if self.others < u32::MAX {
+            self.others += 1;
+        }
     }
-    if others < OTHERS_LIMIT {
-        return KeptBytes {
-            bytes,
-            count,
-            others: others + 1,
-        };
-    }
-    kept
-}
 
-// What is handed back with a refusal: nothing where the script was used up or the log full.
-pub fn kept_at(e: Refusal, kept: KeptBytes) -> KeptBytes
-    ensures { result ≡ kept_at_refusal e kept }
-{
-    match e {
-        Refusal::Lacking(_) => none_kept(),
-        Refusal::Failed(_) => kept,
+    // What is handed back beside an answer: nothing where the script was used up or the log full.
+    pub fn after<T: Copy>(self, answer: Answer<T>) -> KeptBytes
+        ensures { result ≡ kept_at (ended answer) self }
+    {
+        match answer {
+            Ok(_) => self,
+            Err(refused) => match refused.value {
+                Refusal::Lacking(_) => none_kept(),
+                Refusal::Failed(_) => self,
+            },
+        }
     }
 }

@@ -1,4 +1,3 @@
 -- The keyboard's operations.
 pub mod Keyboard
 pub mod Parts
-pub mod Answers

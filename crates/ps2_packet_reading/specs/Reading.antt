@@ -1,7 +1,7 @@
--- The reading of a mouse's packet as a tree of its reads, and what the code's answers say of its end.
+-- The reading of a mouse's packet as a tree of its reads.
 -- Assumes nothing.
 use Rattle.std.specs.Prelude.{ℕ}
-use Rattle.exchange.specs.Exchange.{p60, Exchange, done, read, End, yields}
+use Rattle.exchange.specs.Exchange.{p60, Exchange, done, read}
 use Rattle.exchange.specs.Answer.{Answer, gives, and_then}
 use Rattle.ps2_bytes.specs.declared.response.MouseId.{MouseId}
 use Rattle.ps2_bytes.specs.declared.response.MouseId.TheVariants.{Zero, Three, Four}
@@ -9,12 +9,8 @@ use Rattle.ps2_packet.specs.declared.MousePacket.{MousePacket}
 use Rattle.ps2_packet.specs.declared.MousePacket.TheVariants as Packet
 use Rattle.ps2_packet.specs.declared.SignedPacket.{SignedPacket}
 use Rattle.ps2_packet.specs.Packet.{generic, packet3, packet4, signed_packet}
-use Rattle.ps2_answers.specs.Refusals.{refused}
 use Rattle.ps2_packet_reading.specs.declared.FirstBytes.{FirstBytes}
 use Rattle.ps2_packet_reading.specs.declared.FourByteId.{FourByteId}
-use Rattle.ps2_packet_reading.specs.declared.BytesAnswer.{BytesAnswer}
-use Rattle.ps2_packet_reading.specs.declared.PacketAnswer.{PacketAnswer}
-use Rattle.ps2_packet_reading.specs.declared.SignedAnswer.{SignedAnswer}
 
 -- Three bytes of data, in the order in which they come.
 abbrev pub three_bytes : {A : Type 0} → (ℕ → ℕ → ℕ → Exchange A) → Exchange A
@@ -49,17 +45,3 @@ abbrev pub after_three : MouseId → FirstBytes → Exchange (Answer MousePacket
 after_three Zero b = done (gives (Packet.Zero (generic b.byte1 b.byte2 b.byte3)))
 after_three Three b = fourth_byte FourByteId.Three b
 after_three Four b = fourth_byte FourByteId.Four b
-
--- ---- answers
-
-abbrev pub said_bytes : BytesAnswer → End (Answer FirstBytes)
-said_bytes (BytesAnswer.Bytes b) = yields (gives b)
-said_bytes (BytesAnswer.Refused r) = refused r
-
-abbrev pub said_packet : PacketAnswer → End (Answer MousePacket)
-said_packet (PacketAnswer.Packet p) = yields (gives p)
-said_packet (PacketAnswer.Refused r) = refused r
-
-abbrev pub said_signed : SignedAnswer → End (Answer SignedPacket)
-said_signed (SignedAnswer.Packet p) = yields (gives p)
-said_signed (SignedAnswer.Refused r) = refused r

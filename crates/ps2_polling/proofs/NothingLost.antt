@@ -1,5 +1,7 @@
 -- A receiving loses no data byte: each that it read is the response, or is among the bytes that it threw away.
 -- Assumes nothing.
+use Rattle.std.specs.Prelude.{Result, Ok, Err}
+use Rattle.ps2_bytes.specs.declared.Unlisted.{Unlisted}
 use Prim.Native.Nat.{ℕ, zero, suc}
 use native.Mathlib.Omega.{arith}
 use mathlib.Core.Bool.{Bool, true, false, cond}
@@ -12,7 +14,6 @@ use Rattle.exchange.specs.Answer.{Answer, gives, refuses}
 use Rattle.exchange.specs.Repeat.{again, turned, repeat}
 use Rattle.exchange.specs.Trace.{Access, brought, Makes, nothing, by_read}
 use Rattle.ps2_bytes.specs.declared.response.DeviceToHostResponse.{DeviceToHostResponse}
-use Rattle.ps2_bytes.specs.declared.response.ResponseByte.{ResponseByte}
 use Rattle.ps2_bytes.specs.Responses.{responses, response_read}
 use Rattle.ps2_layouts.specs.Status.{output_buffer_full}
 use Rattle.ps2_kept.specs.Thrown.{unlisted}
@@ -49,14 +50,14 @@ module _ (a : Answers) where
   Loses t = (made : List Access) (rest : Exchange Answers) → Makes t made rest → rest ≡ done a → NothingLost made a
 
   -- the byte that a poll brought
-  on_byte : (n b : ℕ) (y : ResponseByte) → response_read b ≡ y → Loses (polls n)
+  on_byte : (n b : ℕ) (y : Result DeviceToHostResponse Unlisted) → response_read b ≡ y → Loses (polls n)
       → (made : List Access) (rest : Exchange Answers) → Makes (turned (heard y) (polls n)) made rest → rest ≡ done a → NothingLost (brought p60 b ∷ made) a
-  on_byte n b (ResponseByte.Listed r) p further made rest m q =
+  on_byte n b (Ok r) p further made rest m q =
       let e = ended (gives r) a m q in
-      let u : unlisted b ≡ false = decode_map is_unlisted ResponseByte.Listed ResponseByte.Unlisted responses b ∙ ap is_unlisted p in
+      let u : unlisted b ≡ false = decode_map is_unlisted Ok (Err (record { 0 = b })) responses b ∙ ap is_unlisted p in
       rw (← e.1, e.0) (record { last = b ∷ []; answered = by_response p; all = rw u })
-  on_byte n b ResponseByte.Unlisted p further made rest m q =
-      one_more b made a (decode_map is_unlisted ResponseByte.Listed ResponseByte.Unlisted responses b ∙ ap is_unlisted p) (further made rest m q)
+  on_byte n b (Err e) p further made rest m q =
+      one_more b made a (decode_map is_unlisted Ok (Err (record { 0 = b })) responses b ∙ ap is_unlisted p) (further made rest m q)
 
   -- what the status said
   on_status : (n : ℕ) (full : Bool) → Loses (polls n) → Loses (bind (cond full (data_turn response_turn) (done again)) (λ r. turned r (polls n)))

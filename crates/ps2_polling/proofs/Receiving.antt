@@ -1,18 +1,21 @@
 -- One poll of a receiving that keeps what it throws away, from what the code's one poll answers.
 -- Assumes nothing.
+use Rattle.std.specs.Prelude.{Result, Ok, Err}
+use Rattle.ps2_bytes.specs.declared.response.DeviceToHostResponse.{DeviceToHostResponse}
+use Rattle.ps2_bytes.specs.declared.Unlisted.{Unlisted}
 use Prim.Native.Nat.{ℕ}
 use mathlib.Core.Bool.{Bool, true, false, cond}
 use mathlib.Core.List.{List}
 use mathlib.Core.Path.{◌≡◌, refl, sym, ap, ◌∙◌, fun_ext}
 use Rattle.bits.specs.Bits.{bit}
 use Rattle.bits.proofs.Table.{decode_map}
+use Rattle.std.specs.Prelude.{Some, None}
 use Rattle.exchange.specs.Exchange.{p60, p64, done, read, write, bind, End, yields, told_end, Reads}
 use Rattle.exchange.specs.Answer.{Answer, gives, refuses}
 use Rattle.exchange.specs.Keeping.{Kept, kept, keeping, kept_end, NoData, no_data_done, no_data_read, no_data_write}
 use Rattle.exchange.specs.Repeat.{Turn, found, again, found_end}
 use Rattle.exchange.proofs.NoData.{no_data_repeat}
 use Rattle.exchange.proofs.Told.{bind_told}
-use Rattle.ps2_bytes.specs.declared.response.ResponseByte.{ResponseByte}
 use Rattle.ps2_bytes.specs.declared.writable.HostToDevice.{HostToDevice}
 use Rattle.ps2_bytes.specs.Responses.{responses, response_read}
 use Rattle.ps2_bytes.specs.Writable.{to_device}
@@ -21,10 +24,8 @@ use Rattle.ps2_answers.specs.Refusals.{success, refused}
 use Rattle.ps2_answers.specs.declared.Refusal.{Refusal}
 use Rattle.ps2_answers.specs.declared.Refusal.TheVariants.{Lacking, Failed}
 use Rattle.ps2_kept.specs.declared.KeptBytes.{KeptBytes}
-use Rattle.ps2_kept.specs.Kept.{kept_at_refusal}
 use Rattle.ps2_kept.specs.Added.{added, added_thrown, keeping_onto}
-use Rattle.ps2_polling.specs.Polling.{send_tries, send_try, polling_send, data_turn, poll, poll_data, response_turn, said_polled}
-use Rattle.ps2_polling.specs.declared.Polled.{Polled}
+use Rattle.ps2_polling.specs.Polling.{send_tries, send_try, polling_send, data_turn, poll, poll_data, response_turn, polled}
 use Rattle.ps2_polling.proofs.Polls.{heard, response_turn_lem}
 
 -- ---- a poll with its note, by what the poll by itself brings
@@ -51,37 +52,32 @@ module _ {S A : Type 0} (note : S → ℕ → S) (worth : ℕ → Turn (Answer A
 
 -- ---- a byte that is a response, and one that is thrown away
 
-abbrev pub is_unlisted : ResponseByte → Bool
-is_unlisted (ResponseByte.Listed r) = false
-is_unlisted ResponseByte.Unlisted = true
+abbrev pub is_unlisted : Result DeviceToHostResponse Unlisted → Bool
+is_unlisted (Ok r) = false
+is_unlisted (Err e) = true
 
 module _ (k : KeptBytes) (script : List ℕ) where
-  abbrev pub kept_heard : ℕ → ResponseByte → KeptBytes
+  abbrev pub kept_heard : ℕ → Result DeviceToHostResponse Unlisted → KeptBytes
   kept_heard b y = cond (is_unlisted y) (added k b) k
 
-  noted_heard : (b : ℕ) {x y : ResponseByte} → x ≡ response_read b → x ≡ y → added_thrown k b ≡ kept_heard b y
+  noted_heard : (b : ℕ) {x y : Result DeviceToHostResponse Unlisted} → x ≡ response_read b → x ≡ y → added_thrown k b ≡ kept_heard b y
   noted_heard b p q =
-      ap (λ t. cond t (added k b) k) (decode_map is_unlisted ResponseByte.Listed ResponseByte.Unlisted responses b ∙ ap is_unlisted (sym p ∙ q))
+      ap (λ t. cond t (added k b) k) (decode_map is_unlisted Ok (Err (record { 0 = b })) responses b ∙ ap is_unlisted (sym p ∙ q))
 
   -- the poll brought a byte
-  pub poll_heard : {a : Polled} (b : ℕ) → a ≡ Polled.Data b → {x y : ResponseByte} → x ≡ response_read b → x ≡ y → {u w : ℕ}
-      → Reads poll_data script (said_polled a) u w → Reads (keeping_onto k (poll response_turn)) script (kept_end (yields (heard y)) (kept_heard b y)) u 0
-  poll_heard b i p q r = rw (noted_heard b p q, response_turn_lem b p q) at (kept_poll added_thrown response_turn k script (rw i at r))
+  pub poll_heard : (b : ℕ) {x y : Result DeviceToHostResponse Unlisted} → x ≡ response_read b → x ≡ y → {u w : ℕ}
+      → Reads poll_data script (yields (polled (Some b))) u w → Reads (keeping_onto k (poll response_turn)) script (kept_end (yields (heard y)) (kept_heard b y)) u 0
+  poll_heard b p q r = rw (noted_heard b p q, response_turn_lem b p q) at (kept_poll added_thrown response_turn k script r)
 
   -- it brought none
-  pub poll_nothing : {a : Polled} → a ≡ Polled.Nothing → {u w : ℕ}
-      → Reads poll_data script (said_polled a) u w → Reads (keeping_onto k (poll response_turn)) script (kept_end (yields again) k) u 0
-  poll_nothing i r = kept_poll added_thrown response_turn k script (rw i at r)
+  pub poll_nothing : {u w : ℕ} → Reads poll_data script (yields (polled None)) u w → Reads (keeping_onto k (poll response_turn)) script (kept_end (yields again) k) u 0
+  poll_nothing r = kept_poll added_thrown response_turn k script r
 
   -- it ended for lack of a byte
-  refused_end : (x : Refusal) {u w : ℕ} → Reads poll_data script (found_end (refused x)) u w
-      → Reads (keeping_onto k (poll response_turn)) script (kept_end (found_end (refused x)) (kept_at_refusal x k)) u 0
-  refused_end (Lacking x) r = kept_poll added_thrown response_turn k script r
-  refused_end (Failed f) r = kept_poll added_thrown response_turn k script r
-
-  pub poll_refused : {a : Polled} (x : Refusal) → a ≡ Polled.Refused x → {u w : ℕ}
-      → Reads poll_data script (said_polled a) u w → Reads (keeping_onto k (poll response_turn)) script (kept_end (found_end (refused x)) (kept_at_refusal x k)) u 0
-  poll_refused x i r = refused_end x (rw i at r)
+  pub poll_refused : (x : Refusal) {u w : ℕ} → Reads poll_data script (found_end (refused x)) u w
+      → Reads (keeping_onto k (poll response_turn)) script (kept_end (found_end (refused x)) k) u 0
+  poll_refused (Lacking x) r = kept_poll added_thrown response_turn k script r
+  poll_refused (Failed f) r = kept_poll added_thrown response_turn k script r
 
 -- ---- a sending reads the status alone
 

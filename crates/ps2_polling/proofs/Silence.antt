@@ -1,5 +1,8 @@
 -- No 4, 5, 8 or 9 before the script held the full number of status bytes, polls or data bytes, all of them in vain.
 -- Assumes nothing.
+use Rattle.std.specs.Prelude.{Result, Ok, Err}
+use Rattle.ps2_bytes.specs.declared.response.DeviceToHostResponse.{DeviceToHostResponse}
+use Rattle.ps2_bytes.specs.declared.Unlisted.{Unlisted}
 use mathlib.Core.Bool.{Bool, true, false, cond}
 use Prim.Native.Nat.{ℕ, zero, suc, ◌<◌}
 use native.Mathlib.Omega.{arith}
@@ -24,7 +27,6 @@ use Rattle.ps2_bytes.specs.Writable.{to_device}
 use Rattle.ps2_bytes.specs.declared.command.HostToControllerCommand.{HostToControllerCommand}
 use Rattle.ps2_bytes.specs.declared.command.HostToControllerCommand.TheVariants.{TestController}
 use Rattle.ps2_bytes.specs.declared.response.PortTestResult.TheVariants.{Passed}
-use Rattle.ps2_bytes.specs.declared.response.ResponseByte.{ResponseByte}
 use Rattle.ps2_bytes.specs.declared.writable.HostToDevice.{HostToDevice}
 use Rattle.ps2_answers.specs.Refusals.{success}
 use Rattle.ps2_ports.specs.Ports.{write_port, write_command}
@@ -137,13 +139,13 @@ module _ {A : Type 0} (worth : ℕ → Turn (Answer A)) (number : ℕ) (never : 
       → SilentPolls P n s
   refused_polls P each n s l q = silent_polls worth P each n s l (silence (poll worth) (refuses number) (λ s l h. only_play poll_only s l _ h refl) n s l q)
 
-heard_never : (x : ResponseByte) → heard x ≡ found (refuses 5) → ⊥
-heard_never (ResponseByte.Listed r) q = gives_refuses q
-heard_never ResponseByte.Unlisted q = again_refuses q
+heard_never : (x : Result DeviceToHostResponse Unlisted) → heard x ≡ found (refuses 5) → ⊥
+heard_never (Ok r) q = gives_refuses q
+heard_never (Err e) q = again_refuses q
 
 unlisted : (b : ℕ) → response_turn b ≡ again → NoResponse b
 unlisted b q r e =
-    let z : response_turn (response_byte r) ≡ heard (ResponseByte.Listed r) = response_turn_lem (response_byte r) refl (response_read_back r) in
+    let z : response_turn (response_byte r) ≡ heard (Ok r) = response_turn_lem (response_byte r) refl (response_read_back r) in
     found_again (sym z ∙ ap response_turn (sym e) ∙ q)
 
 -- 5 only after 65,535 polls that brought no response

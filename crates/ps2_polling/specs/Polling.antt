@@ -1,11 +1,11 @@
 -- Polling: sending a byte to a device, receiving a response, and the controller's tests, as operations on the ports.
 -- Assumes nothing.
-use Rattle.std.specs.Prelude.{cond, ℕ, eqb}
+use Rattle.std.specs.Prelude.{cond, ℕ, eqb, Option, Some, None}
 use Rattle.bits.specs.Bits.{bit}
 use Rattle.bits.specs.Table.{decode}
-use Rattle.exchange.specs.Exchange.{p60, p64, Exchange, done, read, write, End, yields}
+use Rattle.exchange.specs.Exchange.{p60, p64, Exchange, done, read, write}
 use Rattle.exchange.specs.Answer.{Answer, gives, refuses, and_then}
-use Rattle.exchange.specs.Repeat.{Turn, found, again, found_end, repeat}
+use Rattle.exchange.specs.Repeat.{Turn, found, again, repeat}
 use Rattle.ps2_bytes.specs.declared.command.HostToControllerCommand.TheVariants.{TestController}
 use Rattle.ps2_bytes.specs.declared.command.HostToControllerCommand.{HostToControllerCommand}
 use Rattle.ps2_bytes.specs.declared.response.DeviceToHostResponse.{DeviceToHostResponse}
@@ -14,11 +14,9 @@ use Rattle.ps2_bytes.specs.declared.writable.HostToDevice.{HostToDevice}
 use Rattle.ps2_bytes.specs.Responses.{responses, port_test_result_byte}
 use Rattle.ps2_layouts.specs.Status.{output_buffer_full, input_buffer_full}
 use Rattle.ps2_bytes.specs.Writable.{to_device}
-use Rattle.ps2_answers.specs.Refusals.{Success, success, refused}
+use Rattle.ps2_answers.specs.Refusals.{Success, success}
 use Rattle.ps2_ports.specs.Ports.{write_command}
-use Rattle.ps2_polling.specs.declared.Polled.{Polled}
 use Rattle.ps2_polling.specs.declared.Waiting.{Waiting}
-use Rattle.ps2_polling.specs.declared.ResponseAnswer.{ResponseAnswer}
 
 -- Document 01's limits: 255 status reads of a sending; 65,535 polls of a receiving, and data reads of the controller's test.
 abbrev pub send_tries : ℕ
@@ -82,12 +80,7 @@ port_test_result = repeat poll_limit (refuses 9) (poll (passed_turn (port_test_r
 unfoldable pub test_port : HostToControllerCommand → Exchange (Answer Success)
 test_port command = and_then (write_command command) (λ _. port_test_result)
 
--- What the answer of one poll says of its end, and what the answer of a receiving does.
-abbrev pub said_polled : Polled → End (Turn (Answer ℕ))
-said_polled (Polled.Data b) = yields (found (gives b))
-said_polled Polled.Nothing = yields again
-said_polled (Polled.Refused r) = found_end (refused r)
-
-abbrev pub said_response : ResponseAnswer → End (Answer DeviceToHostResponse)
-said_response (ResponseAnswer.Response r) = yields (gives r)
-said_response (ResponseAnswer.Refused r) = refused r
+-- What one poll is worth by itself: the byte that it brought ends it.
+abbrev pub polled : Option ℕ → Turn (Answer ℕ)
+polled None = again
+polled (Some b) = found (gives b)

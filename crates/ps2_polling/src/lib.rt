@@ -2,22 +2,22 @@
 #![tactic(auto)]
 
 ghost use Rattle.std.specs.Prelude.{◌≡◌};
-ghost use Rattle.exchange.specs.Exchange.{play, played, Reads};
+ghost use Rattle.exchange.specs.Exchange.{play, Reads};
 ghost use Rattle.exchange.specs.Answer.{gives, refuses, and_then};
+ghost use Rattle.exchange.specs.Keeping.{kept_end};
 ghost use Rattle.exchange.specs.Repeat.{found, repeat};
 ghost use Rattle.ps2_bytes.specs.declared.command.HostToControllerCommand.TheVariants.{TestPort1, TestPort2};
-ghost use Rattle.ps2_answers.specs.Refusals.{number_of, said_done};
+ghost use Rattle.ps2_answers.specs.Refusals.{number_of};
+ghost use Rattle.ps2_answers.specs.Answers.{ended, turn_end, used_of, pairs_of, told};
 ghost use Rattle.ps2_kept.specs.Kept.{keeping_thrown};
 ghost use Rattle.ps2_kept.specs.Added.{keeping_onto};
-ghost use Rattle.ps2_kept.specs.Promises.{ReadsKept, PlaysKept};
+ghost use Rattle.ps2_kept.specs.Promises.{ReadsKept, PlaysKept, told_kept};
 ghost use Rattle.ps2_ports.specs.Ports.{write_command};
-ghost use Rattle.ps2_polling.specs.Polling.{poll_limit, polling_send, poll_data, turn_of, passed_turn, polling_receive, polling_send_receive, controller_test_result, test_controller, port_test_result, test_port, said_polled, said_response};
+ghost use Rattle.ps2_polling.specs.Polling.{poll_limit, polling_send, poll_data, turn_of, passed_turn, polling_receive, polling_send_receive, controller_test_result, test_controller, port_test_result, test_port, polled};
 
-use ps2_answers::{ByteAnswer, Completed, Completion, Failure, Refusal, StatusAnswer};
-use ps2_bytes::{
-    DeviceToHostResponse, HostToControllerCommand, HostToDevice, ResponseByte, WritableData,
-};
-use ps2_kept::{KeptBytes, add_byte, kept_at, none_kept};
+use ps2_answers::{Answer, Counted, Failure, Refusal};
+use ps2_bytes::{DeviceToHostResponse, HostToControllerCommand, HostToDevice, WritableData};
+use ps2_kept::{KeptBytes, none_kept};
 use ps2_ports::{read_data, status_register, write_command, write_data};
 
 // The most status reads of a sending.
@@ -32,47 +32,28 @@ const PORT_TEST_PASSED: u8 = 0x00;
 // The controller's answer to its test where it passed.
 const CONTROLLER_TEST_PASSED: u8 = 0x55;
 
-// What one poll brought.
-#[derive(Clone, Copy)]
-pub enum Polled {
-    Data(u8),
-    Nothing,
-    Refused(Refusal),
-}
-
-#[derive(Clone, Copy)]
-pub struct Poll {
-    pub answer: Polled,
-    pub used: usize,
-    pub pairs: usize,
-}
+// What one poll answers: the byte that it brought, or that there was none.
+pub type Polled = Answer<Option<u8>>;
 
 // How a byte is waited for: by polls, or by data reads that do not ask the status.
-#[derive(Clone, Copy)]
+// Kept as an enum: with a closure the contract has to speak of every step that it may be, and the proof left six goals open.
+#[derive(Clone, Copy, PartialEq, Eq)]
 pub enum Waiting {
     Polls,
     DataReads,
 }
 
-// What a device answered.
-#[derive(Clone, Copy)]
-pub enum ResponseAnswer {
-    Response(DeviceToHostResponse),
-    Refused(Refusal),
-}
-
-// The response, with the bytes that were thrown away before it.
+// A device's response, with the bytes that were thrown away before it.
 #[derive(Clone, Copy)]
 pub struct Received {
-    pub answer: ResponseAnswer,
-    pub used: usize,
-    pub pairs: usize,
+    pub answer: Answer<DeviceToHostResponse>,
     pub kept: KeptBytes,
 }
 
 // Has the controller test itself.
-pub fn test(script: &[u8], log: &mut [u8]) -> Completed
-    ensures { played (said_done result.answer) result.used result.pairs log.new ≡ play test_controller script.now log.old }
+// Kept as two slices here and below: document 01 has each call take a script and a log.
+pub fn test(script: &[u8], log: &mut [u8]) -> Answer<()>
+    ensures { told result log.new ≡ play test_controller script.now log.old }
 {
     run_test(
         script,
@@ -85,22 +66,22 @@ pub fn test(script: &[u8], log: &mut [u8]) -> Completed
 }
 
 // Has the controller test the keyboard's port.
-pub fn test_port1(script: &[u8], log: &mut [u8]) -> Completed
-    ensures { played (said_done result.answer) result.used result.pairs log.new ≡ play (test_port TestPort1) script.now log.old }
+pub fn test_port1(script: &[u8], log: &mut [u8]) -> Answer<()>
+    ensures { told result log.new ≡ play (test_port TestPort1) script.now log.old }
 {
     test_port(script, log, HostToControllerCommand::TestPort1)
 }
 
 // Has the controller test the mouse's port.
-pub fn test_port2(script: &[u8], log: &mut [u8]) -> Completed
-    ensures { played (said_done result.answer) result.used result.pairs log.new ≡ play (test_port TestPort2) script.now log.old }
+pub fn test_port2(script: &[u8], log: &mut [u8]) -> Answer<()>
+    ensures { told result log.new ≡ play (test_port TestPort2) script.now log.old }
 {
     test_port(script, log, HostToControllerCommand::TestPort2)
 }
 
 // The two port tests differ in their command alone.
-fn test_port(script: &[u8], log: &mut [u8], command: HostToControllerCommand) -> Completed
-    ensures { played (said_done result.answer) result.used result.pairs log.new ≡ play (test_port command) script.now log.old }
+fn test_port(script: &[u8], log: &mut [u8], command: HostToControllerCommand) -> Answer<()>
+    ensures { told result log.new ≡ play (test_port command) script.now log.old }
 {
     run_test(
         script,
@@ -120,33 +101,17 @@ fn run_test(
     waiting: Waiting,
     passed: u8,
     failure: Failure,
-) -> Completed
-    ensures { played (said_done result.answer) result.used result.pairs log.new ≡ play (and_then (write_command command) (λ _. repeat poll_limit (refuses (number_of failure)) (turn_of waiting (passed_turn passed)))) script.now log.old }
+) -> Answer<()>
+    ensures { told result log.new ≡ play (and_then (write_command command) (λ _. repeat poll_limit (refuses (number_of failure)) (turn_of waiting (passed_turn passed)))) script.now log.old }
 {
-    let w = write_command(log, command);
-    let pairs = w.pairs;
-    let written = w.answer;
-    match written {
-        Completion::Done => {
-            let r = read_test_result(script, waiting, passed, POLL_LIMIT, failure);
-            let answer = r.answer;
-            Completed {
-                answer,
-                used: r.used,
-                pairs,
-            }
-        }
-        Completion::Refused(e) => Completed {
-            answer: Completion::Refused(e),
-            used: 0,
-            pairs,
-        },
-    }
+    let written = write_command(log, command)?;
+    written.then(read_test_result(script, waiting, passed, POLL_LIMIT, failure))
 }
 
 // Polls until a port test's answer says that the port passed.
-pub fn match_port_test_result(script: &[u8]) -> Completed
-    ensures { Reads port_test_result script.now (said_done result.answer) result.used result.pairs }
+// Kept beside the next: both are the Rust's public names, a line each over the wait that they share.
+pub fn match_port_test_result(script: &[u8]) -> Answer<()>
+    ensures { Reads port_test_result script.now (ended result) (used_of result) (pairs_of result) }
 {
     read_test_result(
         script,
@@ -158,8 +123,8 @@ pub fn match_port_test_result(script: &[u8]) -> Completed
 }
 
 // Reads data, without asking the status, until the controller says that it passed its test.
-pub fn read_controller_test_result(script: &[u8]) -> Completed
-    ensures { Reads controller_test_result script.now (said_done result.answer) result.used result.pairs }
+pub fn read_controller_test_result(script: &[u8]) -> Answer<()>
+    ensures { Reads controller_test_result script.now (ended result) (used_of result) (pairs_of result) }
 {
     read_test_result(
         script,
@@ -171,228 +136,151 @@ pub fn read_controller_test_result(script: &[u8]) -> Completed
 }
 
 // Waits for the byte that says that a test was passed; any other uses up its turn.
+// Kept as `loop` here and below: document 01 asks for bounded loops that yield their answer by `break`.
 pub fn read_test_result(
     script: &[u8],
     waiting: Waiting,
     passed: u8,
     turns: u32,
     failure: Failure,
-) -> Completed
-    ensures { Reads (repeat turns (refuses (number_of failure)) (turn_of waiting (passed_turn passed))) script.now (said_done result.answer) result.used result.pairs }
+) -> Answer<()>
+    ensures { Reads (repeat turns (refuses (number_of failure)) (turn_of waiting (passed_turn passed))) script.now (ended result) (used_of result) (pairs_of result) }
 {
-    let mut used: usize = 0;
+    let mut at = Counted::new(None);
     let mut left = turns;
-    let answer = loop {
+    loop {
         if left == 0 {
-            break Completion::Refused(Refusal::Failed(failure));
+            break Err(at.with(Refusal::Failed(failure)));
         }
-        let t = take_turn(&script[used..], waiting);
-        used += t.used;
-        let taken = t.answer;
-        match taken {
-            Polled::Data(b) => {
-                if b == passed {
-                    break Completion::Done;
-                }
-            }
-            Polled::Nothing => {}
-            Polled::Refused(e) => {
-                break Completion::Refused(e);
+        at = at.then(take_turn(&script[at.used..], waiting))?;
+        if let Some(b) = at.value {
+            if b == passed {
+                break Ok(at.with(()));
             }
         }
         left -= 1;
-    };
-    Completed {
-        answer,
-        used,
-        pairs: 0,
     }
 }
 
 // One turn of a wait.
-fn take_turn(script: &[u8], waiting: Waiting) -> Poll
-    ensures { Reads (turn_of waiting (λ b. found (gives b))) script.now (said_polled result.answer) result.used result.pairs }
+fn take_turn(script: &[u8], waiting: Waiting) -> Polled
+    ensures { Reads (turn_of waiting (λ b. found (gives b))) script.now (turn_end polled result) (used_of result) (pairs_of result) }
 {
     match waiting {
         Waiting::Polls => poll_data(script),
         Waiting::DataReads => {
-            let d = read_data(script);
-            let used = d.used;
-            let read = d.answer;
-            match read {
-                ByteAnswer::Byte(b) => Poll {
-                    answer: Polled::Data(b),
-                    used,
-                    pairs: 0,
-                },
-                ByteAnswer::Refused(e) => Poll {
-                    answer: Polled::Refused(e),
-                    used,
-                    pairs: 0,
-                },
-            }
+            let data = read_data(script)?;
+            Ok(data.with(Some(data.value)))
         }
     }
 }
 
 // One attempt: sends a byte, then receives the response.
 pub fn polling_send_receive(script: &[u8], log: &mut [u8], value: HostToDevice) -> Received
-    ensures { PlaysKept (keeping_thrown (polling_send_receive value)) script.now log.old (said_response result.answer) result.used result.pairs log.new result.kept }
+    ensures { PlaysKept (keeping_thrown (polling_send_receive value)) script.now log.old (ended result.answer) (used_of result.answer) (pairs_of result.answer) log.new result.kept }
 {
     polling_send_receive_onto(script, log, value, none_kept())
 }
 
 // The same, with what is thrown away behind the bytes kept before.
+// Kept beside the shorter form, as the receiving's below: it promises another definition (`keeping_onto`), and the shorter is one line.
 pub fn polling_send_receive_onto(
     script: &[u8],
     log: &mut [u8],
     value: HostToDevice,
     before: KeptBytes,
 ) -> Received
-    ensures { PlaysKept (keeping_onto before (polling_send_receive value)) script.now log.old (said_response result.answer) result.used result.pairs log.new result.kept }
+    ensures { PlaysKept (keeping_onto before (polling_send_receive value)) script.now log.old (ended result.answer) (used_of result.answer) (pairs_of result.answer) log.new result.kept }
 {
-    let s = polling_send(script, log, value);
-    let used = s.used;
-    let pairs = s.pairs;
-    let sent = s.answer;
-    match sent {
-        Completion::Done => {
-            let r = polling_receive_onto(&script[used..], before);
-            let answer = r.answer;
-            let kept = r.kept;
-            Received {
-                answer,
-                used: used + r.used,
-                pairs,
-                kept,
-            }
-        }
-        Completion::Refused(e) => Received {
-            answer: ResponseAnswer::Refused(e),
-            used,
-            pairs,
-            kept: kept_at(e, before),
-        },
+    let mut kept = before;
+    let answer = polling_send_receive_keeping(script, log, value, &mut kept);
+    Received {
+        answer,
+        kept: kept.after(answer),
     }
 }
 
-// Writes a byte for a device as soon as the status says that the last one was taken.
-pub fn polling_send(script: &[u8], log: &mut [u8], value: HostToDevice) -> Completed
-    ensures { played (said_done result.answer) result.used result.pairs log.new ≡ play (polling_send value) script.now log.old }
+// The same, with what is thrown away added where the bytes kept before lie.
+pub fn polling_send_receive_keeping(
+    script: &[u8],
+    log: &mut [u8],
+    value: HostToDevice,
+    kept: &mut KeptBytes,
+) -> Answer<DeviceToHostResponse>
+    ensures { told_kept result kept.new log.new ≡ play (keeping_onto kept.old (polling_send_receive value)) script.now log.old }
 {
-    let mut used: usize = 0;
-    let mut pairs: usize = 0;
+    let sent = polling_send(script, log, value)?;
+    sent.then(polling_receive_keeping(&script[sent.used..], kept))
+}
+
+// Writes a byte for a device as soon as the status says that the last one was taken.
+pub fn polling_send(script: &[u8], log: &mut [u8], value: HostToDevice) -> Answer<()>
+    ensures { told result log.new ≡ play (polling_send value) script.now log.old }
+{
+    let mut at = Counted::new(());
     let mut tries = SEND_TRIES;
-    let answer = loop {
+    loop {
         if tries == 0 {
-            break Completion::Refused(Refusal::Failed(Failure::InputBufferFull));
+            break Err(at.with(Refusal::Failed(Failure::InputBufferFull)));
         }
-        let s = status_register(&script[used..]);
-        used += s.used;
-        let read = s.answer;
-        match read {
-            StatusAnswer::Status(status) => {
-                if !status.input_buffer_full() {
-                    let w = write_data(log, WritableData::HostToDevice(value));
-                    pairs = w.pairs;
-                    let written = w.answer;
-                    break written;
-                }
-            }
-            StatusAnswer::Refused(e) => {
-                break Completion::Refused(e);
-            }
+        let status = at.then(status_register(&script[at.used..]))?;
+        if !status.value.input_buffer_full() {
+            break status.then(write_data(log, WritableData::HostToDevice(value)));
         }
+        at = status.with(());
         tries -= 1;
-    };
-    Completed {
-        answer,
-        used,
-        pairs,
     }
 }
 
 // Polls until a device's response comes; an unlisted byte is thrown away and uses up its poll. The bytes that were are handed back.
 pub fn polling_receive(script: &[u8]) -> Received
-    ensures { ReadsKept (keeping_thrown polling_receive) script.now (said_response result.answer) result.used result.pairs result.kept }
+    ensures { ReadsKept (keeping_thrown polling_receive) script.now (ended result.answer) (used_of result.answer) (pairs_of result.answer) result.kept }
 {
     polling_receive_onto(script, none_kept())
 }
 
 // The same, with what is thrown away behind the bytes kept before.
 pub fn polling_receive_onto(script: &[u8], before: KeptBytes) -> Received
-    ensures { ReadsKept (keeping_onto before polling_receive) script.now (said_response result.answer) result.used result.pairs result.kept }
+    ensures { ReadsKept (keeping_onto before polling_receive) script.now (ended result.answer) (used_of result.answer) (pairs_of result.answer) result.kept }
 {
-    let mut used: usize = 0;
-    let mut polls = POLL_LIMIT;
     let mut kept = before;
-    let answer = loop {
-        if polls == 0 {
-            break ResponseAnswer::Refused(Refusal::Failed(Failure::NoResponse));
-        }
-        let p = poll_data(&script[used..]);
-        used += p.used;
-        let polled = p.answer;
-        match polled {
-            Polled::Data(b) => {
-                if let ResponseByte::Listed(response) = DeviceToHostResponse::from_byte(b) {
-                    break ResponseAnswer::Response(response);
-                }
-                kept = add_byte(kept, b);
-            }
-            Polled::Nothing => {}
-            Polled::Refused(e) => {
-                kept = kept_at(e, kept);
-                break ResponseAnswer::Refused(e);
-            }
-        }
-        polls -= 1;
-    };
+    let answer = polling_receive_keeping(script, &mut kept);
     Received {
         answer,
-        used,
-        pairs: 0,
-        kept,
+        kept: kept.after(answer),
+    }
+}
+
+// The same, with what is thrown away added where the bytes kept before lie.
+pub fn polling_receive_keeping(script: &[u8], kept: &mut KeptBytes) -> Answer<DeviceToHostResponse>
+    ensures { Reads (keeping_onto kept.old polling_receive) script.now (kept_end (ended result) kept.new) (used_of result) (pairs_of result) }
+{
+    let mut at = Counted::new(None);
+    let mut polls = POLL_LIMIT;
+    loop {
+        if polls == 0 {
+            break Err(at.with(Refusal::Failed(Failure::NoResponse)));
+        }
+        at = at.then(poll_data(&script[at.used..]))?;
+        if let Some(b) = at.value {
+            if let Ok(response) = DeviceToHostResponse::try_from(b) {
+                break Ok(at.with(response));
+            }
+            kept.add(b);
+        }
+        polls -= 1;
     }
 }
 
 // One poll: reads the status, and data where the status says that there is some.
-pub fn poll_data(script: &[u8]) -> Poll
-    ensures { Reads poll_data script.now (said_polled result.answer) result.used result.pairs }
+pub fn poll_data(script: &[u8]) -> Polled
+    ensures { Reads poll_data script.now (turn_end polled result) (used_of result) (pairs_of result) }
 {
-    let s = status_register(script);
-    let used = s.used;
-    let read = s.answer;
-    match read {
-        StatusAnswer::Status(status) => {
-            if status.output_buffer_full() {
-                let d = read_data(&script[used..]);
-                let both = used + d.used;
-                let byte = d.answer;
-                match byte {
-                    ByteAnswer::Byte(b) => Poll {
-                        answer: Polled::Data(b),
-                        used: both,
-                        pairs: 0,
-                    },
-                    ByteAnswer::Refused(e) => Poll {
-                        answer: Polled::Refused(e),
-                        used: both,
-                        pairs: 0,
-                    },
-                }
-            } else {
-                Poll {
-                    answer: Polled::Nothing,
-                    used,
-                    pairs: 0,
-                }
-            }
-        }
-        StatusAnswer::Refused(e) => Poll {
-            answer: Polled::Refused(e),
-            used,
-            pairs: 0,
-        },
+    let status = status_register(script)?;
+    if status.value.output_buffer_full() {
+        let data = status.then(read_data(&script[status.used..]))?;
+        Ok(data.with(Some(data.value)))
+    } else {
+        Ok(status.with(None))
     }
 }

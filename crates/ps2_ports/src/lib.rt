@@ -2,15 +2,12 @@
 #![tactic(auto)]
 
 ghost use Rattle.std.specs.Prelude.{◌≡◌};
-ghost use Rattle.exchange.specs.Exchange.{Port, number, play, played, Reads, Writes};
+ghost use Rattle.exchange.specs.Exchange.{Port, number, play, Reads, Writes};
 ghost use Rattle.ps2_ports.specs.Ports.{read_port, read_data, read_status, flush_output_buffer, write_port, write_command, write_data, read_config, write_config};
-ghost use Rattle.ps2_answers.specs.Answers.{said_byte, said_status, said_config};
-ghost use Rattle.ps2_answers.specs.Refusals.{port_of, said_done};
+ghost use Rattle.ps2_answers.specs.Answers.{ended, used_of, pairs_of, told};
+ghost use Rattle.ps2_answers.specs.Refusals.{port_of};
 
-use ps2_answers::{
-    ByteAnswer, ByteRead, Completed, Completion, ConfigAnswer, ConfigRead, Lack, ReadPort, Refusal,
-    StatusAnswer, StatusRead,
-};
+use ps2_answers::{Answer, Counted, Lack, ReadPort, Refusal};
 use ps2_bytes::{HostToControllerCommand, WritableData};
 use ps2_layouts::{ControllerConfigurationByte, ControllerToHostStatus};
 
@@ -21,170 +18,93 @@ pub const PS2_DATA_PORT: u8 = 0x60;
 pub const PS2_COMMAND_AND_STATUS_PORT: u8 = 0x64;
 
 // The ports of the two devices.
-#[derive(Clone, Copy)]
+#[derive(Clone, Copy, PartialEq, Eq)]
 pub enum DevicePort {
     Port1,
     Port2,
 }
 
 // A read of either port takes the next script byte.
-fn read_port(script: &[u8], port: ReadPort) -> ByteRead
-    ensures { Reads (read_port (port_of port)) script.now (said_byte result.answer) result.used result.pairs }
+fn read_port(script: &[u8], port: ReadPort) -> Answer<u8>
+    ensures { Reads (read_port (port_of port)) script.now (ended result) (used_of result) (pairs_of result) }
 {
     if script.len() == 0 {
-        return ByteRead {
-            answer: ByteAnswer::Refused(Refusal::Lacking(Lack::Script(port))),
-            used: 0,
-            pairs: 0,
-        };
+        return Err(Counted::new(Refusal::Lacking(Lack::Script(port))));
     }
-    ByteRead {
-        answer: ByteAnswer::Byte(script[0]),
+    Ok(Counted {
+        value: script[0],
         used: 1,
         pairs: 0,
-    }
+    })
 }
 
 // A write puts its pair where two bytes are free; a lone last byte of the log stays as it is.
-fn write_port(log: &mut [u8], port: u8, value: u8) -> Completed
-    ensures { (p : Port) → port ≡ number p → Writes (write_port p value) log.old (said_done result.answer) result.used result.pairs log.new }
+fn write_port(log: &mut [u8], port: u8, value: u8) -> Answer<()>
+    ensures { (p : Port) → port ≡ number p → Writes (write_port p value) log.old (ended result) (used_of result) (pairs_of result) log.new }
 {
     if log.len() < 2 {
-        return Completed {
-            answer: Completion::Refused(Refusal::Lacking(Lack::Log)),
-            used: 0,
-            pairs: 0,
-        };
+        return Err(Counted::new(Refusal::Lacking(Lack::Log)));
     }
     log[0] = port;
     log[1] = value;
-    Completed {
-        answer: Completion::Done,
+    Ok(Counted {
+        value: (),
         used: 0,
         pairs: 1,
-    }
+    })
 }
 
 // Writes a command to the command port.
-pub fn write_command(log: &mut [u8], value: HostToControllerCommand) -> Completed
-    ensures { Writes (write_command value) log.old (said_done result.answer) result.used result.pairs log.new }
+pub fn write_command(log: &mut [u8], value: HostToControllerCommand) -> Answer<()>
+    ensures { Writes (write_command value) log.old (ended result) (used_of result) (pairs_of result) log.new }
 {
-    write_port(log, PS2_COMMAND_AND_STATUS_PORT, value.to_byte())
+    write_port(log, PS2_COMMAND_AND_STATUS_PORT, u8::from(value))
 }
 
 // Reads the configuration byte.
-pub fn read_config(script: &[u8], log: &mut [u8]) -> ConfigRead
-    ensures { played (said_config result.answer) result.used result.pairs log.new ≡ play read_config script.now log.old }
+// Kept as two slices: document 01 has each call take a script and a log, and give its counts.
+pub fn read_config(script: &[u8], log: &mut [u8]) -> Answer<ControllerConfigurationByte>
+    ensures { told result log.new ≡ play read_config script.now log.old }
 {
-    let w = write_command(log, HostToControllerCommand::ReadFromInternalRAMByte0);
-    let pairs = w.pairs;
-    let written = w.answer;
-    match written {
-        Completion::Done => {}
-        Completion::Refused(e) => {
-            return ConfigRead {
-                answer: ConfigAnswer::Refused(e),
-                used: 0,
-                pairs,
-            };
-        }
-    }
-    let d = read_data(script);
-    let used = d.used;
-    let read = d.answer;
-    match read {
-        ByteAnswer::Byte(b) => ConfigRead {
-            answer: ConfigAnswer::Config(ControllerConfigurationByte::from_byte(b)),
-            used,
-            pairs,
-        },
-        ByteAnswer::Refused(e) => ConfigRead {
-            answer: ConfigAnswer::Refused(e),
-            used,
-            pairs,
-        },
-    }
+    let written = write_command(log, HostToControllerCommand::ReadFromInternalRAMByte0)?;
+    let read = written.then(read_data(script))?;
+    Ok(read.with(ControllerConfigurationByte::from(read.value)))
 }
 
 // Writes the configuration byte.
-pub fn write_config(log: &mut [u8], value: ControllerConfigurationByte) -> Completed
-    ensures { Writes (write_config value) log.old (said_done result.answer) result.used result.pairs log.new }
+pub fn write_config(log: &mut [u8], value: ControllerConfigurationByte) -> Answer<()>
+    ensures { Writes (write_config value) log.old (ended result) (used_of result) (pairs_of result) log.new }
 {
-    let w = write_command(log, HostToControllerCommand::WriteToInternalRAMByte0);
-    let pairs = w.pairs;
-    let written = w.answer;
-    match written {
-        Completion::Done => {}
-        Completion::Refused(e) => {
-            return Completed {
-                answer: Completion::Refused(e),
-                used: 0,
-                pairs,
-            };
-        }
-    }
-    let at = 2 * pairs;
-    let d = write_data(&mut log[at..], WritableData::Configuration(value));
-    let answer = d.answer;
-    Completed {
-        answer,
-        used: 0,
-        pairs: pairs + d.pairs,
-    }
+    let written = write_command(log, HostToControllerCommand::WriteToInternalRAMByte0)?;
+    let at = 2 * written.pairs;
+    written.then(write_data(&mut log[at..], WritableData::Configuration(value)))
 }
 
 // Reads the status.
-pub fn status_register(script: &[u8]) -> StatusRead
-    ensures { Reads read_status script.now (said_status result.answer) result.used result.pairs }
+pub fn status_register(script: &[u8]) -> Answer<ControllerToHostStatus>
+    ensures { Reads read_status script.now (ended result) (used_of result) (pairs_of result) }
 {
-    let r = read_port(script, ReadPort::Status);
-    let used = r.used;
-    let read = r.answer;
-    match read {
-        ByteAnswer::Byte(b) => StatusRead {
-            answer: StatusAnswer::Status(ControllerToHostStatus::from_byte(b)),
-            used,
-            pairs: 0,
-        },
-        ByteAnswer::Refused(e) => StatusRead {
-            answer: StatusAnswer::Refused(e),
-            used,
-            pairs: 0,
-        },
-    }
+    let read = read_port(script, ReadPort::Status)?;
+    Ok(read.with(ControllerToHostStatus::from(read.value)))
 }
 
 // Drops one byte of data, without asking whether there is one.
-pub fn flush_output_buffer(script: &[u8]) -> Completed
-    ensures { Reads flush_output_buffer script.now (said_done result.answer) result.used result.pairs }
+pub fn flush_output_buffer(script: &[u8]) -> Answer<()>
+    ensures { Reads flush_output_buffer script.now (ended result) (used_of result) (pairs_of result) }
 {
-    let r = read_data(script);
-    let used = r.used;
-    let read = r.answer;
-    match read {
-        ByteAnswer::Byte(_) => Completed {
-            answer: Completion::Done,
-            used,
-            pairs: 0,
-        },
-        ByteAnswer::Refused(e) => Completed {
-            answer: Completion::Refused(e),
-            used,
-            pairs: 0,
-        },
-    }
+    Ok(read_data(script)?.with(()))
 }
 
 // Reads a byte of data.
-pub fn read_data(script: &[u8]) -> ByteRead
-    ensures { Reads read_data script.now (said_byte result.answer) result.used result.pairs }
+pub fn read_data(script: &[u8]) -> Answer<u8>
+    ensures { Reads read_data script.now (ended result) (used_of result) (pairs_of result) }
 {
     read_port(script, ReadPort::Data)
 }
 
 // Writes a byte of data.
-pub fn write_data(log: &mut [u8], value: WritableData) -> Completed
-    ensures { Writes (write_data value) log.old (said_done result.answer) result.used result.pairs log.new }
+pub fn write_data(log: &mut [u8], value: WritableData) -> Answer<()>
+    ensures { Writes (write_data value) log.old (ended result) (used_of result) (pairs_of result) log.new }
 {
-    write_port(log, PS2_DATA_PORT, value.to_byte())
+    write_port(log, PS2_DATA_PORT, u8::from(value))
 }

@@ -22,21 +22,21 @@ asked c = long c.args.script.now c.if-script-lt3.false
 pub returns-then-input_buffer_full : goal.returns-then-input_buffer_full
 returns-then-input_buffer_full c =
     let l = c.args.script.now in
-    let b : bit input_buffer_full (get_or l 0 0) ≡ true = ap (bit input_buffer_full) (sym c.from_byte.ensures) ∙ sym c.input_buffer_full.ensures ∙ c.if-input_buffer_full.true in
+    let b : bit input_buffer_full (get_or l 0 0) ≡ true = ap (bit input_buffer_full) (sym c.from.ensures) ∙ sym c.input_buffer_full.ensures ∙ c.if-input_buffer_full.true in
     rw (asked (goal.at.returns-then-input_buffer_full c).Else-script-lt3, b)
 
 -- past the second a byte may be sent
 may_send : (c : Else-input_buffer_full) → bit input_buffer_full (get_or c.args.script.now 0 0) ≡ false
-may_send c = ap (bit input_buffer_full) (sym c.from_byte.ensures) ∙ sym c.input_buffer_full.ensures ∙ c.if-input_buffer_full.false
+may_send c = ap (bit input_buffer_full) (sym c.from.ensures) ∙ sym c.input_buffer_full.ensures ∙ c.if-input_buffer_full.false
 
 pub returns-then-not-output_buffer_full : goal.returns-then-not-output_buffer_full
 returns-then-not-output_buffer_full c =
     let l = c.args.script.now in
-    let b : bit output_buffer_full (get_or l 1 0) ≡ false = ap (bit output_buffer_full) (sym c.from_byte-2.ensures) ∙ sym c.output_buffer_full.ensures ∙ not-true _ (ap not c.if-not-output_buffer_full.true) in
+    let b : bit output_buffer_full (get_or l 1 0) ≡ false = ap (bit output_buffer_full) (sym c.from-2.ensures) ∙ sym c.output_buffer_full.ensures ∙ not-true _ (ap not c.if-not-output_buffer_full.true) in
     rw (asked (goal.at.returns-then-not-output_buffer_full c).Else-script-lt3, may_send (goal.at.returns-then-not-output_buffer_full c).Else-input_buffer_full, b)
 
 pub returns : goal.returns
 returns c =
     let l = c.args.script.now in
-    let b : bit output_buffer_full (get_or l 1 0) ≡ true = ap (bit output_buffer_full) (sym c.from_byte-2.ensures) ∙ sym c.output_buffer_full.ensures ∙ not-false _ (ap not c.if-not-output_buffer_full.false) in
+    let b : bit output_buffer_full (get_or l 1 0) ≡ true = ap (bit output_buffer_full) (sym c.from-2.ensures) ∙ sym c.output_buffer_full.ensures ∙ not-false _ (ap not c.if-not-output_buffer_full.false) in
     rw (asked (goal.at.returns c).Else-script-lt3, may_send (goal.at.returns c).Else-input_buffer_full, b)

@@ -9,7 +9,7 @@ use Rattle.ps2_command.proofs.command_onto.Given as goal
 
 abbrev pub invariant-loop-attempts : goal.invariant-loop-attempts
 invariant-loop-attempts l =
-    Reached (keeping_onto l.initial.kept (command l.value)) l.script l.initial.log (keeping_onto l.kept (repeat l.attempts (refuses 7) (attempt l.value))) l.used l.pairs l.log
+    Reached (keeping_onto l.initial.kept (command l.value)) l.script l.initial.log (keeping_onto l.kept (repeat l.attempts (refuses 7) (attempt l.value))) l.at.used l.at.pairs l.log
 
 abbrev pub decreases-loop-attempts : goal.decreases-loop-attempts
 decreases-loop-attempts l = l.attempts

@@ -43,11 +43,11 @@ second_is c =
 pub returns-in-Port1 : goal.returns-in-Port1
 returns-in-Port1 c =
     let a = c.args in
-    let w : TwoWritten Port1 (to_device a.first) (to_device a.second) a.log.now _ _ = rw (c.to_byte.ensures, c.to_byte-in-Port1.ensures) at c.two_to_port1.ensures in
+    let w : TwoWritten Port1 (to_device a.first) (to_device a.second) a.log.now _ _ = rw (c.from.ensures, c.from-in-Port1.ensures) at c.two_to_port1.ensures in
     rw c.in-Port1.is (made_at_once Port1 a.first a.second a.script.now a.log.now (first_is (goal.at.returns-in-Port1 c).Else-not-acknowledges_at_once) (second_is (goal.at.returns-in-Port1 c).Else-not-acknowledges_at_once-2) w)
 
 pub returns-in-Port2 : goal.returns-in-Port2
 returns-in-Port2 c =
     let a = c.args in
-    let w : TwoWritten Port2 (to_device a.first) (to_device a.second) a.log.now _ _ = rw (c.to_byte-in-Port2.ensures, c.to_byte-in-Port2-2.ensures) at c.two_to_port2.ensures in
+    let w : TwoWritten Port2 (to_device a.first) (to_device a.second) a.log.now _ _ = rw (c.from-in-Port2.ensures, c.from-in-Port2-2.ensures) at c.two_to_port2.ensures in
     rw c.in-Port2.is (made_at_once Port2 a.first a.second a.script.now a.log.now (first_is (goal.at.returns-in-Port2 c).Else-not-acknowledges_at_once) (second_is (goal.at.returns-in-Port2 c).Else-not-acknowledges_at_once-2) w)

@@ -12,7 +12,7 @@ returns-then-log-lt8 c = record { fits = λ h. absurd (omega (arith, h, c.if-log
 
 pub returns : goal.returns
 returns c =
-    let t = c.to_byte-next_to_port2 in
+    let t = c.from-next_to_port2 in
     let a = c.args in
     record {
       fits = λ _. (

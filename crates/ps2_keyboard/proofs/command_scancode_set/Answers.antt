@@ -6,4 +6,4 @@ use Rattle.ps2_keyboard.proofs.command_scancode_set.Goals as goal
 
 pub returns : goal.returns
 unfolding command_scancode_set command_to_keyboard
-returns c = plays_forgets _ c.command_pair-c.ensures
+returns c = plays_forgets _ c.command_pair.ensures

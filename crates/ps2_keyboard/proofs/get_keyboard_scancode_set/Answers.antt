@@ -1,26 +1,25 @@
 -- `ps2_keyboard::get_keyboard_scancode_set` meets its contract: the command and its byte, then the polls.
 -- Assumes nothing.
 use native.Mathlib.Omega.{arith}
-use Rattle.exchange.proofs.Calls.{two_used_le_reads}
 use Rattle.exchange.proofs.Counts.{counts}
-use Rattle.ps2_answers.proofs.Then.{done_then_reads, refused_then}
+use Rattle.ps2_answers.proofs.Then.{exit, first_steps, first_stops, then_reads_ends}
 use Rattle.ps2_keyboard.specs.Keyboard.{get_scancode_set}
+use Rattle.ps2_keyboard.specs.Parts.{set_search}
 use Rattle.ps2_keyboard.proofs.get_keyboard_scancode_set.Goals as goal
 
-pub overflow_add-result : goal.overflow_add-result
-overflow_add-result c =
-    omega (arith, two_used_le_reads _ _ _ _ c.command_scancode_set-c.ensures c.poll_scancode_set-r.ensures, c.well_formed)
-
-pub returns-in-Done : goal.returns-in-Done
+pub returns-in_err-asked : goal.returns-in_err-asked
 unfolding get_scancode_set
-returns-in-Done c = search done_then_reads
+returns-in_err-asked c = rw (exit _ _ c.from_residual.ensures.1) (first_stops _ (λ _. set_search) _ _ _ c.in_err-asked.ensures)
 
-pub returns-in-Refused : goal.returns-in-Refused
+pub returns : goal.returns
 unfolding get_scancode_set
-returns-in-Refused c = search refused_then
+returns c =
+    rw c.then.ensures
+    (then_reads_ends (omega (arith, c.well_formed)) (omega (arith, c.well_formed)) c.in_ok-asked.asked _
+    (first_steps _ (λ _. set_search) _ _ _ c.in_ok-asked.ensures) _ c.poll_scancode_set.ensures)
 
 pub slice_bounds-poll_scancode_set-count : goal.slice_bounds-poll_scancode_set-count
-slice_bounds-poll_scancode_set-count c = search counts
+slice_bounds-poll_scancode_set-count c = search (counts, c.in_ok-asked.ensures)
 
 pub slice_bounds-poll_scancode_set-start : goal.slice_bounds-poll_scancode_set-start
-slice_bounds-poll_scancode_set-start c = search counts
+slice_bounds-poll_scancode_set-start c = search (counts, c.in_ok-asked.ensures)

@@ -6,4 +6,4 @@ use Rattle.ps2_keyboard.proofs.set_port_led_onto.Goals as goal
 
 pub returns : goal.returns
 unfolding set_port_led set_led_by
-returns c = refusing_kept _ _ _ c.command_pair_onto-c.ensures c.failing_as.ensures
+returns c = rw (c.failing_as.ensures.used, c.failing_as.ensures.pairs) (refusing_kept _ _ _ c.command_pair_onto-c.ensures c.failing_as.ensures.end)

@@ -9,7 +9,7 @@ use Rattle.ps2_polling.proofs.polling_send.Given as goal
 
 abbrev pub invariant-loop-tries : goal.invariant-loop-tries
 invariant-loop-tries l =
-    (l.pairs ≡ 0) × Reached (polling_send l.value) l.script l.initial.log (repeat l.tries (refuses 4) (send_try (to_device l.value))) l.used 0 l.log
+    record { no_pairs : l.at.pairs ≡ 0; to : Reached (polling_send l.value) l.script l.initial.log (repeat l.tries (refuses 4) (send_try (to_device l.value))) l.at.used l.at.pairs l.log }
 
 abbrev pub decreases-loop-tries : goal.decreases-loop-tries
 decreases-loop-tries l = l.tries

@@ -1,17 +1,16 @@
 -- `run_test` meets its contract: a command, then the wait on the whole script. Assumes nothing.
-use mathlib.Core.Path.{ap}
-use Rattle.exchange.specs.Answer.{on_given, and_then}
-use Rattle.exchange.proofs.Calls.{writes_then_reads}
-use Rattle.ps2_answers.specs.Refusals.{said_done}
-use Rattle.ps2_answers.proofs.Refusals.{bind_refused}
+use native.Mathlib.Omega.{arith}
+use Rattle.std.specs.Prelude.{Ok, Err}
+use Rattle.ps2_answers.proofs.Then.{exit, all_left, writes_told, first_steps, first_stops, then_reads_ends}
 use Rattle.ps2_polling.proofs.run_test.Goals as goal
 
-pub returns-in-Done : goal.returns-in-Done
-unfolding and_then
-returns-in-Done c =
-    writes_then_reads _ (on_given _) _ c.write_command-w.ensures _ (ap said_done c.in-Done.is) c.read_test_result-r.ensures
+pub returns-in_err-written : goal.returns-in_err-written
+returns-in_err-written c =
+    rw (exit _ _ c.from_residual.ensures.1) (first_stops _ _ _ _ _ (writes_told (Err _) c.in_err-written.ensures _))
 
-pub returns-in-Refused : goal.returns-in-Refused
-unfolding and_then
-returns-in-Refused c =
-    bind_refused _ _ _ _ (c.write_command-w.ensures.with_any _) c.in-Refused.e (ap said_done c.in-Refused.is)
+pub returns : goal.returns
+returns c =
+    let w = c.in_ok-written.ensures in
+    rw c.then.ensures
+    (then_reads_ends (omega (arith, c.well_formed)) (omega (arith, c.well_formed)) c.in_ok-written.written _
+    (first_steps _ _ _ _ _ (writes_told (Ok _) w _)) _ (rw (all_left _ _ w.no_bytes) c.read_test_result.ensures))

@@ -6,7 +6,7 @@ use Rattle.ps2_ports.proofs.read_port.Goals as goal
 
 pub returns-then-script-eq0 : goal.returns-then-script-eq0
 unfolding read_port
-returns-then-script-eq0 c = read_to_no_byte (read_to_start _ _) (omega arith)
+returns-then-script-eq0 c = rw c.new.ensures (read_to_no_byte (read_to_start _ _) (omega arith))
 
 pub returns : goal.returns
 unfolding read_port

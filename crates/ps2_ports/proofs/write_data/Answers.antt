@@ -4,4 +4,4 @@ use Rattle.exchange.specs.Exchange.{p60}
 use Rattle.ps2_ports.proofs.write_data.Goals as goal
 
 pub returns : goal.returns
-returns c = rw c.to_byte.ensures at (c.write_port.ensures p60 refl)
+returns c = rw c.from.ensures at (c.write_port.ensures p60 refl)

@@ -7,7 +7,7 @@ use Rattle.ps2_ports.proofs.write_port.Goals as goal
 
 pub returns-then-log-lt2 : goal.returns-then-log-lt2
 unfolding write_port
-returns-then-log-lt2 c p h = record { with_any = λ s. sym (write_short p _ _ s _ (omega arith)); no_bytes = refl }
+returns-then-log-lt2 c p h = rw c.new.ensures (record { with_any = λ s. sym (write_short p _ _ s _ (omega arith)); no_bytes = refl })
 
 pub returns : goal.returns
 unfolding write_port
