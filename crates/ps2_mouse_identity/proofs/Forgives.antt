@@ -1,45 +1,66 @@
--- What follows an identity that was asked for after some rates: by what it came to, and where it failed, which is forgiven. A lack is not.
+-- What follows an identity that was asked for after some rates, by what was read of it: grouped as the definitions have it.
 -- Assumes nothing.
 use Prim.Native.Nat.{ℕ}
 use mathlib.Core.List.{List}
-use mathlib.Core.Path.{◌≡◌, refl, ap, ◌∙◌}
-use Rattle.exchange.specs.Exchange.{Exchange, done, bind, End, told_end, Played, played, play}
+use mathlib.Core.Path.{◌≡◌, refl, ap, ◌∙◌, fun_ext}
+use Rattle.std.specs.Prelude.{Option, Some, None}
+use Rattle.std.specs.Option.{unwrap_or}
+use Rattle.exchange.specs.Exchange.{Exchange, done, bind, Played, play}
 use Rattle.exchange.specs.Answer.{Answer, gives, refuses, on_given, and_then}
-use Rattle.exchange.proofs.Calls.{bind_done, bind_lacks}
 use Rattle.exchange.proofs.Grouping.{and_then_assoc}
 use Rattle.exchange.proofs.Sequence.{bind_assoc}
 use Rattle.ps2_bytes.specs.declared.data.MouseSampleRate.{MouseSampleRate}
 use Rattle.ps2_bytes.specs.declared.response.MouseId.{MouseId}
-use Rattle.ps2_answers.specs.declared.Refusal.{Refusal}
-use Rattle.ps2_answers.specs.declared.Refusal.TheVariants.{Lacking, Failed}
-use Rattle.ps2_answers.specs.Refusals.{Success, number_of, refused}
-use Rattle.ps2_mouse.specs.declared.IdAnswer.{IdAnswer}
+use Rattle.ps2_bytes.specs.declared.response.MouseId.TheVariants.{Zero, Three, Four}
+use Rattle.ps2_answers.specs.Refusals.{Success}
 use Rattle.ps2_mouse.specs.Mouse.{mouse_id}
-use Rattle.ps2_mouse_identity.specs.Identity.{set_rates, identity_after}
-use Rattle.ps2_mouse.specs.Answers.{said_id}
-use Rattle.ps2_mouse_identity.specs.Answers.{forgiven_as}
+use Rattle.ps2_mouse_identity.specs.Identity.{set_rates, identity_after, wheel_rates, button_rates, read_id, read_or, second_identity, after_first}
 
-module _ (rates : List MouseSampleRate) (g : Answer MouseId → Exchange (Answer MouseId)) where
-  -- the asking and what follows it, grouped as the definitions have it
-  asked_then : bind mouse_id (λ id. bind (done (gives id)) (on_given g)) ≡ bind mouse_id g
+module _ (rates : List MouseSampleRate) (g : Option MouseId → Exchange (Answer MouseId)) (h : Answer MouseId → Exchange (Answer MouseId))
+    (same : (a : Answer MouseId) → g (read_id a) ≡ h a) where
+  asked_then : bind mouse_id (λ id. bind (done (gives (read_id id))) (on_given g)) ≡ bind mouse_id h
   unfolding bind
-  asked_then = refl
+  asked_then = ap (λ (k : Answer MouseId → Exchange (Answer MouseId)). bind mouse_id k) (fun_ext same)
 
-  identity_then : bind (identity_after rates) (on_given g) ≡ and_then (set_rates rates) (λ _. bind mouse_id g)
+  identity_then : and_then (identity_after rates) g ≡ and_then (set_rates rates) (λ _. bind mouse_id h)
   unfolding identity_after and_then
   identity_then =
-      and_then_assoc (set_rates rates) (λ _. bind mouse_id (λ id. done (gives id))) g
-      ∙ ap (λ (k : Exchange (Answer MouseId)). and_then (set_rates rates) (λ (_ : Success). k)) (bind_assoc mouse_id (λ id. done (gives id)) (on_given g) ∙ asked_then)
+      and_then_assoc (set_rates rates) (λ _. bind mouse_id (λ id. done (gives (read_id id)))) g
+      ∙ ap (λ (k : Exchange (Answer MouseId)). and_then (set_rates rates) (λ (_ : Success). k))
+      (bind_assoc mouse_id (λ id. done (gives (read_id id))) (on_given g) ∙ asked_then)
 
-  pub grouped : (s l : List ℕ) {o : Played (Answer MouseId)} → o ≡ play (bind (identity_after rates) (on_given g)) s l → o ≡ play (and_then (set_rates rates) (λ _. bind mouse_id g)) s l
+  grouped : (s l : List ℕ) {o : Played (Answer MouseId)} → o ≡ play (and_then (identity_after rates) g) s l → o ≡ play (and_then (set_rates rates) (λ _. bind mouse_id h)) s l
   grouped s l q = rw identity_then at q
 
-  module _ (old : MouseId) (leaves : (n : ℕ) → g (refuses n) ≡ done (gives old)) (s l : List ℕ) {e : End (Answer (Answer MouseId))} {u w : ℕ} {l' : List ℕ}
-      (r : played e u w l' ≡ play (identity_after rates) s l) where
-    forgives : (x : Refusal) → e ≡ told_end gives (refused x) → played (said_id (forgiven_as old x)) u w l' ≡ play (bind (identity_after rates) (on_given g)) s l
-    forgives (Lacking x) q = bind_lacks (identity_after rates) (on_given g) s l r q
-    forgives (Failed f) q = bind_done (identity_after rates) (on_given g) s l r q (leaves (number_of f))
+-- ---- after the first
 
-    pub bind_forgiven : (x : Refusal) → e ≡ told_end gives (refused x) → {y : IdAnswer} → y ≡ forgiven_as old x
-        → played (said_id y) u w l' ≡ play (bind (identity_after rates) (on_given g)) s l
-    bind_forgiven x q p = rw p (forgives x q)
+abbrev pub after_read : MouseId → Option MouseId → Exchange (Answer MouseId)
+after_read old None = done (gives old)
+after_read old (Some Zero) = done (gives old)
+after_read old (Some Three) = and_then (set_rates button_rates) (λ _. second_identity old)
+after_read old (Some Four) = done (refuses 13)
+
+read_first : (old : MouseId) (a : Answer MouseId) → after_read old (read_id a) ≡ after_first old a
+read_first old (gives Zero) = refl
+read_first old (gives Three) = refl
+read_first old (gives Four) = refl
+read_first old (refuses n) = refl
+
+pub first_grouped : (old : MouseId) (s l : List ℕ) {o : Played (Answer MouseId)} → o ≡ play (and_then (identity_after wheel_rates) (after_read old)) s l
+    → o ≡ play (and_then (set_rates wheel_rates) (λ _. bind mouse_id (λ first. after_first old first))) s l
+first_grouped old s l q = grouped wheel_rates (after_read old) (λ first. after_first old first) (read_first old) s l q
+
+-- ---- after the second
+
+abbrev pub given_or : MouseId → Option MouseId → Exchange (Answer MouseId)
+given_or old id = done (gives (unwrap_or id old))
+
+read_second : (old : MouseId) (a : Answer MouseId) → given_or old (read_id a) ≡ done (gives (read_or old a))
+read_second old (gives id) = refl
+read_second old (refuses n) = refl
+
+pub second_grouped : (old : MouseId) (s l : List ℕ) {o : Played (Answer MouseId)}
+    → o ≡ play (and_then (identity_after button_rates) (given_or old)) s l → o ≡ play (and_then (set_rates button_rates) (λ _. second_identity old)) s l
+unfolding second_identity
+second_grouped old s l q =
+    grouped button_rates (given_or old) (λ second. done (gives (read_or old second))) (read_second old) s l q

@@ -6,8 +6,8 @@ use mathlib.Core.List.{List}
 use mathlib.Core.Path.{◌≡◌}
 use lib.ListN.{length, get_or, drop, drop_of_length-le}
 use lib.Seq.{drop-cons}
-use Rattle.exchange.specs.Exchange.{done, bind}
-use Rattle.exchange.specs.Answer.{gives, and_then, on_given}
+use Rattle.exchange.specs.Exchange.{done}
+use Rattle.exchange.specs.Answer.{gives, and_then}
 use Rattle.ps2_bytes.specs.declared.data.MouseSampleRate.{MouseSampleRate}
 use Rattle.ps2_answers.specs.Refusals.{success}
 use Rattle.ps2_mouse.specs.Mouse.{set_sampling_rate}
@@ -15,8 +15,8 @@ use Rattle.ps2_mouse_identity.specs.Identity.{set_rates}
 
 -- the next rate
 pub rates_next : (rates : List MouseSampleRate) (i : ℕ) (d : MouseSampleRate) → i < length rates
-    → set_rates (drop i rates) ≡ bind (set_sampling_rate (get_or rates i d)) (on_given (λ _. set_rates (drop (i + 1) rates)))
-unfolding set_rates and_then
+    → set_rates (drop i rates) ≡ and_then (set_sampling_rate (get_or rates i d)) (λ _. set_rates (drop (i + 1) rates))
+unfolding set_rates
 rates_next rates i d h = rw (add-one, drop-cons rates i d)
 
 -- none left

@@ -1,6 +1,6 @@
 -- `set_mouse_id`: the sequence of rates and identities, and the mouse's record at each of its ends.
 -- Assumes nothing.
-use Rattle.std.specs.Prelude.{List, [], ◌∷◌}
+use Rattle.std.specs.Prelude.{List, [], ◌∷◌, Option, Some, None}
 use Rattle.exchange.specs.Exchange.{Exchange, done, bind}
 use Rattle.exchange.specs.Answer.{Answer, gives, refuses, and_then}
 use Rattle.exchange.specs.Left.{Left, left}
@@ -17,9 +17,14 @@ unfoldable pub set_rates : List MouseSampleRate → Exchange (Answer Success)
 set_rates [] = done (gives success)
 set_rates (rate ∷ rates) = and_then (set_sampling_rate rate) (λ _. set_rates rates)
 
--- Rates, and then the identity: what the mouse answered to F2, unless a rate was refused.
-unfoldable pub identity_after : List MouseSampleRate → Exchange (Answer (Answer MouseId))
-identity_after rates = and_then (set_rates rates) (λ _. bind mouse_id (λ id. done (gives id)))
+-- The identity that was read, if any was.
+abbrev pub read_id : Answer MouseId → Option MouseId
+read_id (gives id) = Some id
+read_id (refuses n) = None
+
+-- Rates, and then the identity: what was read of the mouse's answer to F2, unless a rate was refused.
+unfoldable pub identity_after : List MouseSampleRate → Exchange (Answer (Option MouseId))
+identity_after rates = and_then (set_rates rates) (λ _. bind mouse_id (λ id. done (gives (read_id id))))
 
 -- "rates 200, 100, 80", which ask for identity 3; "rates 200, 200, 80", which ask for 4.
 abbrev pub wheel_rates : List MouseSampleRate

@@ -1,34 +1,16 @@
--- `ps2_mouse_identity::button_identity` meets its contract: the identity that was read, or the old one.
--- Assumes nothing.
-use mathlib.Core.Path.{refl, ap, ◌∙◌}
-use Rattle.exchange.specs.Exchange.{done}
-use Rattle.exchange.specs.Answer.{gives, on_given}
-use Rattle.exchange.proofs.Calls.{bind_done}
-use Rattle.ps2_answers.proofs.Refusals.{bind_refused}
-use Rattle.ps2_mouse_identity.specs.declared.AskedAnswer.{AskedAnswer}
-use Rattle.ps2_mouse_identity.specs.Identity.{identity_after, button_rates, read_or, second_identity}
-use Rattle.ps2_mouse_identity.specs.Answers.{said_asked}
-use Rattle.ps2_mouse_identity.proofs.Forgives.{grouped, bind_forgiven}
+-- `button_identity` meets its contract: the identity that was read, or the old one. Assumes nothing.
+use Rattle.ps2_answers.proofs.Then.{exit, first_steps, first_stops, given_here}
+use Rattle.ps2_mouse_identity.specs.Identity.{identity_after, button_rates}
+use Rattle.ps2_mouse_identity.proofs.Forgives.{given_or, second_grouped}
 use Rattle.ps2_mouse_identity.proofs.button_identity.Goals as goal
 
-pub returns-in-Id : goal.returns-in-Id
-unfolding second_identity
-returns-in-Id c =
+pub returns-in_err-second : goal.returns-in_err-second
+returns-in_err-second c =
     let old = c.args.old in
-    grouped button_rates (λ second. done (gives (read_or old second))) _ _
-    (bind_done (identity_after button_rates) (on_given (λ second. done (gives (read_or old second)))) _ _ c.identity_after-a.ensures (ap said_asked (c.in-Answered.is ∙ ap AskedAnswer.Answered c.in-Id.is)) refl)
+    rw (exit _ _ c.from_residual.ensures.1) (second_grouped old _ _ (first_stops (identity_after button_rates) (given_or old) _ _ _ c.in_err-second.ensures))
 
-pub returns-in-Refused-second : goal.returns-in-Refused-second
-unfolding second_identity
-returns-in-Refused-second c =
+pub returns : goal.returns
+returns c =
     let old = c.args.old in
-    grouped button_rates (λ second. done (gives (read_or old second))) _ _
-    (bind_forgiven button_rates (λ second. done (gives (read_or old second))) old (λ n. refl) _ _ c.identity_after-a.ensures
-    c.in-Refused-second.e (ap said_asked (c.in-Answered.is ∙ ap AskedAnswer.Answered c.in-Refused-second.is)) c.forgiven.ensures)
-
-pub returns-in-Refused : goal.returns-in-Refused
-unfolding second_identity
-returns-in-Refused c =
-    let old = c.args.old in
-    grouped button_rates (λ second. done (gives (read_or old second))) _ _
-    (bind_refused (identity_after button_rates) (λ second. done (gives (read_or old second))) _ _ c.identity_after-a.ensures c.in-Refused.e (ap said_asked c.in-Refused.is))
+    rw (c.with.ensures, c.unwrap_or.ensures)
+    (second_grouped old _ _ (given_here _ (first_steps (identity_after button_rates) (given_or old) _ _ _ c.in_ok-second.ensures)))

@@ -1,63 +1,60 @@
--- `ps2_mouse_identity::wheel_identity` meets its contract: each identity, and each refusal, is followed by its own.
--- Assumes nothing.
+-- `wheel_identity` meets its contract: each identity that was read, and none, is followed by its own. Assumes nothing.
 use native.Mathlib.Omega.{arith}
-use mathlib.Core.Path.{refl, ap, ◌∙◌}
-use Rattle.exchange.proofs.Calls.{bind_yields, bind_done, two_used_le}
-use Rattle.exchange.proofs.Counts.{counts, pairs_fit}
-use Rattle.ps2_answers.proofs.Refusals.{bind_refused}
-use Rattle.ps2_mouse_identity.specs.declared.AskedAnswer.{AskedAnswer}
-use Rattle.ps2_mouse.specs.declared.IdAnswer.{IdAnswer}
-use Rattle.ps2_mouse_identity.specs.Identity.{wheel_rates, after_first}
-use Rattle.ps2_mouse_identity.specs.Answers.{said_asked}
-use Rattle.ps2_mouse_identity.proofs.Forgives.{grouped, bind_forgiven}
+use mathlib.Core.Path.{ap, ◌∙◌}
+use Rattle.std.specs.Prelude.{Some}
+use Rattle.exchange.proofs.Counts.{counts}
+use Rattle.exchange.proofs.Position.{reached_same, reached_done}
+use Rattle.ps2_answers.proofs.Then.{exit, first_steps, first_stops, then_ends, given_here}
+use Rattle.ps2_mouse_identity.specs.Identity.{identity_after, wheel_rates}
+use Rattle.ps2_mouse_identity.proofs.Forgives.{after_read, first_grouped}
 use Rattle.ps2_mouse_identity.proofs.wheel_identity.Goals as goal
 
-pub overflow_add-result : goal.overflow_add-result
-overflow_add-result c =
-    omega (arith, two_used_le _ _ _ _ c.identity_after-a.ensures refl c.button_identity-b.ensures, c.well_formed)
+pub returns-in_err-first : goal.returns-in_err-first
+returns-in_err-first c =
+    let old = c.args.old in
+    rw (exit _ _ c.from_residual.ensures.1) (first_grouped old _ _ (first_stops (identity_after wheel_rates) (after_read old) _ _ _ c.in_err-first.ensures))
 
--- 0
+pub returns-in-None : goal.returns-in-None
+returns-in-None c =
+    let old = c.args.old in
+    rw c.with.ensures
+    (first_grouped old _ _ (given_here _ (reached_same (first_steps (identity_after wheel_rates) (after_read old) _ _ _ c.in_ok-first.ensures)
+    (ap (after_read old) c.in-None.is))))
+
 pub returns-in-Zero : goal.returns-in-Zero
 returns-in-Zero c =
-    grouped wheel_rates (λ first. after_first _ first) _ _
-    (search (bind_done, ap said_asked (c.in-Answered.is ∙ ap AskedAnswer.Answered (c.in-Id.is ∙ ap IdAnswer.Id c.in-Zero.is))))
+    let old = c.args.old in
+    rw c.with-in-Zero.ensures
+    (first_grouped old _ _ (given_here _ (reached_same (first_steps (identity_after wheel_rates) (after_read old) _ _ _ c.in_ok-first.ensures)
+    (ap (after_read old) (c.in-Some.is ∙ ap (λ id. Some id) c.in-Zero.is)))))
 
--- 3
 pub returns-in-Three : goal.returns-in-Three
 returns-in-Three c =
-    grouped wheel_rates (λ first. after_first _ first) _ _
-    (search (bind_yields, ap said_asked (c.in-Answered.is ∙ ap AskedAnswer.Answered (c.in-Id.is ∙ ap IdAnswer.Id c.in-Three.is))))
+    let old = c.args.old in
+    rw c.then.ensures
+    (first_grouped old _ _
+    (then_ends (omega (arith, c.well_formed)) (omega (arith, c.well_formed)) c.in_ok-first.first _
+    (reached_same (first_steps (identity_after wheel_rates) (after_read old) _ _ _ c.in_ok-first.ensures)
+    (ap (after_read old) (c.in-Some.is ∙ ap (λ id. Some id) c.in-Three.is))) _ c.button_identity.ensures))
 
--- 4
 pub returns-in-Four : goal.returns-in-Four
 returns-in-Four c =
-    grouped wheel_rates (λ first. after_first _ first) _ _
-    (search (bind_done, ap said_asked (c.in-Answered.is ∙ ap AskedAnswer.Answered (c.in-Id.is ∙ ap IdAnswer.Id c.in-Four.is))))
-
-pub returns-in-Refused-first : goal.returns-in-Refused-first
-returns-in-Refused-first c =
     let old = c.args.old in
-    grouped wheel_rates (λ first. after_first old first) _ _
-    (bind_forgiven wheel_rates (λ first. after_first old first) old (λ n. refl) _ _ c.identity_after-a.ensures
-    c.in-Refused-first.e (ap said_asked (c.in-Answered.is ∙ ap AskedAnswer.Answered c.in-Refused-first.is)) c.forgiven.ensures)
+    rw c.with-in-Four.ensures
+    (first_grouped old _ _ (reached_done (reached_same (first_steps (identity_after wheel_rates) (after_read old) _ _ _ c.in_ok-first.ensures)
+    (ap (after_read old) (c.in-Some.is ∙ ap (λ id. Some id) c.in-Four.is)))))
 
-pub returns-in-Refused : goal.returns-in-Refused
-returns-in-Refused c = grouped wheel_rates (λ first. after_first _ first) _ _ (search (bind_refused, ap said_asked c.in-Refused.is))
-
-pub overflow_mul-at : goal.overflow_mul-at
-overflow_mul-at c = search counts
+pub overflow_mul-tail : goal.overflow_mul-tail
+overflow_mul-tail c = search (counts, c.in_ok-first.ensures)
 
 pub slice_bounds-button_identity-count : goal.slice_bounds-button_identity-count
-slice_bounds-button_identity-count c = search counts
+slice_bounds-button_identity-count c = search (counts, c.in_ok-first.ensures)
 
 pub slice_bounds-button_identity-start : goal.slice_bounds-button_identity-start
-slice_bounds-button_identity-start c = search counts
+slice_bounds-button_identity-start c = search (counts, c.in_ok-first.ensures)
 
 pub slice_bounds-button_identity-count-in-Three : goal.slice_bounds-button_identity-count-in-Three
-slice_bounds-button_identity-count-in-Three c = search counts
+slice_bounds-button_identity-count-in-Three c = search (counts, c.in_ok-first.ensures)
 
 pub slice_bounds-button_identity-start-in-Three : goal.slice_bounds-button_identity-start-in-Three
-slice_bounds-button_identity-start-in-Three c = search counts
-
-pub overflow_add-result-in-Three : goal.overflow_add-result-in-Three
-overflow_add-result-in-Three c = search pairs_fit
+slice_bounds-button_identity-start-in-Three c = search (counts, c.in_ok-first.ensures)

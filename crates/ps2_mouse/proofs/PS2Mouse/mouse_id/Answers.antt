@@ -1,28 +1,23 @@
--- `ps2_mouse::PS2Mouse::mouse_id` meets its contract: the reads go on where the command ended.
--- Assumes nothing.
+-- `PS2Mouse::mouse_id` meets its contract: the reads go on where the command ended. Assumes nothing.
 use native.Mathlib.Omega.{arith}
-use Rattle.exchange.proofs.Position.{call_used_le}
-use Rattle.exchange.proofs.Calls.{part_used_le}
 use Rattle.exchange.proofs.Counts.{counts}
-use Rattle.ps2_answers.proofs.Then.{done_then_reads, refused_then}
-use Rattle.ps2_kept.proofs.Contracts.{plays_forgets}
+use Rattle.ps2_answers.proofs.Then.{exit, first_steps, first_stops, then_reads_ends}
 use Rattle.ps2_mouse.specs.Mouse.{mouse_id}
 use Rattle.ps2_mouse.proofs.PS2Mouse.mouse_id.Goals as goal
 
-pub overflow_add-result : goal.overflow_add-result
-overflow_add-result c =
-    omega (arith, part_used_le c.args.script.now _ (call_used_le _ _ _ (plays_forgets _ c.command_to_mouse-c.ensures)) c.receive_mouse_id-t.ensures, c.well_formed)
-
-pub returns-in-Done : goal.returns-in-Done
+pub returns-in_err-accepted : goal.returns-in_err-accepted
 unfolding mouse_id
-returns-in-Done c = search (done_then_reads, plays_forgets)
+returns-in_err-accepted c = rw (exit _ _ c.from_residual.ensures.1) (first_stops _ _ _ _ _ c.in_err-accepted.ensures)
 
-pub returns-in-Refused : goal.returns-in-Refused
+pub returns : goal.returns
 unfolding mouse_id
-returns-in-Refused c = search (refused_then, plays_forgets)
+returns c =
+    rw c.then.ensures
+    (then_reads_ends (omega (arith, c.well_formed)) (omega (arith, c.well_formed)) c.in_ok-accepted.accepted _
+    (first_steps _ _ _ _ _ c.in_ok-accepted.ensures) _ c.receive_mouse_id.ensures)
 
 pub slice_bounds-receive_mouse_id-count : goal.slice_bounds-receive_mouse_id-count
-slice_bounds-receive_mouse_id-count c = search counts
+slice_bounds-receive_mouse_id-count c = search (counts, c.in_ok-accepted.ensures)
 
 pub slice_bounds-receive_mouse_id-start : goal.slice_bounds-receive_mouse_id-start
-slice_bounds-receive_mouse_id-start c = search counts
+slice_bounds-receive_mouse_id-start c = search (counts, c.in_ok-accepted.ensures)

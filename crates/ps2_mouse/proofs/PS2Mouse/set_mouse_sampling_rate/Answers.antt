@@ -1,8 +1,7 @@
--- `ps2_mouse::PS2Mouse::set_mouse_sampling_rate` meets its contract: the command and its data, with their refusals replaced.
--- Assumes nothing.
-use Rattle.ps2_mouse.specs.Mouse.{command_to_mouse, set_sampling_rate}
+-- `PS2Mouse::set_mouse_sampling_rate` meets its contract: the command and its data, with their refusals replaced. Assumes nothing.
+use Rattle.ps2_mouse.specs.Mouse.{set_sampling_rate}
 use Rattle.ps2_mouse.proofs.PS2Mouse.set_mouse_sampling_rate.Goals as goal
 
 pub returns : goal.returns
-unfolding set_sampling_rate command_to_mouse
-returns c = c.completed_as.ensures _ _ _ _ c.command_pair-c.ensures
+unfolding set_sampling_rate
+returns c = c.setting.ensures
