@@ -23,7 +23,8 @@ use Rattle.ps2_polling.proofs.Attained.{attains_test, attains_test_port}
 use Rattle.ps2_keyboard.proofs.Bounds.{within_reset_keyboard, attains_reset_keyboard}
 use Rattle.ps2_mouse.proofs.Bounds.{most_reset_mouse}
 use Rattle.ps2_init.specs.declared.PS2Controller.{PS2Controller}
-use Rattle.ps2_setup.specs.SetUp.{config, quieted, running, disable_devices, test_with, Ports, test_second, at_least_one, test_ports, enable_port, enable_ports}
+use Rattle.ps2_setup.specs.declared.WorkingPorts.{WorkingPorts}
+use Rattle.ps2_setup.specs.SetUp.{config, quieted, running, disable_devices, test_with, test_second, at_least_one, test_ports, enable_port, enable_ports}
 use Rattle.ps2_init.specs.Init.{has_mouse, reset_devices, set_up, or_passed, initialize}
 
 -- ---- each step
@@ -69,8 +70,8 @@ unfolding test_ports
 within_test_ports mouse =
     within_bind (within_succeeds (within_test_port TestPort1)) (λ first. within_told (λ second. at_least_one first second) (within_test_second mouse))
 
-abbrev both : Ports
-both = record { first = true; second = true }
+abbrev both : WorkingPorts
+both = record { port_1_works = true; port_2_works = true }
 
 attains_test_ports : Attains (gives both) 262140 2 (test_ports true)
 unfolding test_ports
@@ -87,11 +88,11 @@ module _ (command : HostToControllerCommand) (clock interrupt : ℕ) where
   unfolding write_port
   attains_enable_port c = attains_then _ (attains_write attains_done) attains_done
 
-within_enable_ports : (ports : Ports) (c : ControllerConfigurationByte) → Within 0 4 (enable_ports ports c)
+within_enable_ports : (ports : WorkingPorts) (c : ControllerConfigurationByte) → Within 0 4 (enable_ports ports c)
 unfolding enable_ports
 within_enable_ports ports c =
-    within_then (within_enable_port EnablePort1 port1_clock_disabled port1_interrupt ports.first c)
-    (λ c. within_then (within_enable_port EnablePort2 port2_clock_disabled port2_interrupt ports.second c) (λ c. within_write_config c))
+    within_then (within_enable_port EnablePort1 port1_clock_disabled port1_interrupt ports.port_1_works c)
+    (λ c. within_then (within_enable_port EnablePort2 port2_clock_disabled port2_interrupt ports.port_2_works c) (λ c. within_write_config c))
 
 attains_enable_ports : (c : ControllerConfigurationByte) → Attains (gives success) 0 4 (enable_ports both c)
 unfolding enable_ports

@@ -19,7 +19,8 @@ use Rattle.ps2_ports.specs.Ports.{write_port, write_command, flush_output_buffer
 use Rattle.ps2_polling.proofs.Refuses.{refuses_test}
 use Rattle.ps2_init.specs.declared.PS2Controller.{PS2Controller}
 use Rattle.ps2_init.specs.Ended.{Ended, already, ready, controller_failed, ports_failed}
-use Rattle.ps2_setup.specs.SetUp.{quieted, disable_devices, test_with, Ports, test_second, test_ports, enable_port, enable_ports}
+use Rattle.ps2_setup.specs.declared.WorkingPorts.{WorkingPorts}
+use Rattle.ps2_setup.specs.SetUp.{quieted, disable_devices, test_with, test_second, test_ports, enable_port, enable_ports}
 use Rattle.ps2_init.specs.Init.{has_mouse, reset_devices, set_up, or_passed, initialize}
 
 -- ---- what each step refuses with: 8 the controller's test, 9 the ports' tests, nothing the others
@@ -53,17 +54,17 @@ unfolding test_ports
 refuses_test_ports mouse =
     only_bind (only_any _)
     (λ first _. only_bind (only_any (test_second mouse))
-    (λ second _. only_done (on_cond (λ x. RefusesWith {A = Ports} (9 ∷ []) x) (first || second) tt tt)))
+    (λ second _. only_done (on_cond (λ x. RefusesWith {A = WorkingPorts} (9 ∷ []) x) (first || second) tt tt)))
 
 refuses_enable_port : (command : HostToControllerCommand) (clock interrupt : ℕ) (passed : Bool) (c : ControllerConfigurationByte) → Refuses [] (enable_port command clock interrupt passed c)
 refuses_enable_port command clock interrupt true c = refuses_then [] (refuses_command [] command) (λ _. only_done tt)
 refuses_enable_port command clock interrupt false c = only_done tt
 
-refuses_enable_ports : (ports : Ports) (c : ControllerConfigurationByte) → Refuses [] (enable_ports ports c)
+refuses_enable_ports : (ports : WorkingPorts) (c : ControllerConfigurationByte) → Refuses [] (enable_ports ports c)
 unfolding enable_ports
 refuses_enable_ports ports c =
-    refuses_then [] (refuses_enable_port EnablePort1 port1_clock_disabled port1_interrupt ports.first c)
-    (λ c. refuses_then [] (refuses_enable_port EnablePort2 port2_clock_disabled port2_interrupt ports.second c) (λ c. refuses_write_config [] c))
+    refuses_then [] (refuses_enable_port EnablePort1 port1_clock_disabled port1_interrupt ports.port_1_works c)
+    (λ c. refuses_then [] (refuses_enable_port EnablePort2 port2_clock_disabled port2_interrupt ports.port_2_works c) (λ c. refuses_write_config [] c))
 
 -- ---- all of them
 

@@ -1,6 +1,6 @@
 -- Initialisation of the controller as a tree of its reads and writes, and the devices that it found.
 -- Assumes nothing.
-use Rattle.std.specs.Prelude.{Bool, true, cond}
+use Rattle.std.specs.Prelude.{Bool, true, cond, Option, Some, None}
 use Rattle.bits.specs.Bits.{bit}
 use Rattle.exchange.specs.Exchange.{Exchange, done, bind}
 use Rattle.exchange.specs.Answer.{Answer, gives, refuses, and_then}
@@ -12,13 +12,13 @@ use Rattle.ps2_layouts.specs.Configuration.{port2_clock_disabled}
 use Rattle.ps2_answers.specs.Refusals.{Success, success}
 use Rattle.ps2_ports.specs.Ports.{read_config}
 use Rattle.ps2_keyboard.specs.Keyboard.{reset_keyboard}
+use Rattle.ps2_mouse.specs.declared.PS2Mouse.{PS2Mouse}
 use Rattle.ps2_mouse.specs.Mouse.{reset_mouse}
-use Rattle.ps2_setup.specs.SetUp.{quieted, disable_devices, test_with, Ports, test_ports, enable_ports}
+use Rattle.ps2_setup.specs.declared.WorkingPorts.{WorkingPorts}
+use Rattle.ps2_setup.specs.SetUp.{quieted, disable_devices, test_with, test_ports, enable_ports}
 use Rattle.ps2_init.specs.declared.PS2Controller.{PS2Controller}
 use Rattle.ps2_init.specs.declared.KeyboardRef.{KeyboardRef}
 use Rattle.ps2_init.specs.declared.KeyboardRef.TheVariants as KeyboardIs
-use Rattle.ps2_init.specs.declared.MouseRef.{MouseRef}
-use Rattle.ps2_init.specs.declared.MouseRef.TheVariants as MouseIs
 
 -- ---- its steps: those of the controller alone are in crates/ps2_setup/specs/SetUp.antt
 
@@ -38,7 +38,7 @@ abbrev pub read_last : PS2Controller → Exchange (Answer PS2Controller)
 read_last controller = and_then read_config (λ _. done (gives controller))
 
 -- All of them, said from the last on: from the enabling of the ports, from their tests, from the controller's test, and from the start.
-abbrev pub enabled : ControllerConfigurationByte → Ports → Exchange (Answer PS2Controller)
+abbrev pub enabled : ControllerConfigurationByte → WorkingPorts → Exchange (Answer PS2Controller)
 enabled config ports = and_then (enable_ports ports config) (λ _. bind reset_devices read_last)
 
 abbrev pub ports_tested : ControllerConfigurationByte → Bool → Exchange (Answer PS2Controller)
@@ -66,5 +66,5 @@ initialize passed = cond passed.initialized (done (left (refuses 1) passed)) (bi
 abbrev pub keyboard_ref : PS2Controller → KeyboardRef
 keyboard_ref c = cond c.keyboard_attached KeyboardIs.Attached KeyboardIs.NotAttached
 
-abbrev pub mouse_ref : PS2Controller → MouseRef
-mouse_ref c = cond c.mouse_attached (MouseIs.Attached (record { id = Zero })) MouseIs.NotAttached
+abbrev pub mouse_ref : PS2Controller → Option PS2Mouse
+mouse_ref c = cond c.mouse_attached (Some (record { id = Zero })) None

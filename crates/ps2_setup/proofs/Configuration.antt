@@ -14,12 +14,13 @@ use Rattle.exchange.proofs.Then.{among_more}
 use Rattle.ps2_layouts.specs.declared.configuration.ControllerConfigurationByte.{ControllerConfigurationByte}
 use Rattle.ps2_layouts.specs.Configuration.{port1_interrupt, port2_interrupt, port1_clock_disabled, port2_clock_disabled, port1_translation}
 use Rattle.ps2_ports.specs.Ports.{write_port, write_config}
-use Rattle.ps2_setup.specs.SetUp.{quieted, Ports, enable_ports}
+use Rattle.ps2_setup.specs.declared.WorkingPorts.{WorkingPorts}
+use Rattle.ps2_setup.specs.SetUp.{quieted, enable_ports}
 use Rattle.ps2_setup.specs.Configuration.{running_if, final_config, written_if}
 
 -- AE and A8 for the ports that passed, then 60 and the byte
 pub enable_ports_writes : (first second : Bool) (c : ControllerConfigurationByte)
-    → enable_ports (record { first = first; second = second }) c ≡ written_if first 0xAE (written_if second 0xA8 (write_config (final_config (record { first = first; second = second }) c)))
+    → enable_ports (record { port_1_works = first; port_2_works = second }) c ≡ written_if first 0xAE (written_if second 0xA8 (write_config (final_config (record { port_1_works = first; port_2_works = second }) c)))
 unfolding enable_ports and_then bind write_port
 enable_ports_writes true true c = refl
 enable_ports_writes true false c = refl
@@ -41,12 +42,12 @@ module _ (k : ℕ) where
   running_other false clock interrupt c hc hi = refl
 
   -- "Other configuration bits are kept."
-  pub final_other : (ports : Ports) (c : ControllerConfigurationByte)
+  pub final_other : (ports : WorkingPorts) (c : ControllerConfigurationByte)
       → (T (among k (port1_interrupt ∷ port2_interrupt ∷ port1_clock_disabled ∷ port2_clock_disabled ∷ port1_translation ∷ [])) → ⊥)
       → bit k (final_config ports (quieted c)).bits ≡ bit k c.bits
   final_other ports c h =
-      let first : ControllerConfigurationByte = running_if ports.first port1_clock_disabled port1_interrupt (quieted c) in
-      running_other ports.second port2_clock_disabled port2_interrupt first (λ q. h (rw q tt)) (λ q. h (rw q tt))
-      ∙ running_other ports.first port1_clock_disabled port1_interrupt (quieted c) (λ q. h (rw q tt)) (λ q. h (rw q tt))
+      let first : ControllerConfigurationByte = running_if ports.port_1_works port1_clock_disabled port1_interrupt (quieted c) in
+      running_other ports.port_2_works port2_clock_disabled port2_interrupt first (λ q. h (rw q tt)) (λ q. h (rw q tt))
+      ∙ running_other ports.port_1_works port1_clock_disabled port1_interrupt (quieted c) (λ q. h (rw q tt)) (λ q. h (rw q tt))
       ∙ quieted_other c
       (λ x. h (among_more (port1_interrupt ∷ port2_interrupt ∷ port1_translation ∷ []) (port1_interrupt ∷ port2_interrupt ∷ port1_clock_disabled ∷ port2_clock_disabled ∷ port1_translation ∷ []) k tt x))

@@ -1,4 +1,4 @@
 -- Laws of the steps that concern the controller alone.
 pub mod Configuration
 pub mod Trials
-pub mod Ports
+pub mod Writing

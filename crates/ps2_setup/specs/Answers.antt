@@ -1,25 +1,26 @@
 -- What the answers of the steps' code say of the ends of plays.
 -- Assumes nothing.
-use Rattle.std.specs.Prelude.{Bool, ℕ}
-use Rattle.exchange.specs.Exchange.{End, yields, lacks}
-use Rattle.exchange.specs.Answer.{Answer, gives}
+use Rattle.std.specs.Prelude.{Bool, ℕ, ◌≡◌, Result}
+use Rattle.exchange.specs.Exchange.{told_end}
+use Rattle.exchange.specs.Answer.{gives}
+use Rattle.exchange.specs.Refuses.{given}
 use Rattle.ps2_bytes.specs.declared.command.HostToControllerCommand.{HostToControllerCommand}
 use Rattle.ps2_bytes.specs.declared.command.HostToControllerCommand.TheVariants.{EnablePort1, EnablePort2}
 use Rattle.ps2_layouts.specs.Configuration.{port1_interrupt, port2_interrupt, port1_clock_disabled, port2_clock_disabled}
 use Rattle.ps2_ports.specs.declared.DevicePort.{DevicePort}
 use Rattle.ps2_ports.specs.declared.DevicePort.TheVariants.{Port1, Port2}
-use Rattle.ps2_answers.specs.Refusals.{lack_of, refused}
-use Rattle.ps2_setup.specs.declared.Trial.{Trial}
-use Rattle.ps2_setup.specs.declared.WorkingPorts.{WorkingPorts}
-use Rattle.ps2_setup.specs.declared.PortsAnswer.{PortsAnswer}
-use Rattle.ps2_setup.specs.SetUp.{Ports}
+use Rattle.ps2_answers.specs.declared.Counted.{Counted}
+use Rattle.ps2_answers.specs.declared.Refusal.{Refusal}
+use Rattle.ps2_answers.specs.Refusals.{Success}
+use Rattle.ps2_answers.specs.Answers.{ended, used_of, pairs_of}
 
 -- ---- steps whose failure is forgiven
 
--- "2 and 3 are replaced by nothing, forgiven by nothing."
-abbrev pub said_trial : Trial → End Bool
-said_trial (Trial.Worked b) = yields b
-said_trial (Trial.Lacked l) = lacks (lack_of l)
+-- "2 and 3 are replaced by nothing, forgiven by nothing.": whether a step worked, where it ended with an answer; its lack, where it lacked something; its counts.
+pub record Forgiven (answer : Result (Counted Success) (Counted Refusal)) (tried : Result (Counted Bool) (Counted Refusal)) : Type 0 where
+  pub end : ended tried ≡ told_end gives (told_end given (ended answer))
+  pub used : used_of tried ≡ used_of answer
+  pub pairs : pairs_of tried ≡ pairs_of answer
 
 -- ---- the two ports
 
@@ -35,10 +36,3 @@ clock_of Port2 = port2_clock_disabled
 abbrev pub interrupt_of : DevicePort → ℕ
 interrupt_of Port1 = port1_interrupt
 interrupt_of Port2 = port2_interrupt
-
-abbrev pub ports_of : WorkingPorts → Ports
-ports_of p = record { first = p.port_1_works; second = p.port_2_works }
-
-abbrev pub said_ports : PortsAnswer → End (Answer Ports)
-said_ports (PortsAnswer.Working p) = yields (gives (ports_of p))
-said_ports (PortsAnswer.Refused r) = refused r

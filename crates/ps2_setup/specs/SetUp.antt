@@ -12,6 +12,7 @@ use Rattle.ps2_layouts.specs.Configuration.{port1_interrupt, port2_interrupt, po
 use Rattle.ps2_answers.specs.Refusals.{Success}
 use Rattle.ps2_ports.specs.Ports.{write_command, flush_output_buffer, read_config, write_config}
 use Rattle.ps2_polling.specs.Polling.{test_controller, test_port}
+use Rattle.ps2_setup.specs.declared.WorkingPorts.{WorkingPorts}
 
 -- ---- the configuration
 
@@ -36,22 +37,17 @@ disable_devices = and_then (write_command DisablePort1) (λ _. and_then (write_c
 unfoldable pub test_with : ControllerConfigurationByte → Exchange (Answer Success)
 test_with c = and_then (write_config c) (λ _. and_then test_controller (λ _. write_config c))
 
--- Which of the two ports passed.
-pub record Ports : Type 0 where
-  pub first : Bool
-  pub second : Bool
-
 -- "A9 test only with a mouse"
 abbrev pub test_second : Bool → Exchange Bool
 test_second true = succeeds (test_port TestPort2)
 test_second false = done false
 
 -- "In initialisation: did at least one port pass? 9"
-abbrev pub at_least_one : Bool → Bool → Answer Ports
-at_least_one first second = cond (first || second) (gives (record { first = first; second = second })) (refuses 9)
+abbrev pub at_least_one : Bool → Bool → Answer WorkingPorts
+at_least_one first second = cond (first || second) (gives (record { port_1_works = first; port_2_works = second })) (refuses 9)
 
 -- "AB test; A9 test"
-unfoldable pub test_ports : Bool → Exchange (Answer Ports)
+unfoldable pub test_ports : Bool → Exchange (Answer WorkingPorts)
 test_ports mouse = bind (succeeds (test_port TestPort1)) (λ first. bind (test_second mouse) (λ second. done (at_least_one first second)))
 
 -- "For port 1 passing: AE, clear bit 4, set bit 0; port 2: A8, clear bit 5, set bit 1."
@@ -60,7 +56,7 @@ enable_port command clock interrupt true c = and_then (write_command command) (�
 enable_port command clock interrupt false c = done (gives c)
 
 -- Both, and then "Write 60 and the byte."
-unfoldable pub enable_ports : Ports → ControllerConfigurationByte → Exchange (Answer Success)
+unfoldable pub enable_ports : WorkingPorts → ControllerConfigurationByte → Exchange (Answer Success)
 enable_ports ports c =
-    and_then (enable_port EnablePort1 port1_clock_disabled port1_interrupt ports.first c)
-    (λ c. and_then (enable_port EnablePort2 port2_clock_disabled port2_interrupt ports.second c) (λ c. write_config c))
+    and_then (enable_port EnablePort1 port1_clock_disabled port1_interrupt ports.port_1_works c)
+    (λ c. and_then (enable_port EnablePort2 port2_clock_disabled port2_interrupt ports.port_2_works c) (λ c. write_config c))

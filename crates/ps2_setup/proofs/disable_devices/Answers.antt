@@ -1,82 +1,113 @@
--- `ps2_setup::disable_devices` meets its contract: AD and A7, each on the log's tail, and then the rest.
--- Assumes nothing.
+-- `ps2_setup::disable_devices` meets its contract: AD and A7, a byte that is dropped, and the configuration. Assumes nothing.
+use Prim.Native.Nat.{ℕ, ◌*◌, ◌<◌, ◌^◌}
 use native.Mathlib.Omega.{arith}
-use Prim.Native.Nat.{ℕ, ◌+◌, ◌*◌}
 use mathlib.Core.List.{List}
-use mathlib.Core.Path.{◌≡◌, refl, ap}
-use Rattle.exchange.specs.Exchange.{Exchange, bind, End, yields, Played, play, Writes}
-use Rattle.exchange.specs.Answer.{Answer, gives, on_given, and_then}
+use mathlib.Core.Path.{◌≡◌}
+use lib.ListN.{length}
+use Rattle.std.specs.Prelude.{Result, Ok, Err}
+use Rattle.exchange.specs.Exchange.{Exchange, Reads, Writes}
+use Rattle.exchange.specs.Answer.{Answer, and_then}
 use Rattle.exchange.specs.Parts.{part, restored}
-use Rattle.exchange.proofs.Position.{call_pairs_le, writes_pairs_le, writes_tail_le}
-use Rattle.exchange.proofs.Calls.{writes_then, writes_yields}
-use Rattle.exchange.proofs.Grouping.{and_then_assoc}
+use Rattle.exchange.specs.Position.{Reached}
 use Rattle.exchange.proofs.Counts.{counts}
 use Rattle.ps2_bytes.specs.declared.command.HostToControllerCommand.TheVariants.{DisablePort1, DisablePort2}
 use Rattle.ps2_layouts.specs.declared.configuration.ControllerConfigurationByte.{ControllerConfigurationByte}
+use Rattle.ps2_answers.specs.declared.Counted.{Counted}
+use Rattle.ps2_answers.specs.declared.Refusal.{Refusal}
+use Rattle.ps2_answers.specs.Refusals.{Success}
+use Rattle.ps2_answers.specs.Answers.{ended, used_of, pairs_of, behind}
+use Rattle.ps2_answers.proofs.Then.{exit, all_left, writes_told, first_steps, first_stops, then_steps, then_stops, then_ends, then_reads_steps, then_reads_stops}
 use Rattle.ps2_ports.specs.Ports.{write_command, flush_output_buffer, read_config}
-use Rattle.ps2_answers.specs.Refusals.{Success, success, said_done}
-use Rattle.ps2_answers.proofs.Refusals.{bind_refused}
 use Rattle.ps2_setup.specs.SetUp.{disable_devices}
+use Rattle.ps2_setup.proofs.Writing.{no_used}
 use Rattle.ps2_setup.proofs.disable_devices.Goals as goal
 
-abbrev commands : Exchange (Answer Success)
-commands = and_then (write_command DisablePort1) (λ _. write_command DisablePort2)
+-- what follows each exchange
+abbrev configured : Success → Exchange (Answer ControllerConfigurationByte)
+configured _ = read_config
 
-abbrev rest : Success → Exchange (Answer ControllerConfigurationByte)
-rest _ = and_then flush_output_buffer (λ _. read_config)
+abbrev flushed_next : Success → Exchange (Answer ControllerConfigurationByte)
+flushed_next _ = and_then flush_output_buffer configured
 
--- grouped as the definition has it
-grouped : (s l : List ℕ) {o : Played (Answer ControllerConfigurationByte)} → o ≡ play (bind commands (on_given rest)) s l → o ≡ play disable_devices s l
-unfolding disable_devices and_then
-grouped s l q = rw (and_then_assoc (write_command DisablePort1) (λ _. write_command DisablePort2) rest) at q
+abbrev second_next : Success → Exchange (Answer ControllerConfigurationByte)
+second_next _ = and_then (write_command DisablePort2) flushed_next
 
-both : (l : List ℕ) {e e₂ : End (Answer Success)} {u u₂ w w₂ : ℕ} {l' m : List ℕ} → Writes (write_command DisablePort1) l e u w l' → e ≡ yields (gives success)
-    → Writes (write_command DisablePort2) (part (2 * w) l') e₂ u₂ w₂ m → Writes commands l e₂ 0 (w + w₂) (restored (2 * w) l' m)
-unfolding and_then
-both l r q x = writes_yields (write_command DisablePort1) (on_given (λ _. write_command DisablePort2)) l r q refl x
+-- where it has come to when each has been made
+module _ (s l : List ℕ) (hs : length s < 2 ^ 64) (hl : length l < 2 ^ 64) {one : Counted Success} {l₁ : List ℕ}
+    (r : Writes (write_command DisablePort1) l (ended (Ok one)) one.used one.pairs l₁) where
+  at_one : Reached disable_devices s l (second_next one.value) one.used one.pairs l₁
+  unfolding disable_devices
+  at_one = first_steps (write_command DisablePort1) second_next s l one (writes_told (Ok one) r s)
 
-pub overflow_add-both : goal.overflow_add-both
-overflow_add-both c =
-    omega (arith, writes_pairs_le (both _ c.write_command-first.ensures (ap said_done c.in-Done.is) c.write_command-second.ensures), c.well_formed)
+  module _ (b : Result (Counted Success) (Counted Refusal)) {m : List ℕ} (r₂ : Writes (write_command DisablePort2) (part (2 * one.pairs) l₁) (ended b) (used_of b) (pairs_of b) m)
+      {both : Counted Success} (q : Ok both ≡ behind one b) where
+    at_both : Reached disable_devices s l (flushed_next both.value) both.used both.pairs (restored (2 * one.pairs) l₁ m)
+    at_both = then_steps hs hl one (write_command DisablePort2) flushed_next at_one b (writes_told b r₂ (part one.used s)) both q
 
-pub overflow_mul-from : goal.overflow_mul-from
-overflow_mul-from c =
-    omega (arith, writes_pairs_le (both _ c.write_command-first.ensures (ap said_done c.in-Done.is) c.write_command-second.ensures), c.well_formed)
+    none_used : both.used ≡ 0
+    none_used = no_used one b both q r.no_bytes r₂.no_bytes
 
-pub slice_bounds-flush_and_read_config-count : goal.slice_bounds-flush_and_read_config-count
-slice_bounds-flush_and_read_config-count c =
-    writes_tail_le (both _ c.write_command-first.ensures (ap said_done c.in-Done.is) c.write_command-second.ensures)
+    module _ (f : Result (Counted Success) (Counted Refusal)) (r₃ : Reads flush_output_buffer s (ended f) (used_of f) (pairs_of f)) where
+      dropped : Reads flush_output_buffer (part both.used s) (ended f) (used_of f) (pairs_of f)
+      dropped = rw (all_left s both.used none_used) r₃
 
-pub slice_bounds-flush_and_read_config-start : goal.slice_bounds-flush_and_read_config-start
-slice_bounds-flush_and_read_config-start c =
-    writes_tail_le (both _ c.write_command-first.ensures (ap said_done c.in-Done.is) c.write_command-second.ensures)
+      at_flushed : {flushed : Counted Success} → Ok flushed ≡ behind both f → Reached disable_devices s l (configured flushed.value) flushed.used flushed.pairs (restored (2 * one.pairs) l₁ m)
+      at_flushed {flushed} p = then_reads_steps hs hl both flush_output_buffer configured at_both f dropped flushed p
 
-pub returns-in-Refused : goal.returns-in-Refused
-unfolding disable_devices and_then
-returns-in-Refused c =
-    bind_refused (write_command DisablePort1) (λ _. and_then (write_command DisablePort2) rest) _ _ (c.write_command-first.ensures.with_any _) c.in-Refused.e (ap said_done c.in-Refused.is)
+pub returns-in_err-one : goal.returns-in_err-one
+unfolding disable_devices
+returns-in_err-one c =
+    rw (exit _ _ c.from_residual.ensures.1) (first_stops (write_command DisablePort1) second_next _ _ _ (writes_told (Err _) c.in_err-one.ensures _))
 
-pub returns-in-Refused-port2 : goal.returns-in-Refused-port2
-returns-in-Refused-port2 c =
-    grouped _ _
-    (bind_refused commands rest _ _ ((both _ c.write_command-first.ensures (ap said_done c.in-Done.is) c.write_command-second.ensures).with_any _)
-    c.in-Refused-port2.e (ap said_done c.in-Refused-port2.is))
+pub returns-in_err-both : goal.returns-in_err-both
+returns-in_err-both c =
+    rw (exit _ _ c.from_residual-in_err-both.ensures.1)
+    (then_stops (omega (arith, c.well_formed)) (omega (arith, c.well_formed)) c.in_ok-one.one (write_command DisablePort2) flushed_next
+    (at_one _ _ (omega (arith, c.well_formed)) (omega (arith, c.well_formed)) c.in_ok-one.ensures) _ (writes_told _ c.write_command-2.ensures _) _ c.in_err-both.ensures)
+
+pub returns-in_err-flushed : goal.returns-in_err-flushed
+returns-in_err-flushed c =
+    let r = c.in_ok-one.ensures in
+    let r₂ = c.write_command-2.ensures in
+    let q = c.in_ok-both.ensures in
+    rw (exit _ _ c.from_residual-in_err-flushed.ensures.1)
+    (then_reads_stops (omega (arith, c.well_formed)) (omega (arith, c.well_formed)) c.in_ok-both.both flush_output_buffer configured
+    (at_both _ _ (omega (arith, c.well_formed)) (omega (arith, c.well_formed)) r _ r₂ q) _
+    (dropped _ _ (omega (arith, c.well_formed)) (omega (arith, c.well_formed)) r _ r₂ q _ c.flush_output_buffer.ensures) _ c.in_err-flushed.ensures)
 
 pub returns : goal.returns
 returns c =
-    grouped _ _
-    (writes_then commands (on_given rest) _ (both _ c.write_command-first.ensures (ap said_done c.in-Done.is) c.write_command-second.ensures) _
-    (ap said_done c.in-Done-port2.is) refl c.flush_and_read_config-c.ensures)
+    rw c.then-3.ensures
+    (then_ends (omega (arith, c.well_formed)) (omega (arith, c.well_formed)) c.in_ok-flushed.flushed read_config
+    (at_flushed _ _ (omega (arith, c.well_formed)) (omega (arith, c.well_formed)) c.in_ok-one.ensures _ c.write_command-2.ensures c.in_ok-both.ensures _ c.flush_output_buffer.ensures c.in_ok-flushed.ensures)
+    _ c.read_config.ensures)
 
-pub overflow_add-result : goal.overflow_add-result
-overflow_add-result c =
-    omega (arith, call_pairs_le _ _ _ (returns c), c.well_formed)
-
-pub overflow_mul-at : goal.overflow_mul-at
-overflow_mul-at c = search counts
+pub overflow_mul-one : goal.overflow_mul-one
+overflow_mul-one c = search (counts, c.in_ok-one.ensures)
 
 pub slice_bounds-write_command-count : goal.slice_bounds-write_command-count
-slice_bounds-write_command-count c = search counts
+slice_bounds-write_command-count c = search (counts, c.in_ok-one.ensures)
 
 pub slice_bounds-write_command-start : goal.slice_bounds-write_command-start
-slice_bounds-write_command-start c = search counts
+slice_bounds-write_command-start c = search (counts, c.in_ok-one.ensures)
+
+pub slice_bounds-read_config-count : goal.slice_bounds-read_config-count
+slice_bounds-read_config-count c =
+    (at_flushed _ _ (omega (arith, c.well_formed)) (omega (arith, c.well_formed)) c.in_ok-one.ensures _ c.write_command-2.ensures c.in_ok-both.ensures _ c.flush_output_buffer.ensures c.in_ok-flushed.ensures).used_le
+
+pub slice_bounds-read_config-start : goal.slice_bounds-read_config-start
+slice_bounds-read_config-start c =
+    (at_flushed _ _ (omega (arith, c.well_formed)) (omega (arith, c.well_formed)) c.in_ok-one.ensures _ c.write_command-2.ensures c.in_ok-both.ensures _ c.flush_output_buffer.ensures c.in_ok-flushed.ensures).used_le
+
+pub overflow_mul-flushed : goal.overflow_mul-flushed
+overflow_mul-flushed c =
+    let at = at_flushed _ _ (omega (arith, c.well_formed)) (omega (arith, c.well_formed)) c.in_ok-one.ensures _ c.write_command-2.ensures c.in_ok-both.ensures _ c.flush_output_buffer.ensures c.in_ok-flushed.ensures in
+    omega (arith, at.pairs_le, at.same_length, c.well_formed)
+
+pub slice_bounds-read_config-count-2 : goal.slice_bounds-read_config-count-2
+slice_bounds-read_config-count-2 c =
+    (at_flushed _ _ (omega (arith, c.well_formed)) (omega (arith, c.well_formed)) c.in_ok-one.ensures _ c.write_command-2.ensures c.in_ok-both.ensures _ c.flush_output_buffer.ensures c.in_ok-flushed.ensures).pairs_le
+
+pub slice_bounds-read_config-start-2 : goal.slice_bounds-read_config-start-2
+slice_bounds-read_config-start-2 c =
+    (at_flushed _ _ (omega (arith, c.well_formed)) (omega (arith, c.well_formed)) c.in_ok-one.ensures _ c.write_command-2.ensures c.in_ok-both.ensures _ c.flush_output_buffer.ensures c.in_ok-flushed.ensures).pairs_le
