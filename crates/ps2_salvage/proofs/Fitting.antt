@@ -9,10 +9,10 @@ use native.Mathlib.Omega.{arith}
 use lib.Dec.{leb, ltb}
 use lib.ListN.{length, length-append}
 use borrow.Author.Tests.{leb-true, leb-false, ltb-true, ltb-false}
-use Rattle.ps2_salvage.specs.declared.SalvageAnswer.{SalvageAnswer}
-use Rattle.ps2_salvage.specs.declared.SalvageAnswer.TheVariants.{Done, NoRoom}
+use Rattle.std.specs.Prelude.{Ok, Err}
+use Rattle.ps2_salvage.specs.declared.SalvageRefusal.TheVariants.{NoRoom}
 use Rattle.ps2_salvage.specs.Pieces.{Piece, packet, dropped, all_bytes, packet_bytes, positions_from}
-use Rattle.ps2_salvage.specs.Salvage.{ends, after, written}
+use Rattle.ps2_salvage.specs.Salvage.{Ending, ends, after, written}
 use Rattle.ps2_salvage.proofs.Written.{after-after, written_nothing, written-packet, no_room_for_packet, written_position, no_place_for_position}
 
 -- the bytes of pieces that are dropped
@@ -55,9 +55,9 @@ pub data Stops (room places : ℕ) : List Piece → Type 0 where
   no_room : {bytes : List ℕ} {more : List Piece} → room < length bytes → Stops room places (packet bytes ∷ more)
   no_place : {b : ℕ} {more : List Piece} → places ≤ 0 → Stops room places (dropped b ∷ more)
 
-abbrev pub stop_answer : List Piece → SalvageAnswer
-stop_answer [] = Done
-stop_answer (p ∷ more) = NoRoom
+abbrev pub stop_answer : List Piece → Ending
+stop_answer [] = Ok tt
+stop_answer (p ∷ more) = Err NoRoom
 
 pub written_stops : (at : ℕ) {room places : ℕ} {more : List Piece} → Stops room places more → written at room places more ≡ ends (stop_answer more) at
 written_stops at {room} {places} Stops.no_piece = written_nothing at room places

@@ -1,5 +1,4 @@
 -- Laws of salvaging.
-pub mod Numbers
 pub mod Pieces
 pub mod Output
 pub mod Written

@@ -8,8 +8,9 @@ use native.Mathlib.Nat.{zero-add}
 use native.Mathlib.Omega.{arith}
 use lib.ListN.{length, drop, length-append}
 use lib.Seq.{drop-append_seam}
+use Rattle.std.specs.Prelude.{Ok, Err}
 use Rattle.ps2_bytes.specs.declared.response.MouseId.{MouseId}
-use Rattle.ps2_salvage.specs.declared.SalvageAnswer.TheVariants.{Done, NoRoom}
+use Rattle.ps2_salvage.specs.declared.SalvageRefusal.TheVariants.{NoRoom}
 use Rattle.ps2_salvage.specs.Pieces.{Piece, all_bytes, packet_bytes, positions_from}
 use Rattle.ps2_salvage.specs.Salvage.{Outcome, written}
 use Rattle.ps2_salvage.specs.Limits.{unhindered, Limits}
@@ -19,17 +20,17 @@ use Rattle.ps2_salvage.proofs.Together.{counted}
 
 -- all pieces of a recording, written
 abbrev everything : List Piece → Outcome
-everything parts = record { answer = Done; used = 0 + length (all_bytes parts); packets = packet_bytes parts; positions = positions_from 0 parts }
+everything parts = record { answer = Ok tt; used = 0 + length (all_bytes parts); packets = packet_bytes parts; positions = positions_from 0 parts }
 
 all_written : (room places : ℕ) (parts : List Piece) → length (packet_bytes parts) ≤ room → length (dropped_bytes parts) ≤ places → written 0 room places parts ≡ everything parts
 all_written room places parts h g =
     fitting_written 0 (record { fit = parts; more = []; parted = append-nil parts; packets_fit = h; positions_fit = g; stops = Stops.no_piece })
 
 -- a pass that is stopped by nothing has room for everything
-not_all : {room places : ℕ} {parts : List Piece} (f : Fitting room places parts) → (room < length (packet_bytes parts)) ⊎ (places < length (dropped_bytes parts)) → stop_answer f.more ≡ NoRoom
+not_all : {room places : ℕ} {parts : List Piece} (f : Fitting room places parts) → (room < length (packet_bytes parts)) ⊎ (places < length (dropped_bytes parts)) → stop_answer f.more ≡ Err NoRoom
 not_all {room} {places} {parts} f short = go f.more refl
   where
-    go : (more : List Piece) → f.more ≡ more → stop_answer more ≡ NoRoom
+    go : (more : List Piece) → f.more ≡ more → stop_answer more ≡ Err NoRoom
     go (p ∷ more) e = refl
     go [] e =
         let all : f.fit ≡ parts = sym (append-nil f.fit) ∙ ap (λ (l : List Piece). f.fit ++ l) (sym e) ∙ f.parted in

@@ -1,13 +1,15 @@
 -- What the next piece of a recording is.
 -- Assumes nothing.
-use mathlib.Core.Bool.{true, false}
-use mathlib.Core.Path.{◌≡◌, refl, ap, sym, ◌∙◌}
+use mathlib.Core.Bool.{true, false, cond}
+use mathlib.Core.Logic.{◌⊎◌, inl, inr}
+use mathlib.Core.Path.{◌≡◌, refl, ap, ap₂, sym, ◌∙◌}
 use mathlib.Core.List.{List, [], ◌∷◌}
 use Prim.Native.Nat.{ℕ, zero, suc, ◌+◌, ◌-◌, ◌≤◌, ◌<◌}
 use native.Mathlib.Numerals.{add-one}
 use native.Mathlib.Omega.{arith}
 use lib.ListN.{length, get_or, take, drop, length-drop, drop_of_length-le}
 use lib.Seq.{drop-cons, drop-drop}
+use lib.Dec.{leb}
 use borrow.Author.Tests.{le-leb, lt-leb}
 use Rattle.ps2_bytes.specs.declared.response.MouseId.{MouseId}
 use Rattle.ps2_bytes.specs.declared.response.MouseId.TheVariants.{Zero, Three, Four}
@@ -51,6 +53,18 @@ unfolding pieces_after
 pieces_packet id b bytes e h =
     rw (e, le-leb (packet_length id) (length (b ∷ bytes)) h)
     (ap (λ (l : List Piece). packet (take (packet_length id) (b ∷ bytes)) ∷ l) (pieces_after_lem id (packet_length id - 1) bytes ∙ ap (pieces id) (others_drop id b bytes)))
+
+-- a mouse of identity 3 has packets as long as one of identity 4
+three_four : (others : ℕ) (bytes : List ℕ) → pieces_after Three others bytes ≡ pieces_after Four others bytes
+unfolding pieces_after
+three_four others [] = refl
+three_four (suc others) (b ∷ bytes) = three_four others bytes
+three_four zero (b ∷ bytes) =
+    ap₂ (λ (p q : List Piece). cond (starts b) (cond (leb 4 (length (b ∷ bytes))) (packet (take 4 (b ∷ bytes)) ∷ p) []) (dropped b ∷ q)) (three_four 3 bytes) (three_four 0 bytes)
+
+pub pieces_of_four : (id : MouseId) → (id ≡ Three) ⊎ (id ≡ Four) → (bytes : List ℕ) → pieces id bytes ≡ pieces Four bytes
+pieces_of_four id (inl e) bytes = ap (λ (j : MouseId). pieces j bytes) e ∙ three_four 0 bytes
+pieces_of_four id (inr e) bytes = ap (λ (j : MouseId). pieces j bytes) e
 
 -- ---- from a position on
 

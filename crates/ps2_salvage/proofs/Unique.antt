@@ -9,9 +9,8 @@ use lib.ListN.{length, take}
 use lib.Seq.{length-take-le}
 use Rattle.ps2_bytes.specs.declared.response.MouseId.{MouseId}
 use Rattle.ps2_packet.specs.Packet.{packet_length}
-use Rattle.ps2_salvage.specs.declared.SalvageAnswer.{SalvageAnswer}
 use Rattle.ps2_salvage.specs.Pieces.{pieces, all_bytes, packet_bytes, positions_from}
-use Rattle.ps2_salvage.specs.Salvage.{Outcome, ends, after, written, salvaged}
+use Rattle.ps2_salvage.specs.Salvage.{Ending, Outcome, ends, after, written, salvaged}
 use Rattle.ps2_salvage.specs.Rules.{Ended, Rules}
 use Rattle.ps2_salvage.proofs.Pieces.{pieces_dropped, pieces_packet}
 use Rattle.ps2_salvage.proofs.Written.{written_nothing, no_room_for_packet, no_place_for_position}
@@ -19,7 +18,7 @@ use Rattle.ps2_salvage.proofs.Split.{pieces_laid, pieces_of_short}
 use Rattle.ps2_salvage.proofs.Fitting.{dropped_bytes, positions_length, written_fits}
 
 -- what comes of a rest before which a pass ended
-ended_written : {id : MouseId} {room places : ℕ} {answer : SalvageAnswer} {rest : List ℕ} (at : ℕ) → Ended id room places answer rest
+ended_written : {id : MouseId} {room places : ℕ} {answer : Ending} {rest : List ℕ} (at : ℕ) → Ended id room places answer rest
     → written at room places (pieces id rest) ≡ ends answer at
 ended_written {id} {room} {places} at (Ended.short t) = ap (written at room places) (pieces_of_short id t) ∙ written_nothing at room places
 ended_written {id} {room} {places} at (Ended.no_room {b} {bytes} e n h) =

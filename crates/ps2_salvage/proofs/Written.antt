@@ -5,7 +5,8 @@ use mathlib.Core.List.{List, [], ◌∷◌, ◌++◌, append_assoc, append-nil}
 use Prim.Native.Nat.{ℕ, ◌+◌, ◌-◌, ◌≤◌, ◌<◌}
 use lib.ListN.{length}
 use borrow.Author.Tests.{le-leb, lt-leb, lt-ltb, le-ltb}
-use Rattle.ps2_salvage.specs.declared.SalvageAnswer.TheVariants.{Done, NoRoom}
+use Rattle.std.specs.Prelude.{Ok, Err}
+use Rattle.ps2_salvage.specs.declared.SalvageRefusal.TheVariants.{NoRoom}
 use Rattle.ps2_salvage.specs.Pieces.{Piece, packet, dropped}
 use Rattle.ps2_salvage.specs.Salvage.{Outcome, ends, after, written}
 
@@ -23,7 +24,7 @@ after_position a b d o = after-after a b [] d o ∙ ap (λ (l : List ℕ). after
 
 -- ---- the next piece
 
-pub written_nothing : (at room places : ℕ) → written at room places [] ≡ ends Done at
+pub written_nothing : (at room places : ℕ) → written at room places [] ≡ ends (Ok tt) at
 unfolding written
 written_nothing at room places = refl
 
@@ -32,7 +33,7 @@ pub written-packet : (at room places : ℕ) (bytes : List ℕ) (more : List Piec
 unfolding written
 written-packet at room places bytes more h = rw (le-leb (length bytes) room h)
 
-pub no_room_for_packet : (at room places : ℕ) (bytes : List ℕ) (more : List Piece) → room < length bytes → written at room places (packet bytes ∷ more) ≡ ends NoRoom at
+pub no_room_for_packet : (at room places : ℕ) (bytes : List ℕ) (more : List Piece) → room < length bytes → written at room places (packet bytes ∷ more) ≡ ends (Err NoRoom) at
 unfolding written
 no_room_for_packet at room places bytes more h = rw (lt-leb (length bytes) room h)
 
@@ -41,6 +42,6 @@ pub written_position : (at room places b : ℕ) (more : List Piece) → 0 < plac
 unfolding written
 written_position at room places b more h = rw (lt-ltb 0 places h)
 
-pub no_place_for_position : (at room places b : ℕ) (more : List Piece) → places ≤ 0 → written at room places (dropped b ∷ more) ≡ ends NoRoom at
+pub no_place_for_position : (at room places b : ℕ) (more : List Piece) → places ≤ 0 → written at room places (dropped b ∷ more) ≡ ends (Err NoRoom) at
 unfolding written
 no_place_for_position at room places b more h = rw (le-ltb 0 places h)

@@ -1,6 +1,5 @@
 -- Recorded mouse bytes, brought back into step.
 pub mod Pieces
-pub mod Numbers
 pub mod Salvage
 pub mod Rules
 pub mod Together

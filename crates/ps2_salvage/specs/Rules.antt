@@ -1,12 +1,11 @@
 -- The rules of request 2.8 as a relation, each by itself: what an outcome must be, however it is come by.
 -- Assumes nothing.
-use Rattle.std.specs.Prelude.{true, false, ◌≡◌, List, [], ◌∷◌, ◌++◌, ℕ, ◌-◌, ◌≤◌, ◌<◌, length}
+use Rattle.std.specs.Prelude.{true, false, ◌≡◌, List, [], ◌∷◌, ◌++◌, ℕ, ◌-◌, ◌≤◌, ◌<◌, length, Ok, Err}
 use Rattle.ps2_bytes.specs.declared.response.MouseId.{MouseId}
 use Rattle.ps2_packet.specs.Packet.{packet_length}
-use Rattle.ps2_salvage.specs.declared.SalvageAnswer.{SalvageAnswer}
-use Rattle.ps2_salvage.specs.declared.SalvageAnswer.TheVariants.{Done, NoRoom}
+use Rattle.ps2_salvage.specs.declared.SalvageRefusal.TheVariants.{NoRoom}
 use Rattle.ps2_salvage.specs.Pieces.{Piece, packet, dropped, starts, all_bytes, packet_bytes, positions_from}
-use Rattle.ps2_salvage.specs.Salvage.{Outcome}
+use Rattle.ps2_salvage.specs.Salvage.{Ending, Outcome}
 
 -- Pieces of the right kind: a packet has its identity's length and starts with bit 3 set, a dropped byte has it clear.
 pub data InStep (id : MouseId) : List Piece → Type 0 where
@@ -20,10 +19,10 @@ pub data Short (id : MouseId) : List ℕ → Type 0 where
   tail : {b : ℕ} {bytes : List ℕ} → starts b ≡ true → length (b ∷ bytes) < packet_length id → Short id (b ∷ bytes)
 
 -- Why a pass ends before a rest, with so much room and so many places left.
-pub data Ended (id : MouseId) (room places : ℕ) : SalvageAnswer → List ℕ → Type 0 where
-  short : {rest : List ℕ} → Short id rest → Ended id room places Done rest
-  no_room : {b : ℕ} {bytes : List ℕ} → starts b ≡ true → packet_length id ≤ length (b ∷ bytes) → room < packet_length id → Ended id room places NoRoom (b ∷ bytes)
-  no_place : {b : ℕ} {bytes : List ℕ} → starts b ≡ false → places ≡ 0 → Ended id room places NoRoom (b ∷ bytes)
+pub data Ended (id : MouseId) (room places : ℕ) : Ending → List ℕ → Type 0 where
+  short : {rest : List ℕ} → Short id rest → Ended id room places (Ok tt) rest
+  no_room : {b : ℕ} {bytes : List ℕ} → starts b ≡ true → packet_length id ≤ length (b ∷ bytes) → room < packet_length id → Ended id room places (Err NoRoom) (b ∷ bytes)
+  no_place : {b : ℕ} {bytes : List ℕ} → starts b ≡ false → places ≡ 0 → Ended id room places (Err NoRoom) (b ∷ bytes)
 
 pub record Rules (id : MouseId) (room places : ℕ) (bytes : List ℕ) (o : Outcome) : Type 0 where
   -- what was used, in pieces, and the unused rest

@@ -1,8 +1,9 @@
 -- A pass over a recording by plain numbers.
 -- Assumes nothing.
+use Rattle.std.specs.Prelude.{Result, Ok, Err}
+use Rattle.ps2_bytes.specs.declared.response.MouseId.{MouseId}
+use Rattle.ps2_bytes.specs.declared.Unlisted.{Unlisted}
 use Rattle.std.specs.Prelude.{◌≡◌, List, ℕ, length}
-use Rattle.ps2_bytes.specs.declared.response.MouseIdByte.{MouseIdByte}
-use Rattle.ps2_bytes.specs.declared.response.MouseIdByte.TheVariants.{Listed, Unlisted}
 use Rattle.ps2_salvage.specs.Salvage.{Outcome, answer_number, salvaged, over}
 use Rattle.salvage_calls.specs.declared.SalvagedNumbers.{SalvagedNumbers}
 
@@ -19,6 +20,6 @@ pub record Numbers (o : Outcome) (packets positions : List ℕ) (r : SalvagedNum
 abbrev pub no_identity : SalvagedNumbers
 no_identity = record { number = 255; used = 0; packet_bytes = 0; dropped = 0 }
 
-abbrev pub Called : MouseIdByte → List ℕ → (packets positions : List ℕ) → SalvagedNumbers → (packets' positions' : List ℕ) → Type 0
-Called (Listed id) bytes packets positions r packets' positions' = Numbers (salvaged id (length packets) (length positions) bytes) packets positions r packets' positions'
-Called Unlisted bytes packets positions r packets' positions' = (r ≡ no_identity) × (packets' ≡ packets) × (positions' ≡ positions)
+abbrev pub Called : Result MouseId Unlisted → List ℕ → (packets positions : List ℕ) → SalvagedNumbers → (packets' positions' : List ℕ) → Type 0
+Called (Ok id) bytes packets positions r packets' positions' = Numbers (salvaged id (length packets) (length positions) bytes) packets positions r packets' positions'
+Called (Err e) bytes packets positions r packets' positions' = (r ≡ no_identity) × (packets' ≡ packets) × (positions' ≡ positions)

@@ -4,8 +4,8 @@
 ghost use Rattle.ps2_bytes.specs.Responses.{mouse_id_read};
 ghost use Rattle.salvage_calls.specs.Numbers.{Called};
 
-use ps2_bytes::{MouseId, MouseIdByte};
-use ps2_salvage::{SalvageAnswer, Salvaged, salvage};
+use ps2_bytes::MouseId;
+use ps2_salvage::salvage;
 
 // What a pass answered, by numbers.
 #[repr(C)]
@@ -30,18 +30,20 @@ pub extern "C" fn salvage_recording(
 ) -> SalvagedNumbers
     ensures { Called (mouse_id_read id) bytes.now packets.old positions.old result packets.new positions.new }
 {
-    match MouseId::from_byte(id) {
-        MouseIdByte::Listed(identity) => {
+    match MouseId::try_from(id) {
+        Ok(identity) => {
             let s = salvage(identity, bytes, packets, positions);
-            let answer = s.answer;
             SalvagedNumbers {
-                number: answer.number() as u64,
+                number: match s.answer {
+                    Ok(()) => 0,
+                    Err(refusal) => u64::from(refusal.number()),
+                },
                 used: s.used,
                 packet_bytes: s.packet_bytes,
                 dropped: s.dropped,
             }
         }
-        MouseIdByte::Unlisted => SalvagedNumbers {
+        Err(_) => SalvagedNumbers {
             number: NO_IDENTITY,
             used: 0,
             packet_bytes: 0,

@@ -6,16 +6,16 @@ use Rattle.ps2_salvage.proofs.Going.{Going, Onward}
 use Rattle.ps2_salvage.proofs.pass.Given as goal
 
 -- the packets between two dropped bytes
-abbrev pub invariant-loop-used : goal.invariant-loop-used
-invariant-loop-used l =
-    Onward l.id l.bytes l.initial.packets l.positions l.initial.used l.initial.packet_bytes l.dropped l.packets l.used l.packet_bytes
+abbrev pub invariant-loop-packet : goal.invariant-loop-packet
+invariant-loop-packet g l =
+    Onward g.id l.bytes l.initial.packets l.positions l.initial.used l.initial.packet_bytes l.dropped l.packets l.used l.packet_bytes
 
-abbrev pub decreases-loop-used : goal.decreases-loop-used
-decreases-loop-used l = length l.bytes - l.used
+abbrev pub decreases-loop-packet : goal.decreases-loop-packet
+decreases-loop-packet g l = length l.bytes - l.used
 
 abbrev pub invariant-pass : goal.invariant-pass
-invariant-pass l =
-    Going l.id l.bytes l.initial.packets l.initial.positions l.packets l.positions l.used l.packet_bytes l.dropped
+invariant-pass g l =
+    Going g.id l.bytes l.initial.packets l.initial.positions l.packets l.positions l.used l.packet_bytes l.dropped
 
 abbrev pub decreases-pass : goal.decreases-pass
-decreases-pass l = length l.bytes - l.used
+decreases-pass g l = length l.bytes - l.used

@@ -1,15 +1,16 @@
 -- `salvage_calls::salvage_recording` meets its contract: the pass of the identity that the byte says, its answer by number.
 -- Assumes nothing.
+use native.Mathlib.Omega.{arith}
 use mathlib.Core.Path.{refl, ap, sym, ◌∙◌}
 use Rattle.ps2_salvage.specs.Salvage.{answer_number}
 use Rattle.salvage_calls.proofs.salvage_recording.Goals as goal
 
-pub returns-in-Listed : goal.returns-in-Listed
-returns-in-Listed c =
+pub returns-in-Ok-answer : goal.returns-in-Ok-answer
+returns-in-Ok-answer c =
     let pass = c.salvage-s.ensures in
-    rw (sym c.from_byte.ensures ∙ c.in-Listed.is)
+    rw (sym c.try_from.ensures ∙ c.in-Ok.is)
     (record {
-      number = c.number.ensures ∙ ap answer_number pass.answer;
+      number = ap answer_number (sym c.in-Ok-answer.is ∙ pass.answer);
       used = pass.used;
       packet_bytes = pass.packet_bytes;
       dropped = pass.dropped;
@@ -17,5 +18,19 @@ returns-in-Listed c =
       positions_left = pass.positions_left;
     })
 
-pub returns-in-Unlisted : goal.returns-in-Unlisted
-returns-in-Unlisted c = rw (sym c.from_byte.ensures ∙ c.in-Unlisted.is) (refl, refl, refl)
+pub returns-in-Err-answer : goal.returns-in-Err-answer
+returns-in-Err-answer c =
+    let pass = c.salvage-s.ensures in
+    let e = ap answer_number (sym c.in-Err-answer.is ∙ pass.answer) in
+    rw (sym c.try_from.ensures ∙ c.in-Ok.is)
+    (record {
+      number = omega (arith, e, c.number.ensures);
+      used = pass.used;
+      packet_bytes = pass.packet_bytes;
+      dropped = pass.dropped;
+      packets_left = pass.packets_left;
+      positions_left = pass.positions_left;
+    })
+
+pub returns-in-Err : goal.returns-in-Err
+returns-in-Err c = rw (sym c.try_from.ensures ∙ c.in-Err.is) (refl, refl, refl)
