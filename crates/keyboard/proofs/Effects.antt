@@ -1,5 +1,6 @@
 -- What a call makes of its keyboard's part, and what a call with a new event, or with none, makes of the places.
 -- Assumes nothing.
+use Rattle.std.specs.Prelude.{Option as Maybe, Some, Err}
 use mathlib.Core.Path.{◌≡◌, refl, sym, ap, ◌∙◌}
 use mathlib.Core.Bool.{true}
 use mathlib.Core.List.{List}
@@ -18,13 +19,14 @@ use Rattle.keyboard_scancodes.proofs.Tests.{which}
 use Rattle.keyboard_record.specs.declared.HandlerState.{HandlerState}
 use Rattle.keyboard_record.specs.declared.KeyboardHandler.{KeyboardHandler}
 use Rattle.keyboard_record.specs.Record.{keyboard_at, with_keyboard, call_formed}
-use Rattle.keyboard_record.specs.Queue.{place, if_given, joined}
+use Rattle.keyboard_record.specs.declared.NoRoom.{NoRoom}
+use Rattle.keyboard_record.specs.Queue.{place, if_given, joined, said_room}
 use Rattle.keyboard_record.proofs.AtSides.{with_keyboard_same}
 use Rattle.keyboard_sides.specs.declared.Side.{Side}
 use Rattle.keyboard_record.proofs.WellFormed.{WellFormed, call_is}
 use Rattle.keyboard.specs.declared.Effect.{Effect}
-use Rattle.keyboard.specs.declared.NewEvent.{NewEvent}
-use Rattle.keyboard.specs.Answers.{no_event}
+use Rattle.keyboard.specs.declared.HandlerRefusal.{HandlerRefusal}
+use Rattle.keyboard.specs.Answers.{said_call, no_event}
 use Rattle.keyboard.specs.KeyboardLamps.{port_of, port_rules, keyboard_lamps}
 use Rattle.keyboard.specs.Byte.{Keyed, KeyEffects, key_effects_by, key_call, key_effects}
 use Rattle.keyboard.specs.Handler.{Outcome, queued, after_byte, Effects, effects_by, called_with, effects, log_left, handled}
@@ -50,6 +52,14 @@ module _ (side : Side) (s : HandlerState) where
     pub event_effects : {e : KeyEvent} → x.end ≡ yields (gives (some e)) → {a : Answer Success} {joint : HandlerState} → (a ≡ place side e.keycode left) × (joint ≡ joined side e.keycode left)
         → record { end = yields a; lamps = x.lamps; used = x.used; pairs = x.pairs; state = joint; event = if_given a (some e) none; dropped = x.dropped } ≡ record_effects x
     event_effects q j = rw (q, j.1, j.0, is)
+
+    -- where it finds no place the call refuses as the queue does
+    pub full_effects : {e : KeyEvent} → x.end ≡ yields (gives (some e)) → (full : NoRoom) (n : HandlerRefusal) → said_call (Err n) ≡ yields (said_room (Err full)) → {joint : HandlerState}
+        → (said_room (Err full) ≡ place side e.keycode left) × (joint ≡ joined side e.keycode left)
+        → record { end = said_call (Err n); lamps = x.lamps; used = x.used; pairs = x.pairs; state = joint; event = none; dropped = x.dropped } ≡ record_effects x
+    full_effects q NoRoom.OutsideProfile n g j = rw g (event_effects q j)
+    full_effects q NoRoom.SideFull n g j = rw g (event_effects q j)
+    full_effects q NoRoom.QueueFull n g j = rw g (event_effects q j)
 
     -- the byte gave no event, or 19, or nothing at all
     pub no_event_effects : (a : End (Answer Success)) → x.end ≡ told_end no_event a
@@ -78,12 +88,12 @@ module _ (side : Side) (s : HandlerState) (script log : List ℕ) (w : call_form
 -- ---- the places
 
 -- an effect with this event in the place of its own
-abbrev effect_with : Effect → NewEvent → Effect
+abbrev effect_with : Effect → Maybe KeyEvent → Effect
 effect_with x n = record { answer = x.answer; lamps_failed = x.lamps_failed; used = x.used; pairs = x.pairs; state = x.state; event = n; dropped = x.dropped }
 
 module _ {A : Type 0} (lamps : Side → ℕ → Exchange (Answer A)) (side : Side) (s l : List ℕ) where
   -- a call on the state, with its event known, as a call on the record
-  pub called_with_lem : (h : KeyboardHandler) (x : Effect) {n : NewEvent} → x.event ≡ n → said_effect x ≡ effects lamps side h.state s l
+  pub called_with_lem : (h : KeyboardHandler) (x : Effect) {n : Maybe KeyEvent} → x.event ≡ n → said_effect x ≡ effects lamps side h.state s l
       → called_with h (said_effect (effect_with x n)) ≡ handled lamps side h s l
   unfolding handled
   called_with_lem h x is made = rw (← is) (ap (called_with h) made)
@@ -92,7 +102,7 @@ module _ {A : Type 0} (lamps : Side → ℕ → Exchange (Answer A)) (side : Sid
   some_none : {e : KeyEvent} → ◌≡◌ {A = Option KeyEvent} (some e) none → ⊥
   some_none q = let z : ◌≡◌ {A = ℕ} 0 1 = cc in omega arith
 
-  pub queued_well : (h : HandlerState) (x : Effect) {e : KeyEvent} → x.event ≡ NewEvent.Event e → said_effect x ≡ effects lamps side h s l → WellFormed h
+  pub queued_well : (h : HandlerState) (x : Effect) {e : KeyEvent} → x.event ≡ Some e → said_effect x ≡ effects lamps side h s l → WellFormed h
   queued_well h x is made =
       ⊎_elim (λ w. (call_is side h w).1)
       (λ w. absurd (some_none (sym (ap said_event is) ∙ ap (λ (y : Effects). y.event) (made ∙ malformed_effects lamps side h s l w))))

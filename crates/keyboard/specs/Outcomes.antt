@@ -1,6 +1,6 @@
 -- What the code gives back, as the definitions have it, and the parts of a call that code has of its own.
 -- Assumes nothing.
-use Rattle.std.specs.Prelude.{List, [], ◌∷◌, ◌++◌, ◌≡◌, ℕ, ◌≤◌, length}
+use Rattle.std.specs.Prelude.{List, [], ◌∷◌, ◌++◌, ◌≡◌, ℕ, ◌≤◌, length, Option as Maybe, Some, None}
 use Rattle.std.proofs.Math.Option.{Option, none, some}
 use Rattle.exchange.specs.Exchange.{p60, no_script, Exchange, done, bind, End, yields, lacks, play}
 use Rattle.exchange.specs.Answer.{Answer, gives}
@@ -13,7 +13,6 @@ use Rattle.keyboard_scancodes.specs.declared.KeyboardState.{KeyboardState}
 use Rattle.keyboard.specs.declared.Effect.{Effect}
 use Rattle.keyboard.specs.declared.Handled.{Handled}
 use Rattle.keyboard.specs.declared.KeyEffect.{KeyEffect}
-use Rattle.keyboard.specs.declared.NewEvent.{NewEvent}
 use Rattle.keyboard.specs.Rules.{Rules}
 use Rattle.keyboard.specs.Answers.{said_call, said_lamps, said_given}
 use Rattle.keyboard.specs.Scancode.{Took, takes}
@@ -59,9 +58,9 @@ pub record PlaysOn (k : KeyboardState) (kept : KeptBytes) (t : List ℕ → Exch
       → (x ≡ key_effects_by k (play (t waiting) script log)) × (log_left ≡ (play (t waiting) script log).log)
 
 -- The event that joins the queue, if one does.
-abbrev pub said_event : NewEvent → Option KeyEvent
-said_event (NewEvent.Event e) = some e
-said_event NewEvent.Nothing = none
+abbrev pub said_event : Maybe KeyEvent → Option KeyEvent
+said_event (Some e) = some e
+said_event None = none
 
 -- What a call gives back but for the places, and with them.
 abbrev pub said_effect : Effect → Effects

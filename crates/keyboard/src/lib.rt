@@ -1,8 +1,8 @@
 // The handler call, for either side of a table: Theseus's `keyboard`.
 #![tactic(auto)]
 
-ghost use Rattle.std.specs.Prelude.{true, ◌≡◌, ◌≢◌, get_or, ◌-◌, ◌≤◌};
-ghost use Rattle.exchange.specs.Exchange.{play};
+ghost use Rattle.std.specs.Prelude.{true, ◌≡◌, ◌≢◌, get_or, ◌-◌, ◌≤◌, Err};
+ghost use Rattle.exchange.specs.Exchange.{play, yields};
 ghost use Rattle.ps2_kept.specs.Kept.{kept_limit, kept_of};
 ghost use Rattle.keyboard_scancodes.specs.Strokes.{low_part};
 ghost use Rattle.keyboard_scancodes.specs.declared.Profile.{Profile};
@@ -11,21 +11,22 @@ ghost use Rattle.keyboard_scancodes.specs.Events.{keycode_at, event_of};
 ghost use Rattle.keyboard_scancodes.specs.Waiting.{bytes_from, waiting_bytes};
 ghost use Rattle.keyboard.specs.Byte.{after_lamps, on_byte, key_call, key_effects};
 ghost use Rattle.exchange.specs.Answer.{number_ended};
-ghost use Rattle.ps2_answers.specs.Answers.{said_byte};
+ghost use Rattle.ps2_answers.specs.Answers.{ended, used_of};
+ghost use Rattle.keyboard_record.specs.Queue.{said_room};
 ghost use Rattle.keyboard.specs.Answers.{said_call, said_lamps};
 ghost use Rattle.keyboard.specs.KeyboardLamps.{port_of, port_rules, keyboard_lamps};
 ghost use Rattle.keyboard.specs.Handler.{effects, log_left, handled};
 ghost use Rattle.keyboard.specs.Outcomes.{said_key_effect, said_effect, said_handled, key_effects_of, on_key, PlaysOn, Takes};
 
 use keyboard_modifiers::KeyboardModifiers;
-use keyboard_record::{HandlerState, KeyboardHandler, QUEUE_LENGTH, Room};
+use keyboard_record::{HandlerState, KeyboardHandler, NoRoom, QUEUE_LENGTH};
 use keyboard_scancodes::{
     KeyboardState, Profile, WaitingBytes, is_lock_press, is_prefix, is_silent, leds,
     modifiers_after,
 };
 use keyboard_sides::Side;
-use keycodes_ascii::{FoundKeycode, KEY_RELEASED_OFFSET, KeyAction, KeyEvent, Keycode};
-use ps2_answers::{ByteAnswer, Completion, Lack, ReadPort, Refusal};
+use keycodes_ascii::{KEY_RELEASED_OFFSET, KeyAction, KeyEvent, Keycode};
+use ps2_answers::{Answer, Counted, Lack, ReadPort, Refusal};
 use ps2_kept::{KEPT_LIMIT, KeptBytes, none_kept};
 use ps2_keyboard::{read_scancode, set_port_led_at_once, set_port_led_onto};
 use ps2_ports::DevicePort;
@@ -33,10 +34,9 @@ use ps2_ports::DevicePort;
 // The script bytes of a lamp exchange in which both bytes are acknowledged at once: for each two status reads and FA.
 const AT_ONCE: usize = 6;
 
-// How a handler call ends: done, for lack of a byte or room, or with the refusal that document 01 numbers 19, 20 or 21, or document 02 numbers 31 or 33.
+// How a handler call ends that isn't done: for lack of a byte or room, or with the refusal that document 01 numbers 19, 20 or 21, or document 02 numbers 31 or 33.
 #[derive(Clone, Copy)]
-pub enum HandlerAnswer {
-    Done,
+pub enum HandlerRefusal {
     Lacking(Lack),
     UnknownScancode,
     QueueFull,
@@ -44,6 +44,9 @@ pub enum HandlerAnswer {
     SideFull,
     OutsideProfile,
 }
+
+// How a handler call ends.
+pub type HandlerAnswer = Result<(), HandlerRefusal>;
 
 // The oldest byte that waits, and those behind it.
 #[derive(Clone, Copy)]
@@ -56,15 +59,15 @@ struct OldestTaken {
 #[derive(Clone, Copy)]
 struct TakenByte {
     kept: KeptBytes,
-    used: usize,
-    answer: ByteAnswer,
+    answer: Answer<u8>,
 }
 
+// Kept in this and the next two: `lamps_failed` is document 01's 14, shown beside the answer and not in its place; and event and answer stand apart, since the two in one `Result` measured slower.
 // What a call gives back for its keyboard: the event that its byte gives; where it gives none, the answer. A lamp exchange that failed, document 01's 14, is shown beside the answer, and so is the number of the bytes that it threw away and that found no place to wait.
 #[derive(Clone, Copy)]
 struct KeyEffect {
     answer: HandlerAnswer,
-    event: NewEvent,
+    event: Option<KeyEvent>,
     lamps_failed: bool,
     used: usize,
     pairs: usize,
@@ -83,14 +86,7 @@ pub struct Handled {
     pub dropped: u32,
 }
 
-// The event that a byte gives, or that a call puts into the queue, if any.
-#[derive(Clone, Copy)]
-pub enum NewEvent {
-    Event(KeyEvent),
-    Nothing,
-}
-
-// What a handler call gives back but for the places: a new event goes into the first place behind those that wait.
+// What a handler call gives back but for the places: a new event, if there is one, goes into the first place behind those that wait.
 #[derive(Clone, Copy)]
 pub struct Effect {
     pub answer: HandlerAnswer,
@@ -98,23 +94,45 @@ pub struct Effect {
     pub used: usize,
     pub pairs: usize,
     pub state: HandlerState,
-    pub event: NewEvent,
+    pub event: Option<KeyEvent>,
     pub dropped: u32,
 }
 
-impl HandlerAnswer {
-    // The number that documents 01 and 02 give to a refusal, and 0 where there is none.
+impl HandlerRefusal {
+    // The number that documents 01 and 02 give to a refusal.
     pub fn number(self) -> u8
-        ensures { result ≡ number_ended (said_call self) }
+        ensures { result ≡ number_ended (said_call (Err self)) }
     {
         match self {
-            HandlerAnswer::Done => 0,
-            HandlerAnswer::Lacking(lack) => lack.number(),
-            HandlerAnswer::UnknownScancode => 19,
-            HandlerAnswer::QueueFull => 20,
-            HandlerAnswer::MalformedRecord => 21,
-            HandlerAnswer::SideFull => 31,
-            HandlerAnswer::OutsideProfile => 33,
+            HandlerRefusal::Lacking(lack) => lack.number(),
+            HandlerRefusal::UnknownScancode => 19,
+            HandlerRefusal::QueueFull => 20,
+            HandlerRefusal::MalformedRecord => 21,
+            HandlerRefusal::SideFull => 31,
+            HandlerRefusal::OutsideProfile => 33,
+        }
+    }
+}
+
+// The number of how a call ends, and 0 where it is done.
+pub fn number_of(answer: HandlerAnswer) -> u8
+    ensures { result ≡ number_ended (said_call answer) }
+{
+    match answer {
+        Ok(()) => 0,
+        Err(refusal) => refusal.number(),
+    }
+}
+
+// A call refuses an event as the queue does.
+impl From<NoRoom> for HandlerRefusal {
+    ghost from_gives = { λ full refusal. said_call (Err refusal) ≡ yields (said_room (Err full)) };
+
+    fn from(full: NoRoom) -> HandlerRefusal {
+        match full {
+            NoRoom::OutsideProfile => HandlerRefusal::OutsideProfile,
+            NoRoom::SideFull => HandlerRefusal::SideFull,
+            NoRoom::QueueFull => HandlerRefusal::QueueFull,
         }
     }
 }
@@ -164,23 +182,18 @@ fn take_oldest(waiting: WaitingBytes) -> OldestTaken
 // The byte that a call takes: the oldest that waits; where none waits, one is read without asking the status.
 fn take_byte(waiting: WaitingBytes, script: &[u8]) -> TakenByte
     requires { waiting.count ≤ kept_limit }
-    ensures { Takes (waiting_bytes waiting) script.now (said_byte result.answer) result.used result.kept }
+    ensures { Takes (waiting_bytes waiting) script.now (ended result.answer) (used_of result.answer) result.kept }
 {
     if waiting.count != 0 {
         let taken = take_oldest(waiting);
-        let kept = taken.behind;
         return TakenByte {
-            kept,
-            used: 0,
-            answer: ByteAnswer::Byte(taken.oldest),
+            kept: taken.behind,
+            answer: Ok(Counted::new(taken.oldest)),
         };
     }
-    let read = read_scancode(script);
-    let answer = read.answer;
     TakenByte {
         kept: none_kept(),
-        used: read.used,
-        answer,
+        answer: read_scancode(script),
     }
 }
 
@@ -195,34 +208,26 @@ fn after_lamps(
 ) -> KeyEffect
     ensures { said_key_effect result ≡ key_effects_of (after_lamps scan_code modifiers.bits kept (said_lamps lamps_failed)) used pairs }
 {
-    let keyboard = KeyboardState {
-        prefix: false,
-        modifiers,
-        waiting: WaitingBytes::from_kept(kept),
-    };
-    let dropped = kept.others;
-    match Keycode::from_byte(scan_code & 0x7F) {
-        FoundKeycode::Found(keycode) => {
-            let event = event_of(keycode, scan_code, modifiers);
-            KeyEffect {
-                answer: HandlerAnswer::Done,
-                event: NewEvent::Event(event),
-                lamps_failed,
-                used,
-                pairs,
-                keyboard,
-                dropped,
-            }
-        }
-        FoundKeycode::Unknown => KeyEffect {
-            answer: HandlerAnswer::UnknownScancode,
-            event: NewEvent::Nothing,
-            lamps_failed,
-            used,
-            pairs,
-            keyboard,
-            dropped,
+    let unknown = KeyEffect {
+        answer: Err(HandlerRefusal::UnknownScancode),
+        event: None,
+        lamps_failed,
+        used,
+        pairs,
+        keyboard: KeyboardState {
+            prefix: false,
+            modifiers,
+            waiting: WaitingBytes::from(kept),
         },
+        dropped: kept.others,
+    };
+    match Keycode::try_from(scan_code & 0x7F) {
+        Ok(keycode) => KeyEffect {
+            answer: Ok(()),
+            event: Some(event_of(keycode, scan_code, modifiers)),
+            ..unknown
+        },
+        Err(_) => unknown,
     }
 }
 
@@ -245,23 +250,26 @@ fn lock_pressed(
         return after_lamps(kept, scan_code, modifiers, false, AT_ONCE, at_once);
     }
     let lit = set_port_led_onto(script, log, port, lamps, kept);
-    let used = lit.used;
-    let pairs = lit.pairs;
-    let waiting = lit.kept;
-    let answer = lit.answer;
-    match answer {
-        Completion::Done => after_lamps(waiting, scan_code, modifiers, false, used, pairs),
-        Completion::Refused(e) => match e {
+    match lit.answer {
+        Ok(done) => after_lamps(lit.kept, scan_code, modifiers, false, done.used, done.pairs),
+        Err(refused) => match refused.value {
             Refusal::Lacking(lack) => KeyEffect {
-                answer: HandlerAnswer::Lacking(lack),
-                event: NewEvent::Nothing,
+                answer: Err(HandlerRefusal::Lacking(lack)),
+                event: None,
                 lamps_failed: false,
-                used,
-                pairs,
+                used: refused.used,
+                pairs: refused.pairs,
                 keyboard,
                 dropped: 0,
             },
-            Refusal::Failed(_) => after_lamps(waiting, scan_code, modifiers, true, used, pairs),
+            Refusal::Failed(_) => after_lamps(
+                lit.kept,
+                scan_code,
+                modifiers,
+                true,
+                refused.used,
+                refused.pairs,
+            ),
         },
     }
 }
@@ -279,19 +287,16 @@ fn on_byte(
     ensures { PlaysOn keyboard kept (λ waiting. on_byte (port_rules profile port) keyboard waiting scan_code) script.now log.old (said_key_effect result) log.new }
 {
     if is_silent(scan_code) {
-        let modifiers = keyboard.modifiers;
-        let prefix = is_prefix(scan_code);
-        let waiting = WaitingBytes::from_kept(kept);
         return KeyEffect {
-            answer: HandlerAnswer::Done,
-            event: NewEvent::Nothing,
+            answer: Ok(()),
+            event: None,
             lamps_failed: false,
             used: 0,
             pairs: 0,
             keyboard: KeyboardState {
-                prefix,
-                modifiers,
-                waiting,
+                prefix: is_prefix(scan_code),
+                modifiers: keyboard.modifiers,
+                waiting: WaitingBytes::from(kept),
             },
             dropped: 0,
         };
@@ -315,38 +320,27 @@ fn key_call(
     ensures { (said_key_effect result ≡ key_effects (port_rules profile port) keyboard script.now log.old) × (log.new ≡ (play (key_call (port_rules profile port) keyboard) script.now log.old).log) }
 {
     let taken = take_byte(keyboard.waiting, script);
-    let used = taken.used;
-    let kept = taken.kept;
-    let answer = taken.answer;
-    match answer {
-        ByteAnswer::Byte(scan_code) => {
+    match taken.answer {
+        Ok(byte) => {
             let after = on_byte(
                 profile,
                 port,
                 keyboard,
-                kept,
-                scan_code,
-                &script[used..],
+                taken.kept,
+                byte.value,
+                &script[byte.used..],
                 log,
             );
-            let answer = after.answer;
-            let event = after.event;
-            let left = after.keyboard;
             KeyEffect {
-                answer,
-                event,
-                lamps_failed: after.lamps_failed,
-                used: used + after.used,
-                pairs: after.pairs,
-                keyboard: left,
-                dropped: after.dropped,
+                used: byte.used + after.used,
+                ..after
             }
         }
-        ByteAnswer::Refused(_) => KeyEffect {
-            answer: HandlerAnswer::Lacking(Lack::Script(ReadPort::Data)),
-            event: NewEvent::Nothing,
+        Err(refused) => KeyEffect {
+            answer: Err(HandlerRefusal::Lacking(Lack::Script(ReadPort::Data))),
+            event: None,
             lamps_failed: false,
-            used,
+            used: refused.used,
             pairs: 0,
             keyboard,
             dropped: 0,
@@ -370,105 +364,66 @@ pub fn effect_of(state: HandlerState, side: Side, script: &[u8], log: &mut [u8])
 {
     if !state.call_formed(side) {
         return Effect {
-            answer: HandlerAnswer::MalformedRecord,
+            answer: Err(HandlerRefusal::MalformedRecord),
             lamps_failed: false,
             used: 0,
             pairs: 0,
             state,
-            event: NewEvent::Nothing,
+            event: None,
             dropped: 0,
         };
     }
-    let table = state.table;
-    let profile = table.profile;
-    let key = key_call(profile, port_of(side), state.keyboard_at(side), script, log);
-    let lamps_failed = key.lamps_failed;
-    let used = key.used;
-    let pairs = key.pairs;
-    let keyboard = key.keyboard;
-    let dropped = key.dropped;
-    let answer = key.answer;
-    let given = key.event;
-    let left = state.with_keyboard(side, keyboard);
-    match given {
-        NewEvent::Event(event) => {
-            let keycode = event.keycode;
-            let joined = left.join(side, keycode);
-            let state = joined.state;
-            let room = joined.room;
-            match room {
-                Room::Free => Effect {
-                    answer: HandlerAnswer::Done,
-                    lamps_failed,
-                    used,
-                    pairs,
-                    state,
-                    event: NewEvent::Event(event),
-                    dropped,
-                },
-                Room::OutsideProfile => Effect {
-                    answer: HandlerAnswer::OutsideProfile,
-                    lamps_failed,
-                    used,
-                    pairs,
-                    state,
-                    event: NewEvent::Nothing,
-                    dropped,
-                },
-                Room::SideFull => Effect {
-                    answer: HandlerAnswer::SideFull,
-                    lamps_failed,
-                    used,
-                    pairs,
-                    state,
-                    event: NewEvent::Nothing,
-                    dropped,
-                },
-                Room::QueueFull => Effect {
-                    answer: HandlerAnswer::QueueFull,
-                    lamps_failed,
-                    used,
-                    pairs,
-                    state,
-                    event: NewEvent::Nothing,
-                    dropped,
-                },
-            }
-        }
-        NewEvent::Nothing => Effect {
-            answer,
-            lamps_failed,
-            used,
-            pairs,
+    let key = key_call(
+        state.table.profile,
+        port_of(side),
+        state.keyboard_at(side),
+        script,
+        log,
+    );
+    let effect = Effect {
+        answer: key.answer,
+        lamps_failed: key.lamps_failed,
+        used: key.used,
+        pairs: key.pairs,
+        state: state.with_keyboard(side, key.keyboard),
+        event: None,
+        dropped: key.dropped,
+    };
+    let Some(event) = key.event else {
+        return effect;
+    };
+    let mut left = effect.state;
+    match left.join(side, event.keycode) {
+        Ok(()) => Effect {
+            answer: Ok(()),
             state: left,
-            event: NewEvent::Nothing,
-            dropped,
+            event: Some(event),
+            ..effect
+        },
+        Err(full) => Effect {
+            answer: Err(HandlerRefusal::from(full)),
+            state: left,
+            ..effect
         },
     }
 }
 
 // A handler call for a side.
-pub fn handle(handler: KeyboardHandler, side: Side, script: &[u8], log: &mut [u8]) -> Handled
+pub fn handle(mut handler: KeyboardHandler, side: Side, script: &[u8], log: &mut [u8]) -> Handled
     ensures { (said_handled result ≡ handled keyboard_lamps side handler script.now log.old) × (log.new ≡ log_left keyboard_lamps side handler.state script.now log.old) }
 {
-    let before = handler.state;
-    let start = before.start;
-    let count = before.count;
-    let mut places = handler.places;
-    let effect = effect_of(before, side, script, log);
-    let answer = effect.answer;
-    let state = effect.state;
-    let new = effect.event;
-    if let NewEvent::Event(event) = new {
-        let place = (start + count) % QUEUE_LENGTH;
-        places[place] = event;
+    let effect = effect_of(handler.state, side, script, log);
+    if let Some(event) = effect.event {
+        let place = (handler.state.start + handler.state.count) % QUEUE_LENGTH;
+        handler.places[place] = event;
     }
+    handler.state = effect.state;
     Handled {
-        answer,
+        answer: effect.answer,
         lamps_failed: effect.lamps_failed,
         used: effect.used,
         pairs: effect.pairs,
-        handler: KeyboardHandler { state, places },
+        handler,
         dropped: effect.dropped,
     }
 }

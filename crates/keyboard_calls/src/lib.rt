@@ -18,16 +18,9 @@ use keyboard_sides::Side;
 fn table_of(two: bool) -> Table
     ensures { result ≡ table_of two }
 {
-    if two {
-        Table {
-            keyboards: Keyboards::Two,
-            profile: Profile::Any,
-        }
-    } else {
-        Table {
-            keyboards: Keyboards::One,
-            profile: Profile::Any,
-        }
+    Table {
+        keyboards: if two { Keyboards::Two } else { Keyboards::One },
+        profile: Profile::Any,
     }
 }
 
@@ -59,20 +52,17 @@ fn call_by_value(
 ) -> KeyboardHandler
     ensures { (result ≡ (handled keyboard_lamps side handler script.now log.old).handler) × (log.new ≡ log_left keyboard_lamps side handler.state script.now log.old) }
 {
-    let done = handle(handler, side, script, log);
-    let left = done.handler;
-    left
+    handle(handler, side, script, log).handler
 }
 
 // A handler call on the state alone: whoever holds the places stores the event.
 fn call_on_state(state: HandlerState, side: Side, script: &[u8], log: &mut [u8]) -> HandlerState
     ensures { (result ≡ (effects keyboard_lamps side state script.now log.old).state) × (log.new ≡ log_left keyboard_lamps side state script.now log.old) }
 {
-    let done = effect_of(state, side, script, log);
-    let after = done.state;
-    after
+    effect_of(state, side, script, log).state
 }
 
+// Kept: three loops of one shape, since a choice between the calls inside one loop copies the record once more and would be measured with it; script and log are two slices, as a call of document 01 takes them.
 // So many handler calls by value for a side, from a fresh record on for one keyboard or two; answers how many events then wait.
 #[unsafe(no_mangle)]
 pub extern "C" fn keyboard_calls_by_value(
@@ -86,11 +76,8 @@ pub extern "C" fn keyboard_calls_by_value(
 {
     let side = side_of(second);
     let mut handler = KeyboardHandler::fresh(table_of(two));
-    let mut i: usize = 0;
-    while i < times {
-        let next = call_by_value(handler, side, script, log);
-        handler = next;
-        i += 1;
+    for _ in 0..times {
+        handler = call_by_value(handler, side, script, log);
     }
     handler.state.count
 }
@@ -108,11 +95,8 @@ pub extern "C" fn keyboard_calls_in_place(
 {
     let side = side_of(second);
     let mut handler = KeyboardHandler::fresh(table_of(two));
-    let mut i: usize = 0;
-    while i < times {
-        let next = call_in_place(handler, side, script, log);
-        handler = next;
-        i += 1;
+    for _ in 0..times {
+        handler = call_in_place(handler, side, script, log);
     }
     handler.state.count
 }
@@ -129,13 +113,9 @@ pub extern "C" fn keyboard_calls_on_state(
     ensures { (result ≡ (called (side_of second) times script.now (left (fresh (table_of two)) log.old)).handler.state.count) × (log.new ≡ (called (side_of second) times script.now (left (fresh (table_of two)) log.old)).log) }
 {
     let side = side_of(second);
-    let handler = KeyboardHandler::fresh(table_of(two));
-    let mut state = handler.state;
-    let mut i: usize = 0;
-    while i < times {
-        let next = call_on_state(state, side, script, log);
-        state = next;
-        i += 1;
+    let mut state = KeyboardHandler::fresh(table_of(two)).state;
+    for _ in 0..times {
+        state = call_on_state(state, side, script, log);
     }
     state.count
 }

@@ -11,6 +11,7 @@ use keyboard_record::KeyboardHandler;
 use keyboard_sides::Side;
 
 // What the call gives back beside the record, which it changes in place.
+// Kept: `lamps_failed` is document 01's 14, shown beside the answer and not in its place; script and log are two slices, as a call of document 01 takes them.
 #[derive(Clone, Copy)]
 pub struct HandledInPlace {
     pub answer: HandlerAnswer,

@@ -1,14 +1,14 @@
 -- What a taking from the queue means, on any record.
 -- Assumes nothing.
-use Rattle.std.specs.Prelude.{cond, eqb}
+use Rattle.std.specs.Prelude.{cond, eqb, Option as Maybe, Result, Ok, Err, Some, None}
 use Rattle.std.proofs.Math.Option.{Option, none, some}
 use Rattle.exchange.specs.Answer.{Answer, gives, refuses}
 use Rattle.exchange.specs.Left.{Left, left}
 use Rattle.keycodes_ascii.specs.declared.KeyEvent.{KeyEvent}
 use Rattle.keyboard_sides.specs.Named.{Sided}
 use Rattle.keyboard_record.specs.declared.KeyboardHandler.{KeyboardHandler}
+use Rattle.keyboard_record.specs.declared.MalformedRecord.{MalformedRecord}
 use Rattle.keyboard_record.specs.declared.SideEvent.{SideEvent}
-use Rattle.keyboard_record.specs.declared.TakenEvent.{TakenEvent}
 use Rattle.keyboard_record.specs.Queue.{oldest, without_oldest}
 use Rattle.keyboard_record.specs.Record.{well_formed}
 
@@ -25,7 +25,7 @@ taken h =
 abbrev pub said_event : SideEvent → Sided KeyEvent
 said_event e = record { side = e.side; one = e.event }
 
-abbrev pub said_taken : TakenEvent → Answer (Option (Sided KeyEvent))
-said_taken (TakenEvent.Event e) = gives (some (said_event e))
-said_taken TakenEvent.Nothing = gives none
-said_taken TakenEvent.MalformedRecord = refuses 21
+abbrev pub said_taken : Result (Maybe SideEvent) MalformedRecord → Answer (Option (Sided KeyEvent))
+said_taken (Ok (Some e)) = gives (some (said_event e))
+said_taken (Ok None) = gives none
+said_taken (Err x) = refuses 21

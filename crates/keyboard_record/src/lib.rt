@@ -1,7 +1,7 @@
 // The keyboard handler's record, its queue of events, and the taking from it: Theseus's `keyboard`, at a table with one keyboard or two.
 #![tactic(auto)]
 
-ghost use Rattle.std.specs.Prelude.{◌≡◌, leb};
+ghost use Rattle.std.specs.Prelude.{◌≡◌, leb, Err};
 ghost use Rattle.exchange.specs.Answer.{number_answered};
 ghost use Rattle.exchange.specs.Left.{left};
 ghost use Rattle.keyboard_sides.specs.Sides.{count_of};
@@ -26,14 +26,14 @@ pub const SHARE: usize = 96;
 const FLAG_LIMIT: u16 = 1 << 11;
 
 // Whether a table has one keyboard or two. One keyboard is the first side's.
-#[derive(Clone, Copy)]
+#[derive(Clone, Copy, PartialEq, Eq)]
 pub enum Keyboards {
     One,
     Two,
 }
 
 // What a table is laid with: one keyboard or two, and the keys that its games allow. Whoever asks for a fresh record chooses both, and no call changes them.
-#[derive(Clone, Copy)]
+#[derive(Clone, Copy, PartialEq, Eq)]
 pub struct Table {
     pub keyboards: Keyboards,
     pub profile: Profile,
@@ -54,6 +54,7 @@ pub struct HandlerState {
 
 // The handler record: its state, and the places of its queue.
 // The places stand last, where no padding touches them: a copy of the record is then not made in two parts.
+// Kept: 128 places inside the record are its fixed memory, without a heap.
 #[derive(Clone, Copy)]
 pub struct KeyboardHandler {
     pub state: HandlerState,
@@ -67,29 +68,20 @@ pub struct SideEvent {
     pub event: KeyEvent,
 }
 
-// Whether the queue takes one more event of a side: it does; its key is outside the profile, document 02's 33; the side has its share, document 02's 31; or every place is taken, document 01's 20.
-#[derive(Clone, Copy)]
-pub enum Room {
-    Free,
+// Why the queue takes no more of a side's events: its key is outside the profile, document 02's 33; the side has its share, document 02's 31; or every place is taken, document 01's 20.
+#[derive(Clone, Copy, PartialEq, Eq)]
+pub enum NoRoom {
     OutsideProfile,
     SideFull,
     QueueFull,
 }
 
-// What asking for a place gives back: the state with one more event that waits, or as it was, and whether there is a place.
-#[derive(Clone, Copy)]
-pub struct Joined {
-    pub state: HandlerState,
-    pub room: Room,
-}
+// The refusal of a record that is not well formed.
+#[derive(Clone, Copy, PartialEq, Eq)]
+pub struct MalformedRecord;
 
-// What a taking from the queue answers: the oldest event, none, or the refusal that document 01 numbers 21.
-#[derive(Clone, Copy)]
-pub enum TakenEvent {
-    Event(SideEvent),
-    Nothing,
-    MalformedRecord,
-}
+// What a taking from the queue answers: the oldest event, none, or the refusal.
+pub type TakenEvent = Result<Option<SideEvent>, MalformedRecord>;
 
 // What a taking gives back.
 #[derive(Clone, Copy)]
@@ -98,16 +90,12 @@ pub struct Taken {
     pub handler: KeyboardHandler,
 }
 
-impl TakenEvent {
-    // The number that document 01 gives to a refusal, and 0 where there is none.
+impl MalformedRecord {
+    // The number that document 01 gives to it.
     pub fn number(self) -> u8
-        ensures { result ≡ number_answered (said_taken self) }
+        ensures { result ≡ number_answered (said_taken (Err self)) }
     {
-        match self {
-            TakenEvent::Event(_) => 0,
-            TakenEvent::Nothing => 0,
-            TakenEvent::MalformedRecord => 21,
-        }
+        21
     }
 }
 
@@ -116,13 +104,7 @@ impl Keyboards {
     pub fn has(self, side: Side) -> bool
         ensures { result ≡ at_table self side }
     {
-        match self {
-            Keyboards::One => match side {
-                Side::First => true,
-                Side::Second => false,
-            },
-            Keyboards::Two => true,
-        }
+        matches!((self, side), (Keyboards::Two, _) | (_, Side::First))
     }
 }
 
@@ -130,23 +112,16 @@ impl Keyboards {
 fn keyboard_formed(keyboard: KeyboardState) -> bool
     ensures { result ≡ keyboard_formed keyboard }
 {
-    if FLAG_LIMIT <= keyboard.modifiers.bits {
-        return false;
-    }
-    keyboard.waiting.count as usize <= KEPT_LIMIT
+    keyboard.modifiers.bits < FLAG_LIMIT && usize::from(keyboard.waiting.count) <= KEPT_LIMIT
 }
 
 // Whether neither side has more than its share of the first `count` events. Of so few that they are no more than a share, the sides needn't be counted.
 fn is_fair(sides: Sides, count: usize) -> bool
     ensures { result ≡ fair sides count }
 {
-    if count <= SHARE {
-        return true;
-    }
-    if SHARE < sides.count_of(Side::First, count) {
-        return false;
-    }
-    sides.count_of(Side::Second, count) <= SHARE
+    count <= SHARE
+        || sides.count_of(Side::First, count) <= SHARE
+            && sides.count_of(Side::Second, count) <= SHARE
 }
 
 impl HandlerState {
@@ -154,65 +129,35 @@ impl HandlerState {
     pub fn well_formed(self) -> bool
         ensures { result ≡ well_formed self }
     {
-        if QUEUE_LENGTH <= self.start {
-            return false;
-        }
-        if QUEUE_LENGTH < self.count {
-            return false;
-        }
-        if !keyboard_formed(self.first) {
-            return false;
-        }
-        let table = self.table;
-        let keyboards = table.keyboards;
-        match keyboards {
-            Keyboards::One => true,
-            Keyboards::Two => {
-                if !keyboard_formed(self.second) {
-                    return false;
+        self.start < QUEUE_LENGTH
+            && self.count <= QUEUE_LENGTH
+            && keyboard_formed(self.first)
+            && match self.table.keyboards {
+                Keyboards::One => true,
+                Keyboards::Two => {
+                    keyboard_formed(self.second) && is_fair(self.sides, self.count)
                 }
-                is_fair(self.sides, self.count)
             }
-        }
     }
 
     // The same, and that a call's side is at the table.
     pub fn call_formed(self, side: Side) -> bool
         ensures { result ≡ call_formed side self }
     {
-        let table = self.table;
-        let keyboards = table.keyboards;
-        if !keyboards.has(side) {
-            return false;
-        }
-        self.well_formed()
+        self.table.keyboards.has(side) && self.well_formed()
     }
 
     // The same, and that one more event of the side finds a place even if all that wait are the side's, so that none has to be counted.
     pub fn is_ready(self, side: Side) -> bool
         ensures { result ≡ is_ready side self }
     {
-        let table = self.table;
-        let keyboards = table.keyboards;
-        if !keyboards.has(side) {
-            return false;
-        }
-        if QUEUE_LENGTH <= self.start {
-            return false;
-        }
-        if !keyboard_formed(self.first) {
-            return false;
-        }
-        match keyboards {
-            Keyboards::One => self.count < QUEUE_LENGTH,
-            Keyboards::Two => {
-                let second = self.second;
-                if !keyboard_formed(second) {
-                    return false;
-                }
-                self.count < SHARE
+        self.table.keyboards.has(side)
+            && self.start < QUEUE_LENGTH
+            && keyboard_formed(self.first)
+            && match self.table.keyboards {
+                Keyboards::One => self.count < QUEUE_LENGTH,
+                Keyboards::Two => keyboard_formed(self.second) && self.count < SHARE,
             }
-        }
     }
 
     // What is remembered of a side's keyboard.
@@ -229,26 +174,14 @@ impl HandlerState {
     pub fn with_keyboard(self, side: Side, keyboard: KeyboardState) -> HandlerState
         ensures { result ≡ with_keyboard side keyboard self }
     {
-        let first = self.first;
-        let second = self.second;
-        let table = self.table;
-        let sides = self.sides;
         match side {
             Side::First => HandlerState {
                 first: keyboard,
-                second,
-                table,
-                start: self.start,
-                count: self.count,
-                sides,
+                ..self
             },
             Side::Second => HandlerState {
-                first,
                 second: keyboard,
-                table,
-                start: self.start,
-                count: self.count,
-                sides,
+                ..self
             },
         }
     }
@@ -257,79 +190,41 @@ impl HandlerState {
     fn has_share(self, side: Side) -> bool
         ensures { result ≡ leb share (count_of side (waiting_sides self)) }
     {
-        if self.count < SHARE {
-            return false;
-        }
-        let sides = self.sides;
-        SHARE <= sides.count_of(side, self.count)
+        SHARE <= self.count && SHARE <= self.sides.count_of(side, self.count)
     }
 
     // Whether the queue takes one more event of a side, whatever its key: 31 is asked, then 20.
-    pub fn room_of(self, side: Side) -> Room
+    pub fn room_of(self, side: Side) -> Result<(), NoRoom>
         ensures { said_room result ≡ room side self }
     {
-        let table = self.table;
-        let keyboards = table.keyboards;
-        if let Keyboards::Two = keyboards {
-            if self.has_share(side) {
-                return Room::SideFull;
-            }
+        if matches!(self.table.keyboards, Keyboards::Two) && self.has_share(side) {
+            return Err(NoRoom::SideFull);
         }
         if QUEUE_LENGTH <= self.count {
-            return Room::QueueFull;
+            return Err(NoRoom::QueueFull);
         }
-        Room::Free
+        Ok(())
     }
 
     // The same, by its key: 33 is asked first.
-    fn room_for(self, side: Side, keycode: Keycode) -> Room
+    fn room_for(self, side: Side, keycode: Keycode) -> Result<(), NoRoom>
         ensures { said_room result ≡ place side keycode self }
     {
-        let table = self.table;
-        let profile = table.profile;
-        if !profile.allows(keycode) {
-            return Room::OutsideProfile;
+        if !self.table.profile.allows(keycode) {
+            return Err(NoRoom::OutsideProfile);
         }
         self.room_of(side)
     }
 
-    // One more event of a side, of this key, where the queue takes it.
-    pub fn join(self, side: Side, keycode: Keycode) -> Joined
-        ensures { (said_room result.room ≡ place side keycode self) × (result.state ≡ joined side keycode self) }
+    // One more event of a side, of this key, waits where the queue takes it; where it doesn't, the state stays.
+    pub fn join(&mut self, side: Side, keycode: Keycode) -> Result<(), NoRoom>
+        ensures room { said_room result ≡ place side keycode self.old }
+        ensures state { self.new ≡ joined side keycode self.old }
     {
-        let room = self.room_for(side, keycode);
-        match room {
-            Room::Free => {
-                let first = self.first;
-                let second = self.second;
-                let table = self.table;
-                let sides = self.sides;
-                let count = self.count;
-                Joined {
-                    room: Room::Free,
-                    state: HandlerState {
-                        first,
-                        second,
-                        table,
-                        start: self.start,
-                        count: count + 1,
-                        sides: sides.with_side(side, count),
-                    },
-                }
-            }
-            Room::OutsideProfile => Joined {
-                room: Room::OutsideProfile,
-                state: self,
-            },
-            Room::SideFull => Joined {
-                room: Room::SideFull,
-                state: self,
-            },
-            Room::QueueFull => Joined {
-                room: Room::QueueFull,
-                state: self,
-            },
-        }
+        self.room_for(side, keycode)?;
+        self.sides = self.sides.with_side(side, self.count);
+        self.count += 1;
+        Ok(())
     }
 }
 
@@ -363,49 +258,32 @@ impl KeyboardHandler {
             places: [empty; QUEUE_LENGTH],
         }
     }
+
+    // Takes the oldest event from the queue; its place is free for a later one.
+    fn take(&mut self) -> TakenEvent
+        ensures { left (said_taken result) self.new ≡ taken self.old }
+    {
+        if !self.state.well_formed() {
+            return Err(MalformedRecord);
+        }
+        if self.state.count == 0 {
+            return Ok(None);
+        }
+        let taken = SideEvent {
+            side: self.state.sides.oldest(),
+            event: self.places[self.state.start],
+        };
+        self.state.start = (self.state.start + 1) % QUEUE_LENGTH;
+        self.state.count -= 1;
+        self.state.sides = self.state.sides.without_oldest();
+        Ok(Some(taken))
+    }
 }
 
-// Takes the oldest event from the queue; its place is free for a later one.
-pub fn take_event(handler: KeyboardHandler) -> Taken
+// The same, by value.
+pub fn take_event(mut handler: KeyboardHandler) -> Taken
     ensures { left (said_taken result.event) result.handler ≡ taken handler }
 {
-    let state = handler.state;
-    if !state.well_formed() {
-        return Taken {
-            event: TakenEvent::MalformedRecord,
-            handler,
-        };
-    }
-    let start = state.start;
-    let count = state.count;
-    if count == 0 {
-        return Taken {
-            event: TakenEvent::Nothing,
-            handler,
-        };
-    }
-    let first = state.first;
-    let second = state.second;
-    let table = state.table;
-    let sides = state.sides;
-    let others = sides.without_oldest();
-    let places = handler.places;
-    let event = places[start];
-    Taken {
-        event: TakenEvent::Event(SideEvent {
-            side: sides.oldest(),
-            event,
-        }),
-        handler: KeyboardHandler {
-            state: HandlerState {
-                first,
-                second,
-                table,
-                start: (start + 1) % QUEUE_LENGTH,
-                count: count - 1,
-                sides: others,
-            },
-            places,
-        },
-    }
+    let event = handler.take();
+    Taken { event, handler }
 }

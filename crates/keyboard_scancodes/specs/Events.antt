@@ -1,7 +1,7 @@
 -- The event that a scancode makes.
 -- Assumes nothing.
 use Rattle.std.specs.Prelude.{Bool, not, cond, ◌&&◌, ℕ, eqb, leb}
-use Rattle.keycodes_ascii.specs.declared.FoundKeycode.{FoundKeycode}
+use Rattle.std.specs.Prelude.{Option, Some, None}
 use Rattle.keycodes_ascii.specs.declared.KeyAction.{KeyAction}
 use Rattle.keycodes_ascii.specs.declared.KeyEvent.{KeyEvent}
 use Rattle.keycodes_ascii.specs.declared.Keycode.{Keycode}
@@ -9,9 +9,9 @@ use Rattle.keycodes_ascii.specs.Keycode.{keycode_of}
 use Rattle.keyboard_scancodes.specs.Strokes.{low_part, is_press}
 
 -- The keycode of a number. Each number up to 5D has one; what this says of the others is never asked.
-abbrev pub the_keycode : FoundKeycode → Keycode
-the_keycode (FoundKeycode.Found k) = k
-the_keycode FoundKeycode.Unknown = Keycode.OverflowError
+abbrev pub the_keycode : Option Keycode → Keycode
+the_keycode (Some k) = k
+the_keycode None = Keycode.OverflowError
 
 unfoldable pub keycode_at : ℕ → Keycode
 keycode_at code = the_keycode (keycode_of code)

@@ -84,13 +84,14 @@ const PLAIN_KEYS_FROM_40: u64 = 0x3FFF_FFFF
         | 1 << (SUPER_KEY_RIGHT - 0x40));
 
 // Under which keys a game is played: any, or those that rated games allow.
-#[derive(Clone, Copy)]
+#[derive(Clone, Copy, PartialEq, Eq)]
 pub enum Profile {
     Any,
     Tournament,
 }
 
 // Bytes that wait to be taken, the oldest first: a lamp exchange threw them away.
+// Kept: an array with its count is the record's fixed memory, without a heap, and C is shown both.
 #[derive(Clone, Copy)]
 pub struct WaitingBytes {
     pub bytes: [u8; KEPT_LIMIT],
@@ -106,11 +107,12 @@ pub struct KeyboardState {
     pub modifiers: KeyboardModifiers,
 }
 
-impl WaitingBytes {
-    // Kept bytes, which wait from now on; any others are lost.
-    pub fn from_kept(kept: KeptBytes) -> WaitingBytes
-        ensures { result ≡ waiting_in kept }
-    {
+// Kept bytes wait from now on; any others are lost.
+impl From<KeptBytes> for WaitingBytes {
+    ghost from_gives = { λ kept waiting. waiting ≡ waiting_in kept };
+
+    fn from(kept: KeptBytes) -> WaitingBytes {
+        // Kept: the check of borrows covers no array that goes straight from one struct into another.
         let bytes = kept.bytes;
         WaitingBytes {
             bytes,
@@ -123,23 +125,14 @@ impl WaitingBytes {
 pub fn is_prefix(scan_code: u8) -> bool
     ensures { result ≡ is_prefix scan_code }
 {
-    if scan_code == EXTENDED_SCANCODE {
-        return true;
-    }
-    scan_code == EXTENDED_SCANCODE_2
+    scan_code == EXTENDED_SCANCODE || scan_code == EXTENDED_SCANCODE_2
 }
 
 // The prefixes, 00 (an error of the port) and FA (an acknowledgement) are no key's.
 pub fn is_silent(scan_code: u8) -> bool
     ensures { result ≡ is_silent scan_code }
 {
-    if is_prefix(scan_code) {
-        return true;
-    }
-    if scan_code == KEY_ERROR {
-        return true;
-    }
-    scan_code == ACKNOWLEDGE
+    is_prefix(scan_code) || scan_code == KEY_ERROR || scan_code == ACKNOWLEDGE
 }
 
 // A byte of a key that has no flag: whatever came before, its event is all that it gives.
@@ -148,9 +141,10 @@ pub fn is_plain(scan_code: u8) -> bool
 {
     let code = scan_code % 128;
     if code < 64 {
-        return PLAIN_KEYS & (1 << code) != 0;
+        PLAIN_KEYS & (1 << code) != 0
+    } else {
+        PLAIN_KEYS_FROM_40 & (1 << (code - 64)) != 0
     }
-    PLAIN_KEYS_FROM_40 & (1 << (code - 64)) != 0
 }
 
 // The flags that a key holds down, by its press code: none where it is no such key's. A prefix directly before tells right Control from left, and right Alt, which is an Alt too.
@@ -158,20 +152,10 @@ fn held_flags(code: u8, prefix: bool) -> KeyboardModifiers
     ensures { result.bits ≡ held_flags flag_table code prefix }
 {
     match code {
-        CONTROL => {
-            if prefix {
-                KeyboardModifiers::CONTROL_RIGHT
-            } else {
-                KeyboardModifiers::CONTROL_LEFT
-            }
-        }
-        ALT => {
-            if prefix {
-                ALT_AND_ALT_RIGHT
-            } else {
-                KeyboardModifiers::ALT
-            }
-        }
+        CONTROL if prefix => KeyboardModifiers::CONTROL_RIGHT,
+        CONTROL => KeyboardModifiers::CONTROL_LEFT,
+        ALT if prefix => ALT_AND_ALT_RIGHT,
+        ALT => KeyboardModifiers::ALT,
         LEFT_SHIFT => KeyboardModifiers::SHIFT_LEFT,
         RIGHT_SHIFT => KeyboardModifiers::SHIFT_RIGHT,
         SUPER_KEY_LEFT => KeyboardModifiers::SUPER_KEY_LEFT,
@@ -207,10 +191,7 @@ impl Profile {
     pub fn allows(self, keycode: Keycode) -> bool
         ensures { result ≡ allows self keycode }
     {
-        match self {
-            Profile::Any => true,
-            Profile::Tournament => is_tournament_key(keycode.to_byte()),
-        }
+        matches!(self, Profile::Any) || is_tournament_key(u8::from(keycode))
     }
 }
 
@@ -218,35 +199,25 @@ impl Profile {
 fn is_tournament_key(code: u8) -> bool
     ensures { result ≡ is_tournament_code code }
 {
-    if code < 64 {
-        return TOURNAMENT_KEYS & (1 << code) != 0;
+    match code {
+        0..64 => TOURNAMENT_KEYS & (1 << code) != 0,
+        64..128 => TOURNAMENT_ARROWS & (1 << (code - 64)) != 0,
+        _ => false,
     }
-    if code < 128 {
-        return TOURNAMENT_ARROWS & (1 << (code - 64)) != 0;
-    }
-    false
 }
 
 // The press of a lock that a profile follows: Caps Lock, Num Lock or Scroll Lock, or none.
 pub fn is_lock_press(profile: Profile, scan_code: u8) -> bool
     ensures { result ≡ presses_followed profile scan_code }
 {
-    match profile {
-        Profile::Any => presses_lock(scan_code),
-        Profile::Tournament => false,
-    }
+    matches!(profile, Profile::Any) && presses_lock(scan_code)
 }
 
 // The press of Caps Lock, Num Lock or Scroll Lock.
 fn presses_lock(scan_code: u8) -> bool
     ensures { result ≡ presses_lock flag_table (stroke scan_code false) }
 {
-    match scan_code {
-        CAPS_LOCK => true,
-        NUM_LOCK => true,
-        SCROLL_LOCK => true,
-        _ => false,
-    }
+    scan_code == CAPS_LOCK || scan_code == NUM_LOCK || scan_code == SCROLL_LOCK
 }
 
 // The flags just after a scancode: a key's press holds its flags down and its release lets them go; a lock that the profile follows goes over at its press.
@@ -257,14 +228,14 @@ pub fn modifiers_after(
 ) -> KeyboardModifiers
     ensures { result.bits ≡ flags_after (followed profile) (stroke scan_code keyboard.prefix) keyboard.modifiers.bits }
 {
-    let modifiers = keyboard.modifiers;
     let code = scan_code & LOW_PART;
     let held = held_flags(code, keyboard.prefix);
     if scan_code < KEY_RELEASED_OFFSET {
         let lock = followed_lock(profile, code);
-        return modifiers.insert(held).toggle(lock);
+        keyboard.modifiers.insert(held).toggle(lock)
+    } else {
+        keyboard.modifiers.remove(held)
     }
-    modifiers.remove(held)
 }
 
 // The lamps of the locks that are on.

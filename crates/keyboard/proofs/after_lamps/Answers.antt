@@ -4,19 +4,19 @@ use Rattle.keyboard.specs.Byte.{key_event}
 use Rattle.keyboard_scancodes.proofs.Keycodes.{known_low, known_keycode, unknown_low}
 use Rattle.keyboard.proofs.after_lamps.Goals as goal
 
-pub event_of-event-requires : goal.event_of-event-requires
-event_of-event-requires c =
-    known_keycode _ c.from_byte.ensures c.in-Found.is
+pub event_of-requires : goal.event_of-requires
+event_of-requires c =
+    known_keycode _ c.try_from.ensures c.in-Ok.is
 
-pub returns-in-Found : goal.returns-in-Found
+pub returns-in-Ok : goal.returns-in-Ok
 unfolding key_event
-returns-in-Found c =
+returns-in-Ok c =
     rw (
-      c.from_kept.ensures,
-      known_low _ c.from_byte.ensures c.in-Found.is,
-      c.event_of-event.ensures,
+      c.from.ensures,
+      known_low _ c.try_from.ensures c.in-Ok.is,
+      c.event_of.ensures,
     )
 
-pub returns-in-Unknown : goal.returns-in-Unknown
+pub returns-in-Err : goal.returns-in-Err
 unfolding key_event
-returns-in-Unknown c = rw (c.from_kept.ensures, unknown_low _ c.from_byte.ensures c.in-Unknown.is)
+returns-in-Err c = rw (c.from.ensures, unknown_low _ c.try_from.ensures c.in-Err.is)

@@ -5,23 +5,23 @@ use Rattle.keyboard_record.proofs.WellFormed.{WellFormed}
 use Rattle.keyboard.specs.KeyboardLamps.{keyboard_lamps}
 use Rattle.keyboard.proofs.Effects.{called_with_lem, queued_well}
 use Rattle.keyboard.proofs.handle.Goals as goal
-use Rattle.keyboard.proofs.handle.Goals.{In-Event}
+use Rattle.keyboard.proofs.handle.Goals.{In-Some, in-Some, in_default}
 
 -- where there is a new event, the state is well formed
-well : (c : In-Event) → WellFormed c.args.handler.state
+well : (c : In-Some) → WellFormed c.args.handler.state
 well c =
     let x = c.effect_of-effect in
-    queued_well keyboard_lamps _ _ _ _ x.result c.in-Event.is x.ensures.0
+    queued_well keyboard_lamps _ _ _ _ x.result c.in-Some.is x.ensures.0
 
 pub overflow_add-place : goal.overflow_add-place
 overflow_add-place c = omega (arith, (well c).start_in, (well c).count_in)
 
-pub returns-in-Event : goal.returns-in-Event
-returns-in-Event c =
-    let x = c.effect_of-effect in
-    (called_with_lem keyboard_lamps _ _ _ _ x.result c.in-Event.is x.ensures.0, x.ensures.1)
-
-pub returns-in_default : goal.returns-in_default
-returns-in_default c =
-    let x = c.effect_of-effect in
-    (called_with_lem keyboard_lamps _ _ _ _ x.result c.in_default.is x.ensures.0, x.ensures.1)
+pub returns : goal.returns
+returns c =
+    let x = c.effect_of-effect in (
+      elim c.match-effect.branch [
+        | in-Some w ↦ rw w.handler-is (called_with_lem keyboard_lamps _ _ _ _ x.result w.in-Some.is x.ensures.0)
+        | in_default w ↦ rw w.handler-is (called_with_lem keyboard_lamps _ _ _ _ x.result w.in_default.is x.ensures.0)
+      ],
+      x.ensures.1,
+    )

@@ -1,10 +1,9 @@
 -- `keyboard::key_call` meets its contract: the byte that is taken, then what it does.
 -- Assumes nothing.
-use mathlib.Core.Path.{ap}
+use mathlib.Core.Path.{refl}
 use Prim.Native.Nat.{◌≤◌}
 use native.Mathlib.Omega.{arith}
 use lib.ListN.{length}
-use Rattle.ps2_answers.specs.Answers.{said_byte}
 use Rattle.ps2_kept.specs.Kept.{kept_limit}
 use Rattle.keyboard_scancodes.specs.Waiting.{waiting_bytes}
 use Rattle.keyboard_scancodes.specs.declared.WaitingBytes.{WaitingBytes}
@@ -19,10 +18,10 @@ pub take_byte-taken-requires : goal.take_byte-taken-requires
 take_byte-taken-requires c = c.requires
 
 pub slice_bounds-on_byte-count : goal.slice_bounds-on_byte-count
-slice_bounds-on_byte-count c = takes_le _ _ c.take_byte-taken.ensures
+slice_bounds-on_byte-count c = takes_le _ _ (rw c.in-Ok.is at c.take_byte-taken.ensures)
 
 pub slice_bounds-on_byte-start : goal.slice_bounds-on_byte-start
-slice_bounds-on_byte-start c = takes_le _ _ c.take_byte-taken.ensures
+slice_bounds-on_byte-start c = takes_le _ _ (rw c.in-Ok.is at c.take_byte-taken.ensures)
 
 few : (w : WaitingBytes) → w.count ≤ kept_limit → length (still_waiting (waiting_bytes w)) ≤ kept_limit
 few w h = still_few (waiting_bytes w) (rw (length_bytes w.bytes 0 w.count) h)
@@ -31,20 +30,20 @@ few w h = still_few (waiting_bytes w) (rw (length_bytes w.bytes 0 w.count) h)
 pub overflow_add-result : goal.overflow_add-result
 overflow_add-result c =
     let k = c.args.keyboard in
+    let taken = rw c.in-Ok.is at c.take_byte-taken.ensures in
     omega (
       arith,
-      byte_used (port_rules c.args.profile c.args.port) k _ _ c.take_byte-taken.ensures _ (ap said_byte c.in-Byte.is)
-          (c.on_byte-after.ensures.at _ c.take_byte-taken.ensures.keeps (few k.waiting c.requires)).0,
+      byte_used (port_rules c.args.profile c.args.port) k _ _ taken _ refl (c.on_byte-after.ensures.at _ taken.keeps (few k.waiting c.requires)).0,
       c.well_formed,
     )
 
-pub returns-in-Byte : goal.returns-in-Byte
-returns-in-Byte c =
+pub returns-in-Ok : goal.returns-in-Ok
+returns-in-Ok c =
     let k = c.args.keyboard in
-    let p = c.on_byte-after.ensures.at _ c.take_byte-taken.ensures.keeps (few k.waiting c.requires) in
-    byte_call (port_rules c.args.profile c.args.port) k _ _ c.take_byte-taken.ensures _ (ap said_byte c.in-Byte.is) p.0 p.1
+    let taken = rw c.in-Ok.is at c.take_byte-taken.ensures in
+    let p = c.on_byte-after.ensures.at _ taken.keeps (few k.waiting c.requires) in
+    byte_call (port_rules c.args.profile c.args.port) k _ _ taken _ refl p.0 p.1
 
-pub returns-in-Refused : goal.returns-in-Refused
-returns-in-Refused c =
-    no_byte (port_rules c.args.profile c.args.port) c.args.keyboard _ _ c.take_byte-taken.ensures
-    c.in-Refused.field-0 (ap said_byte c.in-Refused.is)
+pub returns-in-Err : goal.returns-in-Err
+returns-in-Err c =
+    no_byte (port_rules c.args.profile c.args.port) c.args.keyboard _ _ (rw c.in-Err.is at c.take_byte-taken.ensures) c.in-Err.refused.value refl

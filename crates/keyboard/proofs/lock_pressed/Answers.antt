@@ -2,7 +2,7 @@
 -- Assumes nothing.
 use native.Mathlib.Omega.{arith}
 use mathlib.Core.Path.{◌≡◌, refl, ap, ◌∙◌}
-use Rattle.ps2_answers.specs.Refusals.{refused, said_done}
+use Rattle.ps2_answers.specs.Refusals.{refused}
 use Rattle.keyboard_scancodes.specs.declared.Profile.{Profile}
 use Rattle.keyboard.specs.KeyboardLamps.{port_rules}
 use Rattle.keyboard.proofs.Bounds.{lamps_within}
@@ -28,16 +28,16 @@ module _ (c : After-set_port_led_onto-lit) where
   unlit : c.set_port_led_at_once-at_once.new.log ≡ c.args.log.now
   unlit = c.set_port_led_at_once-at_once.ensures.undone c.if-at_once-ne0.false
 
-pub returns-in-Done : goal.returns-in-Done
-returns-in-Done c =
+pub returns-in-Ok : goal.returns-in-Ok
+returns-in-Ok c =
     let a = c.args in
     record {
       at = λ rest is few.
           gives_back a.keyboard _ _ _
           (lamps_answer (port_rules Profile.Any a.port) a.keyboard a.scan_code a.modifiers.bits rest _ _ c.requires c.leds-lamps.ensures
-          (lamps_within a.port _) (omega (arith, few)) is (rw (unlit (goal.at.returns-in-Done c).After-set_port_led_onto-lit) at c.set_port_led_onto-lit.ensures)
-          (ap said_done c.in-Done.is))
-          c.after_lamps-in-Done.ensures;
+          (lamps_within a.port _) (omega (arith, few)) is (rw (unlit (goal.at.returns-in-Ok c).After-set_port_led_onto-lit, c.in-Ok.is) at c.set_port_led_onto-lit.ensures)
+          refl)
+          c.after_lamps-in-Ok.ensures;
     }
 
 pub returns-in-Lacking : goal.returns-in-Lacking
@@ -47,8 +47,8 @@ returns-in-Lacking c =
       at = λ rest is few.
           gives_back a.keyboard _ _ _
           (lamps_lack (port_rules Profile.Any a.port) a.keyboard a.scan_code a.modifiers.bits rest _ _ c.requires c.leds-lamps.ensures
-          (lamps_within a.port _) (omega (arith, few)) is (rw (unlit (goal.at.returns-in-Lacking c).After-set_port_led_onto-lit) at c.set_port_led_onto-lit.ensures)
-          (ap said_done c.in-Refused.is ∙ ap refused c.in-Lacking.is))
+          (lamps_within a.port _) (omega (arith, few)) is (rw (unlit (goal.at.returns-in-Lacking c).After-set_port_led_onto-lit, c.in-Err.is) at c.set_port_led_onto-lit.ensures)
+          (ap refused c.in-Lacking.is))
           refl;
     }
 
@@ -59,7 +59,7 @@ returns-in-Failed c =
       at = λ rest is few.
           gives_back a.keyboard _ _ _
           (lamps_answer (port_rules Profile.Any a.port) a.keyboard a.scan_code a.modifiers.bits rest _ _ c.requires c.leds-lamps.ensures
-          (lamps_within a.port _) (omega (arith, few)) is (rw (unlit (goal.at.returns-in-Failed c).After-set_port_led_onto-lit) at c.set_port_led_onto-lit.ensures)
-          (ap said_done c.in-Refused.is ∙ ap refused c.in-Failed.is))
+          (lamps_within a.port _) (omega (arith, few)) is (rw (unlit (goal.at.returns-in-Failed c).After-set_port_led_onto-lit, c.in-Err.is) at c.set_port_led_onto-lit.ensures)
+          (ap refused c.in-Failed.is))
           c.after_lamps-in-Failed.ensures;
     }

@@ -9,7 +9,7 @@ use Rattle.keyboard.proofs.on_byte.Goals as goal
 pub returns-then-is_silent : goal.returns-then-is_silent
 returns-then-is_silent c =
     let a = c.args in
-    rw (c.from_kept-waiting.ensures, c.is_prefix-prefix.ensures)
+    rw (c.from.ensures, c.is_prefix.ensures)
     (record {
       at = λ rest is few.
           gives_back a.keyboard _ _ _ (silent_byte (port_rules a.profile a.port) a.keyboard a.scan_code rest _ _ is (sym c.is_silent.ensures ∙ c.if-is_silent.true)) refl;

@@ -7,8 +7,8 @@ use Rattle.keyboard.proofs.take_byte.Goals as goal
 pub returns-then-waiting-ne0 : goal.returns-then-waiting-ne0
 returns-then-waiting-ne0 c =
     let w = c.args.waiting in
-    takes_oldest w.bytes w.count (search rules) _ c.take_oldest-taken.ensures
+    rw c.new.ensures (takes_oldest w.bytes w.count (search rules) _ c.take_oldest-taken.ensures)
 
 pub returns : goal.returns
 returns c =
-    takes_read c.args.waiting.bytes (search rules) _ c.read_scancode-read.ensures c.none_kept.ensures
+    takes_read c.args.waiting.bytes (search rules) _ c.read_scancode.ensures c.none_kept.ensures

@@ -7,8 +7,8 @@ use Rattle.keyboard_calls.specs.Calls.{table_of}
 use Rattle.keyboard_calls.proofs.Calls.{StateReached}
 use Rattle.keyboard_calls.proofs.keyboard_calls_on_state.Given as goal
 
-abbrev pub invariant-loop-i : goal.invariant-loop-i
-invariant-loop-i l = StateReached (side_of l.second) l.script (fresh (table_of l.two)) l.initial.log l.times l.state l.log l.i
+abbrev pub invariant-loop : goal.invariant-loop
+invariant-loop l = StateReached (side_of l.second) l.script (fresh (table_of l.two)) l.initial.log l.times l.state l.log l.counter
 
-abbrev pub decreases-loop-i : goal.decreases-loop-i
-decreases-loop-i l = l.times - l.i
+abbrev pub decreases-loop : goal.decreases-loop
+decreases-loop l = l.times - l.counter

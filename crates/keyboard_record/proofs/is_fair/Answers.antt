@@ -3,7 +3,7 @@
 use native.Mathlib.Omega.{arith}
 use mathlib.Core.Bool.{true}
 use mathlib.Core.Path.{◌≡◌, ap}
-use Prim.Native.Nat.{ℕ, ◌≤◌}
+use Prim.Native.Nat.{ℕ, ◌<◌, ◌≤◌}
 use borrow.Author.Tests.{le-leb, lt-leb}
 use lib.Dec.{leb}
 use Rattle.keyboard_sides.specs.declared.Side.{Side}
@@ -21,16 +21,17 @@ pub returns-then-count-le-SHARE : goal.returns-then-count-le-SHARE
 unfolding fair
 returns-then-count-le-SHARE c =
     let a = c.args in
-    rw (few Side.First a.sides a.count c.if-count-le-SHARE.true, few Side.Second a.sides a.count c.if-count-le-SHARE.true)
+    rw (le-leb a.count 96 c.if-count-le-SHARE.true, few Side.First a.sides a.count c.if-count-le-SHARE.true, few Side.Second a.sides a.count c.if-count-le-SHARE.true)
 
-pub returns-then-count_of-gt-SHARE : goal.returns-then-count_of-gt-SHARE
+pub returns-then-count_of-le-SHARE : goal.returns-then-count_of-le-SHARE
 unfolding fair
-returns-then-count_of-gt-SHARE c =
+returns-then-count_of-le-SHARE c =
     let a = c.args in
-    rw (lt-leb (count_of Side.First (sides_of a.sides a.count)) 96 (omega (arith, c.if-count_of-gt-SHARE.true, c.count_of.ensures)))
+    rw (le-leb (count_of Side.First (sides_of a.sides a.count)) 96 (omega (arith, c.if-count_of-le-SHARE.true, c.count_of.ensures))) (ap (λ (n : ℕ). leb n 96) c.count_of-then-count_of-le-SHARE.ensures)
 
-pub returns : goal.returns
+pub returns-else-count_of-le-SHARE : goal.returns-else-count_of-le-SHARE
 unfolding fair
-returns c =
+returns-else-count_of-le-SHARE c =
     let a = c.args in
-    rw (le-leb (count_of Side.First (sides_of a.sides a.count)) 96 (omega (arith, c.if-count_of-gt-SHARE.false, c.count_of.ensures))) (ap (λ (n : ℕ). leb n 96) c.count_of-2.ensures)
+    let h : 96 < count_of Side.First (sides_of a.sides a.count) = omega (arith, c.if-count_of-le-SHARE.false, c.count_of.ensures) in
+    rw (lt-leb (count_of Side.First (sides_of a.sides a.count)) 96 h) (lt-leb c.count_of.result 96 c.if-count_of-le-SHARE.false)

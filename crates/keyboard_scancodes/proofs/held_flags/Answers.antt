@@ -14,21 +14,21 @@ module _ {code : ℕ} {x : Bool} (k : ℕ) (y : Bool) {w : ℕ} (is : held_flags
   by_prefix : code ≡ k → x ≡ y → w ≡ held_flags flag_table code x
   by_prefix e f = sym (ap₂ (λ (k : ℕ) (z : Bool). held_flags flag_table k z) e f ∙ is)
 
-pub returns-then-prefix : goal.returns-then-prefix
+pub returns-in-29 : goal.returns-in-29
 unfolding flag_table is_of put_bit
-returns-then-prefix c = by_prefix 0x1D true refl c.in-29.is c.if-prefix.true
+returns-in-29 c = by_prefix 0x1D true refl c.in-29.is c.if-prefix.true
 
-pub returns-else-prefix : goal.returns-else-prefix
+pub returns-in-29-2 : goal.returns-in-29-2
 unfolding flag_table is_of put_bit
-returns-else-prefix c = by_prefix 0x1D false refl c.in-29.is c.if-prefix.false
+returns-in-29-2 c = by_prefix 0x1D false refl c.in-29.is c.if-prefix.false
 
-pub returns-then-prefix-2 : goal.returns-then-prefix-2
+pub returns-in-56 : goal.returns-in-56
 unfolding flag_table is_of put_bit
-returns-then-prefix-2 c = by_prefix 0x38 true refl c.in-56.is c.if-prefix-2.true
+returns-in-56 c = by_prefix 0x38 true refl c.in-56.is c.if-prefix-2.true
 
-pub returns-else-prefix-2 : goal.returns-else-prefix-2
+pub returns-in-56-2 : goal.returns-in-56-2
 unfolding flag_table is_of put_bit
-returns-else-prefix-2 c = by_prefix 0x38 false refl c.in-56.is c.if-prefix-2.false
+returns-in-56-2 c = by_prefix 0x38 false refl c.in-56.is c.if-prefix-2.false
 
 pub returns-in-42 : goal.returns-in-42
 unfolding flag_table is_of put_bit

@@ -30,8 +30,8 @@ returns-then-code-lt64 c =
     let code = c.args.scan_code % 128 in
     tested low_mask code c.if-code-lt64.true ∙ low code c.if-code-lt64.true
 
-pub returns : goal.returns
-returns c =
+pub returns-else-code-lt64 : goal.returns-else-code-lt64
+returns-else-code-lt64 c =
     let code = c.args.scan_code % 128 in
     let h : code - 64 < 64 = omega arith in
     let e : code - 64 + 64 ≡ code = omega arith in

@@ -44,17 +44,18 @@ none : (code : ℕ) → 128 ≤ code → is_tournament_code code ≡ false
 unfolding tournament_keys
 none code h = not_among code h tournament_keys refl
 
-pub returns-then-code-lt64 : goal.returns-then-code-lt64
-returns-then-code-lt64 c =
+pub returns-in-0-to-63 : goal.returns-in-0-to-63
+returns-in-0-to-63 c =
     let code = c.args.code in
-    tested keys_mask code c.if-code-lt64.true ∙ low code c.if-code-lt64.true
+    let h : code < 64 = omega arith in
+    tested keys_mask code h ∙ low code h
 
-pub returns-then-code-lt128 : goal.returns-then-code-lt128
-returns-then-code-lt128 c =
+pub returns-in-64-to-127 : goal.returns-in-64-to-127
+returns-in-64-to-127 c =
     let code = c.args.code in
     let h : code - 64 < 64 = omega arith in
     let e : code - 64 + 64 ≡ code = omega arith in
     tested arrows_mask (code - 64) h ∙ high (code - 64) h ∙ ap is_tournament_code e
 
-pub returns : goal.returns
-returns c = sym (none c.args.code (omega arith))
+pub returns-in_default : goal.returns-in_default
+returns-in_default c = sym (none c.args.code (omega arith))

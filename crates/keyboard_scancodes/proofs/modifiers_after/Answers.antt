@@ -43,8 +43,8 @@ returns-then-scan_code-lt-KEY_RELEASED_OFFSET c =
     (c.followed_lock-lock.ensures ∙ lock_of a.profile b x pressed)
     ∙ press_after (stroke b x) w 16 (followed a.profile) (table_distinct a.profile) (table_below_16 a.profile) (omega arith) (lt-ltb b 128 pressed)
 
-pub returns : goal.returns
-returns c =
+pub returns-else-scan_code-lt-KEY_RELEASED_OFFSET : goal.returns-else-scan_code-lt-KEY_RELEASED_OFFSET
+returns-else-scan_code-lt-KEY_RELEASED_OFFSET c =
     let a = c.args in
     let b = a.scan_code in
     let x = a.keyboard.prefix in

@@ -1,15 +1,13 @@
 -- `keyboard_record::HandlerState::call_formed` meets its contract: the side, then the record.
 -- Assumes nothing.
-use mathlib.Core.Path.{ap, sym, ◌∙◌}
-use borrow.Author.Tests.{not-true, not-false}
+use mathlib.Core.Path.{sym, ◌∙◌}
 use Rattle.keyboard_record.specs.Record.{call_formed}
-use mathlib.Core.Bool.{not}
 use Rattle.keyboard_record.proofs.HandlerState.call_formed.Goals as goal
 
-pub returns-then-not-has : goal.returns-then-not-has
+pub returns-then-has : goal.returns-then-has
 unfolding call_formed
-returns-then-not-has c = rw (sym c.has.ensures ∙ not-true _ (ap not c.if-not-has.true))
+returns-then-has c = rw (sym c.has.ensures ∙ c.if-has.true) c.well_formed-then-has.ensures
 
-pub returns : goal.returns
+pub returns-else-has : goal.returns-else-has
 unfolding call_formed
-returns c = rw (sym c.has.ensures ∙ not-false _ (ap not c.if-not-has.false)) c.well_formed-2.ensures
+returns-else-has c = rw (sym c.has.ensures ∙ c.if-has.false) c.if-has.false
