@@ -10,7 +10,8 @@ use lib.Dec.{ltb}
 use lib.ListN.{length, drop}
 use Rattle.exchange.specs.Answer.{gives, refuses}
 use Rattle.number_coding.specs.Coding.{numbers_end, coding}
-use Rattle.number_coding.specs.Reading.{Number, taking, groups_of, value_of, is_shortest, judged, read_number}
+use Rattle.number_coding.specs.declared.Number.{Number}
+use Rattle.number_coding.specs.Reading.{taking, groups_of, value_of, is_shortest, judged, read_number}
 use Rattle.number_coding.specs.Coded.{CodedAs, number, no_number, Answered}
 use Rattle.number_coding.proofs.RoundTrip.{coding_read, read_of}
 

@@ -14,7 +14,8 @@ use lib.Seq.{drop-cons}
 use borrow.Author.Tests.{lt-ltb, le-ltb, eq-eqb, ne_eqb}
 use Rattle.exchange.specs.Answer.{Answer, gives, refuses}
 use Rattle.number_coding.specs.Coding.{numbers_end}
-use Rattle.number_coding.specs.Reading.{Number, taking, before, groups_of, value_of, ends_in_zero, is_shortest, judged, read_number}
+use Rattle.number_coding.specs.declared.Number.{Number}
+use Rattle.number_coding.specs.Reading.{taking, before, groups_of, value_of, ends_in_zero, is_shortest, judged, read_number}
 use Rattle.number_coding.proofs.Groups.{groups_last, groups_more, groups_empty, Begins, Found, nothing, found, find, value_first, value_one, value_positive, ends_behind, shortest_first}
 
 -- What a number is by the groups behind those that are read.
@@ -87,8 +88,8 @@ module _ (input : List ℕ) (at : ℕ) (l : at < length input) where
 -- ---- the others
 
 module _ {input : List ℕ} {at place value scale : ℕ} (g : Going input at place value scale) where
-  pub cut_short : length input - at ≤ place → read_number (drop at input) ≡ refuses 27
-  cut_short h = let past : length input ≤ at + place = omega arith in g.says ∙ rw (drop_of_length-le input past, groups_empty)
+  pub cut_short : length input ≤ at + place → read_number (drop at input) ≡ refuses 27
+  cut_short h = g.says ∙ rw (drop_of_length-le input h, groups_empty)
 
   pub too_many : 5 ≤ place → read_number (drop at input) ≡ refuses 27
   too_many h = g.says ∙ by (find (drop (at + place) input))
@@ -109,60 +110,60 @@ module _ {input : List ℕ} {at place value scale : ℕ} (g : Going input at pla
   pub group_most : (b : ℕ) → b < 128 → b * scale + scale ≤ 128 * scale
   group_most b h = omega (arith, mul-le-mul_right scale h)
 
-  module _ (l : place < length input - at) where
-    next : drop (at + place) input ≡ get_or input (at + place) 0 ∷ drop (at + place + 1) input
-    next = rw (add-one (at + place)) (drop-cons input (at + place) 0 (omega arith))
+  module _ {byte : ℕ} (l : at + place < length input) (e : byte ≡ get_or input (at + place) 0) where
+    next : drop (at + place) input ≡ byte ∷ drop (at + place + 1) input
+    next = rw (e, add-one (at + place)) (drop-cons input (at + place) 0 l)
 
-    ends_so : get_or input (at + place) 0 < 128
+    ends_so : byte < 128
         → read_number (drop at input)
-        ≡ cond (not (eqb (get_or input (at + place) 0) 0) && ltb (value + scale * get_or input (at + place) 0) numbers_end)
-        (gives (taking (value + scale * get_or input (at + place) 0) (place + 1))) (refuses 27)
+        ≡ cond (not (eqb byte 0) && ltb (value + scale * byte) numbers_end)
+        (gives (taking (value + scale * byte) (place + 1))) (refuses 27)
     unfolding ends_in_zero
-    ends_so h = g.says ∙ rw (next, groups_last (get_or input (at + place) 0) (drop (at + place + 1) input) h, value_one (get_or input (at + place) 0))
+    ends_so h = g.says ∙ rw (next, groups_last byte (drop (at + place + 1) input) h, value_one byte)
 
-    going_on : 128 ≤ get_or input (at + place) 0 → get_or input (at + place) 0 < 256 → place < 5
-        → Going input at (place + 1) (value + (get_or input (at + place) 0 - 128) * scale) (scale * 128)
+    going_on : 128 ≤ byte → byte < 256 → place < 5
+        → Going input at (place + 1) (value + (byte - 128) * scale) (scale * 128)
     going_on h b few =
         record {
-          says = g.says ∙ rw (next, groups_more (get_or input (at + place) 0) (drop (at + place + 1) input) h b) (by (find (drop (at + place + 1) input)) ∙ rw again);
+          says = g.says ∙ rw (next, groups_more byte (drop (at + place + 1) input) h b) (by (find (drop (at + place + 1) input)) ∙ rw again);
           scaled = scaled_next g.scaled few;
-          small = omega (arith, g.small, group_most (get_or input (at + place) 0 - 128) (omega arith));
+          small = omega (arith, g.small, group_most (byte - 128) (omega arith));
         }
       where
         again : at + place + 1 ≡ at + (place + 1)
         again = omega arith
 
         by : Found (drop (at + place + 1) input)
-            → goes_on place value scale (before (get_or input (at + place) 0 - 128) (groups_of (drop (at + place + 1) input)))
-            ≡ goes_on (place + 1) (value + (get_or input (at + place) 0 - 128) * scale) (scale * 128) (groups_of (drop (at + place + 1) input))
+            → goes_on place value scale (before (byte - 128) (groups_of (drop (at + place + 1) input)))
+            ≡ goes_on (place + 1) (value + (byte - 128) * scale) (scale * 128) (groups_of (drop (at + place + 1) input))
         by (nothing e) = rw e
         by (found gs e s) =
-            let d : ℕ = get_or input (at + place) 0 - 128 in
+            let d : ℕ = byte - 128 in
             let v : value + scale * (d + 128 * value_of gs) ≡ value + d * scale + scale * 128 * value_of gs = omega arith in
             let c : place + suc (length gs) ≡ place + 1 + length gs = omega arith in
-            rw (e, value_first (get_or input (at + place) 0 - 128) gs, ends_behind (get_or input (at + place) 0 - 128) s, v, c)
+            rw (e, value_first (byte - 128) gs, ends_behind (byte - 128) s, v, c)
 
     -- with the group that the code makes of the byte
-    module _ (w : ℕ) (q : w ≡ get_or input (at + place) 0 % 128) where
+    module _ (w : ℕ) (q : w ≡ byte % 128) where
       pub product_most : w * scale + scale ≤ 128 * scale
       product_most = omega (arith, mul-le-mul_right scale (below w q))
         where
-          below : (w : ℕ) → w ≡ get_or input (at + place) 0 % 128 → suc w ≤ 128
+          below : (w : ℕ) → w ≡ byte % 128 → suc w ≤ 128
           below w q = omega arith
 
-      module _ (h : get_or input (at + place) 0 < 128) where
-        same : scale * get_or input (at + place) 0 ≡ w * scale
-        same = let e : get_or input (at + place) 0 ≡ w = omega arith in rw e (omega arith)
+      module _ (h : byte < 128) where
+        same : scale * byte ≡ w * scale
+        same = let i : byte ≡ w = omega arith in rw i (omega arith)
 
-        pub ends_zero : get_or input (at + place) 0 ≡ 0 → refuses 27 ≡ read_number (drop at input)
-        ends_zero z = sym (ends_so h ∙ rw (eq-eqb (get_or input (at + place) 0) 0 z))
+        pub ends_zero : byte ≡ 0 → refuses 27 ≡ read_number (drop at input)
+        ends_zero z = sym (ends_so h ∙ rw (eq-eqb byte 0 z))
 
-        module _ (z : get_or input (at + place) 0 ≡ 0 → ⊥) where
+        module _ (z : byte ≡ 0 → ⊥) where
           pub ends_large : numbers_end ≤ value + w * scale → refuses 27 ≡ read_number (drop at input)
-          ends_large m = sym (ends_so h ∙ rw (ne_eqb (get_or input (at + place) 0) 0 z, same, le-ltb (value + w * scale) numbers_end m))
+          ends_large m = sym (ends_so h ∙ rw (ne_eqb byte 0 z, same, le-ltb (value + w * scale) numbers_end m))
 
           pub ends_well : value + w * scale < numbers_end → gives (taking (value + w * scale) (place + 1)) ≡ read_number (drop at input)
-          ends_well m = sym (ends_so h ∙ rw (ne_eqb (get_or input (at + place) 0) 0 z, same, lt-ltb (value + w * scale) numbers_end m))
+          ends_well m = sym (ends_so h ∙ rw (ne_eqb byte 0 z, same, lt-ltb (value + w * scale) numbers_end m))
 
-      pub goes : 128 ≤ get_or input (at + place) 0 → get_or input (at + place) 0 < 256 → place < 5 → Going input at (place + 1) (value + w * scale) (scale * 128)
-      goes h b few = let e : w ≡ get_or input (at + place) 0 - 128 = omega arith in rw e (going_on h b few)
+      pub goes : 128 ≤ byte → byte < 256 → place < 5 → Going input at (place + 1) (value + w * scale) (scale * 128)
+      goes h b few = let i : w ≡ byte - 128 = omega arith in rw i (going_on h b few)

@@ -1,61 +1,83 @@
 -- A number's bytes, put into an output one after another.
 -- Assumes nothing.
-use mathlib.Core.Path.{◌≡◌, refl, sym, ap, ◌∙◌}
-use mathlib.Core.List.{List}
+use mathlib.Core.Path.{◌≡◌, refl, sym, ap, ap₂, ◌∙◌}
+use mathlib.Core.List.{List, [], ◌∷◌, ◌++◌, append_assoc, append-nil}
 use Prim.Native.Nat.{ℕ, zero, suc, ◌+◌, ◌^◌, ◌/◌, ◌%◌, ◌<◌, ◌≤◌}
-use native.Mathlib.Numerals.{add-one}
 use native.Mathlib.Omega.{arith}
-use lib.ListN.{length, set, length-set}
-use lib.Seq.{sets, sets-eq}
+use lib.ListN.{length, take, drop, set, length-append, length-set}
+use Rattle.std.proofs.lemmas.List.{length-take-le, take_more_set, take_all}
+use lib.Seq.{drop-drop}
 use borrow.Author.Tests.{le-leb, lt-leb}
+use borrow.Rule.Slice.PartMut.{put_mid}
 use Rattle.exchange.specs.Answer.{gives, refuses}
 use Rattle.ps2_answers.specs.Refusals.{success}
 use Rattle.number_coding.specs.Coding.{coding_within, coding}
 use Rattle.number_coding.specs.Writing.{outcome, with_bytes, number_written}
-use Rattle.number_coding.proofs.Lengths.{within_last, within_more, length_some}
+use Rattle.number_coding.proofs.Lengths.{within_last, within_more}
 
-pub record Putting (number at : ℕ) (before out : List ℕ) (left place : ℕ) : Type 0 where
-  -- what is left to be put, in so many groups at most
-  pub groups : ℕ
-  pub few : left < 128 ^ suc groups
-  pub same : sets before at (coding number) ≡ sets out place (coding_within (suc groups) left)
-  pub fits : place + length (coding_within (suc groups) left) ≤ length out
-  pub long : length out ≡ length before
+-- what is still to be put of a number that was divided down to what is left of it: nothing, or its groups
+pub data Left : List ℕ → ℕ → Type 0 where
+  nothing : {left : ℕ} → Left [] left
+  groups : {left : ℕ} (k : ℕ) → left < 128 ^ suc k → Left (coding_within (suc k) left) left
 
-pub putting_begins : (number at : ℕ) (out : List ℕ) → number < 4294967296 → at + length (coding number) ≤ length out → Putting number at out out number at
-putting_begins number at out h l = record { groups = 4; few = omega arith; same = refl; fits = l; long = refl }
+pub record Putting (number : ℕ) (out : List ℕ) (left place : ℕ) : Type 0 where
+  pub rest : List ℕ
+  pub of_left : Left rest left
+  pub same : take place out ++ rest ≡ coding number
+  pub long : length out ≡ length (coding number)
 
-module _ {number at : ℕ} {before out : List ℕ} {left place : ℕ} (p : Putting number at before out left place) where
-  module _ (h : 128 ≤ left) where
-    pub room_more : place + 1 < length out
-    room_more = by p.groups p.few p.fits
-      where
-        by : (k : ℕ) → left < 128 ^ suc k → place + length (coding_within (suc k) left) ≤ length out → place + 1 < length out
-        by zero f l = absurd (omega arith)
-        by (suc k) f l = omega (arith, ap length (within_more (suc k) left h), length_some k (left / 128))
+pub putting_begins : (number : ℕ) (out : List ℕ) → number < 4294967296 → length out ≡ length (coding number) → Putting number out number 0
+putting_begins number out h l = record { rest = coding number; of_left = groups 4 (omega arith); same = refl; long = l }
 
-    pub putting_on : Putting number at before (set out place (left % 128 + 128)) (left / 128) (place + 1)
-    putting_on = by p.groups p.few p.same p.fits
-      where
-        by : (k : ℕ) → left < 128 ^ suc k → sets before at (coding number) ≡ sets out place (coding_within (suc k) left)
-            → place + length (coding_within (suc k) left) ≤ length out → Putting number at before (set out place (left % 128 + 128)) (left / 128) (place + 1)
-        by zero f e l = absurd (omega arith)
-        by (suc k) f e l =
-            record {
-              groups = k;
-              few = omega arith;
-              same = e ∙ rw (within_more (suc k) left h, add-one place);
-              fits = simp length-set (omega (arith, ap length (within_more (suc k) left h)));
-              long = length-set out place (left % 128 + 128) ∙ p.long;
-            }
+module _ {number : ℕ} {out : List ℕ} {left place : ℕ} (p : Putting number out left place) where
+  rest_length : place ≤ length out → place + length p.rest ≡ length out
+  rest_length h = sym (ap (λ (k : ℕ). k + length p.rest) (length-take-le place out h)) ∙ sym (length-append (take place out) p.rest) ∙ ap length p.same ∙ sym p.long
 
-  pub room_last : place < length out
-  room_last = omega (arith, length_some p.groups left)
+  -- the group that is put is the first of the rest
+  put_first : (g left' : ℕ) (rest : List ℕ) → place < length out → p.rest ≡ g ∷ rest → Left rest left' → Putting number (set out place g) left' (place + 1)
+  put_first g left' rest h e l =
+      record {
+        rest = rest;
+        of_left = l;
+        same =
+            ap (λ (t : List ℕ). t ++ rest) (take_more_set out place g h)
+            ∙ append_assoc (take place out) (g ∷ []) rest
+            ∙ ap (λ (t : List ℕ). take place out ++ t) (sym e)
+            ∙ p.same;
+        long = length-set out place g ∙ p.long;
+      }
 
-  pub putting_ends : left < 128 → at + length (coding number) ≤ length before → set out place left ≡ with_bytes before at (coding number)
-  putting_ends h l = sym (sym (sets-eq (coding number) before at l) ∙ p.same ∙ rw (within_last p.groups left h))
+  pub putting_last : place < length out → left < 128 → Putting number (set out place left) (left / 128) (place + 1)
+  putting_last h l = by p.rest p.of_left refl
+    where
+      by : (r : List ℕ) → Left r left → p.rest ≡ r → Putting number (set out place left) (left / 128) (place + 1)
+      by _ nothing e = absurd (omega (arith, rest_length (omega arith), ap length e))
+      by _ (groups k f) e = put_first left (left / 128) [] h (e ∙ within_last k left l) nothing
+
+  pub putting_more : place < length out → 128 ≤ left → Putting number (set out place (left % 128 + 128)) (left / 128) (place + 1)
+  putting_more h l = by p.rest p.of_left refl
+    where
+      by : (r : List ℕ) → Left r left → p.rest ≡ r → Putting number (set out place (left % 128 + 128)) (left / 128) (place + 1)
+      by _ nothing e = absurd (omega (arith, rest_length (omega arith), ap length e))
+      by _ (groups zero f) e = absurd (omega arith)
+      by _ (groups (suc k) f) e =
+          put_first (left % 128 + 128) (left / 128) (coding_within (suc k) (left / 128)) h (e ∙ within_more (suc k) left l) (groups k (omega arith))
+
+  pub putting_ends : place ≡ length out → out ≡ coding number
+  putting_ends h = by p.rest refl
+    where
+      by : (r : List ℕ) → p.rest ≡ r → out ≡ coding number
+      by [] e = sym (append-nil out) ∙ sym (rw e at (ap (λ (t : List ℕ). t ++ p.rest) (take_all place out (omega arith)))) ∙ rw e at p.same
+      by (g ∷ r) e = absurd (omega (arith, rest_length (omega arith), ap length e))
 
 -- ---- with room and without
+
+-- bytes put into a part of an output
+pub part_put : (at k : ℕ) (out : List ℕ) {room bytes : List ℕ} → room ≡ bytes → k ≡ length bytes → put_mid at k out room ≡ with_bytes out at bytes
+part_put at k out {room} {bytes} e q =
+    let p : put_mid at k out room ≡ put_mid at (length bytes) out bytes = ap₂ (λ (r : List ℕ) (j : ℕ). put_mid at j out r) e q in
+    let d : put_mid at (length bytes) out bytes ≡ with_bytes out at bytes = ap (λ (t : List ℕ). take at out ++ (bytes ++ t)) (drop-drop (length bytes) at out) ∙ sym (append_assoc (take at out) bytes (drop (at + length bytes) out)) in
+    p ∙ d
 
 module _ (number at : ℕ) (out : List ℕ) where
   pub no_room : length out < at + length (coding number) → outcome (refuses 23) 0 out ≡ number_written number at out

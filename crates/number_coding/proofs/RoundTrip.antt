@@ -11,7 +11,8 @@ use lib.ListN.{length, drop}
 use borrow.Author.Tests.{lt-ltb, ltb-true, ltb-false, ne_eqb, not-true}
 use Rattle.exchange.specs.Answer.{gives, refuses}
 use Rattle.number_coding.specs.Coding.{numbers_end, coding_within, coding}
-use Rattle.number_coding.specs.Reading.{Number, taking, groups_of, value_of, ends_in_zero, is_shortest, judged, read_number}
+use Rattle.number_coding.specs.declared.Number.{Number}
+use Rattle.number_coding.specs.Reading.{taking, groups_of, value_of, ends_in_zero, is_shortest, judged, read_number}
 use Rattle.number_coding.specs.Coded.{CodedAs}
 use Rattle.number_coding.proofs.Groups.{groups_last, groups_more, Begins, last, more, Found, nothing, found, find, value_first, value_one, value_positive, ends_behind, shortest_first}
 use Rattle.number_coding.proofs.Lengths.{within_last, within_more}

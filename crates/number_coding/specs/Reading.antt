@@ -1,9 +1,10 @@
 -- A number read from the start of a string of bytes.
 -- Assumes nothing.
-use Rattle.std.specs.Prelude.{Bool, true, false, cond, not, ◌&&◌, List, [], ◌∷◌, ℕ, ◌+◌, ◌*◌, ◌-◌, eqb, ltb, length}
+use Rattle.std.specs.Prelude.{Bool, true, false, cond, not, ◌&&◌, List, [], ◌∷◌, ℕ, ◌+◌, ◌*◌, ◌-◌, eqb, ltb, length, Result, Ok, Err}
 use Rattle.std.proofs.Math.Option.{Option, none, some}
 use Rattle.exchange.specs.Answer.{Answer, gives, refuses}
-use Rattle.number_coding.specs.declared.NumberRead.{NumberRead}
+use Rattle.number_coding.specs.declared.Number.{Number}
+use Rattle.number_coding.specs.declared.Malformed.{Malformed}
 use Rattle.number_coding.specs.Coding.{numbers_end, groups_end}
 
 -- ---- the groups
@@ -35,10 +36,6 @@ is_shortest (g ∷ gs) = not (ends_in_zero gs)
 -- ---- the number
 
 -- A number, and how many bytes it took.
-pub record Number : Type 0 where
-  pub value : ℕ
-  pub count : ℕ
-
 abbrev pub taking : ℕ → ℕ → Number
 taking value count = record { value = value; count = count }
 
@@ -51,6 +48,6 @@ unfoldable pub read_number : List ℕ → Answer Number
 read_number bytes = judged (groups_of bytes)
 
 -- What the code's answer says.
-abbrev pub said_number : NumberRead → Answer Number
-said_number (NumberRead.Number value count) = gives (taking value count)
-said_number NumberRead.Malformed = refuses 27
+abbrev pub said_number : Result Number Malformed → Answer Number
+said_number (Ok number) = gives number
+said_number (Err malformed) = refuses 27

@@ -1,9 +1,9 @@
 -- A number written into an output, from a place on.
 -- Assumes nothing.
-use Rattle.std.specs.Prelude.{cond, List, ◌++◌, ℕ, ◌+◌, leb, length, take, drop}
+use Rattle.std.specs.Prelude.{cond, List, ◌++◌, ℕ, ◌+◌, leb, length, take, drop, Result, Ok, Err}
 use Rattle.exchange.specs.Answer.{Answer, gives, refuses}
 use Rattle.ps2_answers.specs.Refusals.{Success, success}
-use Rattle.number_coding.specs.declared.NumberAnswer.{NumberAnswer}
+use Rattle.number_coding.specs.declared.OutputShort.{OutputShort}
 use Rattle.number_coding.specs.Coding.{coding}
 
 -- What a call leaves: its answer, the count of bytes written, and the output.
@@ -24,7 +24,11 @@ unfoldable pub number_written : ℕ → ℕ → List ℕ → Outcome
 number_written n at out =
     cond (leb (at + length (coding n)) (length out)) (outcome (gives success) (length (coding n)) (with_bytes out at (coding n))) (outcome (refuses 23) 0 out)
 
--- What the code's answer says.
-abbrev pub said_written : NumberAnswer → Answer Success
-said_written NumberAnswer.Done = gives success
-said_written NumberAnswer.OutputShort = refuses 23
+-- What the code's answer says: a refusal counts no byte as written.
+abbrev pub said_written : Result ℕ OutputShort → Answer Success
+said_written (Ok count) = gives success
+said_written (Err short) = refuses 23
+
+abbrev pub count_written : {Refusal : Type 0} → Result ℕ Refusal → ℕ
+count_written (Ok count) = count
+count_written (Err refusal) = 0

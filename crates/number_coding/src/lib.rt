@@ -1,55 +1,43 @@
 // Numbers below 4,294,967,296 as bytes: groups of seven bits, lowest first, the top bit set on all but the last, in the shortest form.
 #![tactic(auto)]
 
-ghost use Rattle.std.specs.Prelude.{◌≡◌, ◌+◌, ◌-◌, ◌≤◌, ◌<◌, length, drop, get_or};
+ghost use Rattle.std.specs.Prelude.{◌≡◌, ◌-◌, ◌≤◌, ◌<◌, length, drop, get_or};
 ghost use Rattle.exchange.specs.Answer.{number_answered};
 ghost use Rattle.number_coding.specs.Coding.{groups_end, coding};
 ghost use Rattle.number_coding.specs.Reading.{read_number, said_number};
-ghost use Rattle.number_coding.specs.Writing.{outcome, with_bytes, number_written, said_written};
+ghost use Rattle.number_coding.specs.Writing.{outcome, number_written, said_written, count_written};
 
-// A number that was read, with how many bytes it took; or that it is cut short, too large or not in the shortest form, which document 02 numbers 27.
-#[derive(Clone, Copy)]
-pub enum NumberRead {
-    Number(u32, usize),
-    Malformed,
+// A number that was read, and how many bytes it took.
+#[derive(Clone, Copy, PartialEq, Eq)]
+pub struct Number {
+    pub value: u32,
+    pub count: usize,
 }
 
-impl NumberRead {
-    // The number that document 02 gives to a refusal, and 0 where there is none.
+// A number is cut short, too large or not in the shortest form.
+#[derive(Clone, Copy, PartialEq, Eq)]
+pub struct Malformed;
+
+impl Malformed {
+    // The number that document 02 gives to the refusal. Kept, no plainer: the documents call it a number, and `u8::from(refusal)` says less.
     pub fn number(self) -> u8
-        ensures { result ≡ number_answered (said_number self) }
+        ensures { result ≡ number_answered (said_number (Err self)) }
     {
-        match self {
-            NumberRead::Number(_, _) => 0,
-            NumberRead::Malformed => 27,
-        }
+        27
     }
 }
 
-// How a writing ends: done, or with the refusal that document 02 numbers 23.
-#[derive(Clone, Copy)]
-pub enum NumberAnswer {
-    Done,
-    OutputShort,
-}
+// An output has no room for a number.
+#[derive(Clone, Copy, PartialEq, Eq)]
+pub struct OutputShort;
 
-impl NumberAnswer {
-    // The number that document 02 gives to a refusal, and 0 where there is none.
+impl OutputShort {
+    // The number that document 02 gives to the refusal. Kept, no plainer: the documents call it a number, and `u8::from(refusal)` says less.
     pub fn number(self) -> u8
-        ensures { result ≡ number_answered (said_written self) }
+        ensures { result ≡ number_answered (said_written (Err self)) }
     {
-        match self {
-            NumberAnswer::Done => 0,
-            NumberAnswer::OutputShort => 23,
-        }
+        23
     }
-}
-
-// An answer, with how many bytes of the output are written.
-#[derive(Clone, Copy)]
-pub struct NumberWritten {
-    pub answer: NumberAnswer,
-    pub written: usize,
 }
 
 // A group is below this; a byte from here on has its top bit set, and another group follows.
@@ -73,112 +61,87 @@ const FOUR_GROUPS: u32 = 0x20_0000;
 
 const FIVE_GROUPS: u32 = 0x1000_0000;
 
-fn wide(byte: u8) -> u64
-    ensures { result ≡ byte }
-{
-    byte as u64
-}
-
 // Reads the number that stands in a string from a place on.
-pub fn read_number(input: &[u8], at: usize) -> NumberRead
+pub fn read_number(input: &[u8], at: usize) -> Result<Number, Malformed>
     ensures { said_number result ≡ read_number (drop at input.now) }
 {
-    if input.len() <= at {
-        return NumberRead::Malformed;
-    }
-    let first = input[at];
+    let Some(&first) = input.get(at) else {
+        return Err(Malformed);
+    };
     if first < GROUPS_END {
-        return NumberRead::Number(first as u32, 1);
+        return Ok(Number {
+            value: u32::from(first),
+            count: 1,
+        });
     }
-    read_groups(input, at, wide(first - GROUPS_END))
+    read_groups(input, at, u64::from(first - GROUPS_END))
 }
 
 // Reads the other groups of a number, behind the first.
-fn read_groups(input: &[u8], at: usize, first: u64) -> NumberRead
+fn read_groups(input: &[u8], at: usize, first: u64) -> Result<Number, Malformed>
     requires { (at < length input.now) × (groups_end ≤ get_or input.now at 0) × (first ≡ get_or input.now at 0 - groups_end) }
     ensures { said_number result ≡ read_number (drop at input.now) }
 {
-    let room = input.len() - at;
     let mut value = first;
     let mut scale = SCALE;
-    let mut place: usize = 1;
-    while place < MOST_GROUPS {
-        if room <= place {
-            return NumberRead::Malformed;
-        }
-        let byte = input[at + place];
-        let whole = value + wide(byte % GROUPS_END) * scale;
-        let end = place + 1;
+    for place in 1..MOST_GROUPS {
+        let Some(&byte) = input.get(at + place) else {
+            return Err(Malformed);
+        };
+        let whole = value + u64::from(byte % GROUPS_END) * scale;
         if byte < GROUPS_END {
-            if byte == 0 {
-                return NumberRead::Malformed;
+            if byte == 0 || NUMBERS_END <= whole {
+                return Err(Malformed);
             }
-            if NUMBERS_END <= whole {
-                return NumberRead::Malformed;
-            }
-            return NumberRead::Number(whole as u32, end);
+            return Ok(Number {
+                value: whole as u32,
+                count: place + 1,
+            });
         }
         value = whole;
         scale *= SCALE;
-        place = end;
     }
-    NumberRead::Malformed
+    Err(Malformed)
 }
 
 // How many bytes a number takes.
 pub fn number_length(number: u32) -> usize
     ensures { result ≡ length (coding number) }
 {
-    if number < TWO_GROUPS {
-        return 1;
+    match number {
+        ..TWO_GROUPS => 1,
+        ..THREE_GROUPS => 2,
+        ..FOUR_GROUPS => 3,
+        ..FIVE_GROUPS => 4,
+        _ => 5,
     }
-    if number < THREE_GROUPS {
-        return 2;
-    }
-    if number < FOUR_GROUPS {
-        return 3;
-    }
-    if number < FIVE_GROUPS {
-        return 4;
-    }
-    5
 }
 
-// Writes a number into an output from a place on. What is not written stays as it was; a refusal writes nothing.
-pub fn write_number(number: u32, output: &mut [u8], at: usize) -> NumberWritten
-    ensures { outcome (said_written result.answer) result.written output.new ≡ number_written number at output.old }
+// Writes a number into an output from a place on, and tells how many bytes it takes. What is not written stays as it was; a refusal writes nothing.
+// Kept, a rule of the project, here and below: no heap, so bytes go into a lent output.
+pub fn write_number(number: u32, output: &mut [u8], at: usize) -> Result<usize, OutputShort>
+    ensures { outcome (said_written result) (count_written result) output.new ≡ number_written number at output.old }
 {
     let length = number_length(number);
-    if output.len() < at {
-        return NumberWritten {
-            answer: NumberAnswer::OutputShort,
-            written: 0,
-        };
+    if output.len().saturating_sub(at) < length {
+        return Err(OutputShort);
     }
-    if output.len() - at < length {
-        return NumberWritten {
-            answer: NumberAnswer::OutputShort,
-            written: 0,
-        };
-    }
-    put_number(number, output, at);
-    NumberWritten {
-        answer: NumberAnswer::Done,
-        written: length,
-    }
+    put_number(number, &mut output[at..at + length]);
+    Ok(length)
 }
 
-// Writes a number that finds room.
-fn put_number(number: u32, output: &mut [u8], at: usize)
-    requires { at + length (coding number) ≤ length output.old }
-    ensures { output.new ≡ with_bytes output.old at (coding number) }
+// Writes a number into as much room as it takes.
+fn put_number(number: u32, room: &mut [u8])
+    requires { length room.old ≡ length (coding number) }
+    ensures { room.new ≡ coding number }
 {
     let mut left = number;
-    let mut place = at;
-    while TWO_GROUPS <= left {
-        output[place] = (left % TWO_GROUPS) as u8 + GROUPS_END;
+    for group in room.iter_mut() {
+        *group = if left < TWO_GROUPS {
+            left as u8
+        } else {
+            (left % TWO_GROUPS) as u8 + GROUPS_END
+        };
         left /= TWO_GROUPS;
-        place += 1;
     }
-    output[place] = left as u8;
 }

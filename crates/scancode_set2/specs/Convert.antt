@@ -1,11 +1,12 @@
 -- The conversion of a set 2 stream to set 1, as request 2.2 words it.
 -- Assumes nothing.
-use Rattle.std.specs.Prelude.{true, cond, List, [], ◌∷◌, ◌++◌, ◌≡◌, ℕ, zero, suc, ◌+◌, ◌/◌, ◌%◌, ◌^◌, ltb, length, drop}
+use Rattle.std.specs.Prelude.{true, cond, List, [], ◌∷◌, ◌++◌, ◌≡◌, ℕ, zero, suc, ◌+◌, ◌/◌, ◌%◌, ◌^◌, ltb, length, drop, Result, Ok, Err}
 use Rattle.std.proofs.Math.Option.{Option, none, some}
 use Rattle.bits.specs.Bits.{put_bit}
 use Rattle.exchange.specs.Answer.{Answer, gives, refuses}
 use Rattle.ps2_answers.specs.Refusals.{Success, success}
-use Rattle.scancode_set2.specs.declared.ConvertAnswer.{ConvertAnswer}
+use Rattle.scancode_set2.specs.declared.ConvertRefusal.{ConvertRefusal}
+use Rattle.scancode_set2.specs.declared.ConvertRefusal.TheVariants.{NoEntry, OutputFull, EndsAfterF0}
 use Rattle.scancode_set2.specs.Table.{entry_of}
 use Rattle.scancode_set2.specs.Codes.{is_prefix, Code, alone, after_f0, ends_after_f0, codes, width}
 
@@ -84,9 +85,13 @@ leaves c out = outcome c.end c.used (length c.bytes) (c.bytes ++ drop (length c.
 abbrev pub converted : List ℕ → List ℕ → Outcome
 converted stream out = leaves (convert_stream stream (length out)) out
 
--- What the code's answer says, by request 2.2's numbers.
-abbrev pub said_converted : ConvertAnswer → Answer Success
-said_converted ConvertAnswer.Done = gives success
-said_converted ConvertAnswer.NoEntry = refuses 22
-said_converted ConvertAnswer.OutputFull = refuses 23
-said_converted ConvertAnswer.EndsAfterF0 = refuses 24
+-- The number of a refusal in request 2.2.
+abbrev pub refusal_number : ConvertRefusal → ℕ
+refusal_number NoEntry = 22
+refusal_number OutputFull = 23
+refusal_number EndsAfterF0 = 24
+
+-- What the code's answer says.
+abbrev pub said_converted : Result (Unit {0}) ConvertRefusal → Answer Success
+said_converted (Ok u) = gives success
+said_converted (Err r) = refuses (refusal_number r)

@@ -2,36 +2,29 @@
 #![tactic(auto)]
 
 ghost use Rattle.std.specs.Prelude.{◌≡◌};
-ghost use Rattle.exchange.specs.Answer.{number_answered};
-ghost use Rattle.scancode_set2.specs.Convert.{BothBytes, outcome, converted, said_converted};
+ghost use Rattle.scancode_set2.specs.Convert.{BothBytes, outcome, converted, refusal_number, said_converted};
 
-// How a conversion ends: done, or with the refusal that request 2.2 numbers 22, 23 or 24.
-#[derive(Clone, Copy)]
-pub enum ConvertAnswer {
-    Done,
-    NoEntry,
-    OutputFull,
-    EndsAfterF0,
+// Why a conversion ends before its stream does, by request 2.2's numbers.
+#[derive(Clone, Copy, Debug, PartialEq, Eq)]
+pub enum ConvertRefusal {
+    NoEntry = 22,
+    OutputFull = 23,
+    EndsAfterF0 = 24,
 }
 
-impl ConvertAnswer {
-    // The number that request 2.2 gives to a refusal, and 0 where there is none.
+impl ConvertRefusal {
+    // The number that request 2.2 gives to a refusal. Kept, no plainer: the documents call it a number, and `u8::from(refusal)` says less.
     pub fn number(self) -> u8
-        ensures { result ≡ number_answered (said_converted self) }
+        ensures { result ≡ refusal_number self }
     {
-        match self {
-            ConvertAnswer::Done => 0,
-            ConvertAnswer::NoEntry => 22,
-            ConvertAnswer::OutputFull => 23,
-            ConvertAnswer::EndsAfterF0 => 24,
-        }
+        self as u8
     }
 }
 
-// An answer with its counts: bytes of the stream used, bytes of the output written.
+// An answer with its counts, which are told with a refusal too: bytes of the stream used, bytes of the output written.
 #[derive(Clone, Copy)]
 pub struct Conversion {
-    pub answer: ConvertAnswer,
+    pub answer: Result<(), ConvertRefusal>,
     pub used: usize,
     pub written: usize,
 }
@@ -53,11 +46,12 @@ const ALONE: u32 = 0;
 const ALONE_WITH_TOP_BIT: u32 = 24;
 
 // Converts a set 2 key stream to set 1, from the start of both slices on. Behind the bytes written the output stays as it was.
+// Kept, speed: a turn takes one byte or two, so it is a `while` with its places, as measured (docs/DECISIONS.md), and no `for`.
 pub fn convert(stream: &[u8], out: &mut [u8]) -> Conversion
     ensures { outcome (said_converted result.answer) result.used result.written out.new ≡ converted stream.now out.old }
 {
-    let mut used: usize = 0;
-    let mut written: usize = 0;
+    let mut used = 0;
+    let mut written = 0;
     while used < stream.len() {
         let code = stream[used];
         let after = used + 1;
@@ -72,7 +66,7 @@ pub fn convert(stream: &[u8], out: &mut [u8]) -> Conversion
         } else if code == BREAK {
             if after == stream.len() {
                 return Conversion {
-                    answer: ConvertAnswer::EndsAfterF0,
+                    answer: Err(ConvertRefusal::EndsAfterF0),
                     used,
                     written,
                 };
@@ -88,14 +82,14 @@ pub fn convert(stream: &[u8], out: &mut [u8]) -> Conversion
         let byte = ((both_bytes(key) >> shift) % 256) as u8;
         if byte == NO_ENTRY {
             return Conversion {
-                answer: ConvertAnswer::NoEntry,
+                answer: Err(ConvertRefusal::NoEntry),
                 used,
                 written,
             };
         }
         if out.len() <= written {
             return Conversion {
-                answer: ConvertAnswer::OutputFull,
+                answer: Err(ConvertRefusal::OutputFull),
                 used,
                 written,
             };
@@ -105,7 +99,7 @@ pub fn convert(stream: &[u8], out: &mut [u8]) -> Conversion
         used = next;
     }
     Conversion {
-        answer: ConvertAnswer::Done,
+        answer: Ok(()),
         used,
         written,
     }

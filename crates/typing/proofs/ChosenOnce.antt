@@ -4,7 +4,7 @@ use mathlib.Core.Path.{◌≡◌, refl, sym, ap, ◌∙◌}
 use mathlib.Core.Bool.{Bool, true, false, true≢false}
 use Prim.Native.Nat.{ℕ}
 use native.Mathlib.Omega.{arith}
-use Rattle.keycodes_ascii.specs.declared.FoundKeycode.{FoundKeycode}
+use Rattle.std.specs.Prelude.{Option, Some, None}
 use Rattle.keycodes_ascii.specs.declared.Keycode.{Keycode}
 use Rattle.keycodes_ascii.specs.Keycode.{number_of, keycode_of}
 use Rattle.keycodes_ascii.proofs.Codes.{keycode_number}
@@ -16,9 +16,9 @@ use Rattle.typing.proofs.Table.{key}
 same_number : (j k : Keycode) → number_of j ≡ number_of k → j ≡ k
 same_number j k e = ap found (sym (keycode_number j) ∙ ap keycode_of e ∙ keycode_number k)
   where
-    found : FoundKeycode → Keycode
-    found (FoundKeycode.Found k) = k
-    found FoundKeycode.Unknown = j
+    found : Option Keycode → Keycode
+    found (Some k) = k
+    found None = j
 
 pub chosen_once : {c : ℕ} {j k : Key} → Chosen c j → Chosen c k → j ≡ k
 chosen_once {c} {j} {k} h g = by j.shift k.shift h g

@@ -10,25 +10,26 @@ use native.Mathlib.Numerals.{add-one}
 use native.Mathlib.Omega.{arith}
 use lib.ListN.{length, get_or, drop, drop_of_length-le}
 use lib.Seq.{drop-cons}
-use Rattle.typing.specs.declared.Counted.{Counted}
+use Rattle.std.specs.Prelude.{None, Some}
+use Rattle.std.specs.Prelude as found
 use Rattle.typing.specs.Keys.{Key, key_of, before, keys_of}
 use Rattle.typing.specs.Lengths.{one_more, with_shift, count_of}
-use Rattle.typing.specs.Table.{or_none}
+use Rattle.typing.specs.Table.{or_none, numbered}
 use Rattle.typing.proofs.Texts.{keys_none, keys_first}
-use Rattle.typing.proofs.Table.{Entry, no_entry, plain, shifted, entry}
+use Rattle.typing.proofs.Table.{Entry, no_entry, plain, shifted, entry, found_none, found_some}
 
 -- a count behind another
-abbrev pub plus : ℕ → Counted → Counted
-plus n (Counted.Shifted m) = Counted.Shifted (n + m)
-plus n Counted.NoKey = Counted.NoKey
+abbrev pub plus : ℕ → found.Option ℕ → found.Option ℕ
+plus n (Some m) = Some (n + m)
+plus n None = None
 
-plus-zero : (x : Counted) → plus 0 x ≡ x
-plus-zero (Counted.Shifted m) = rw (zero-add m)
-plus-zero Counted.NoKey = refl
+plus-zero : (x : found.Option ℕ) → plus 0 x ≡ x
+plus-zero (Some m) = rw (zero-add m)
+plus-zero None = refl
 
-plus-plus : (n m : ℕ) (x : Counted) → plus n (plus m x) ≡ plus (n + m) x
-plus-plus n m (Counted.Shifted l) = rw (add_assoc n m l)
-plus-plus n m Counted.NoKey = refl
+plus-plus : (n m : ℕ) (x : found.Option ℕ) → plus n (plus m x) ≡ plus (n + m) x
+plus-plus n m (Some l) = rw (add_assoc n m l)
+plus-plus n m None = refl
 
 -- ---- one character
 
@@ -37,16 +38,16 @@ unfolding with_shift
 one_count k none = refl
 one_count k (some ks) = by k.shift
   where
-    by : (shift : Bool) → Counted.Shifted (one_more shift (with_shift ks)) ≡ Counted.Shifted (one_more shift 0 + with_shift ks)
-    by true = ap Counted.Shifted (omega arith)
-    by false = ap Counted.Shifted (omega arith)
+    by : (shift : Bool) → Some (one_more shift (with_shift ks)) ≡ Some (one_more shift 0 + with_shift ks)
+    by true = ap Some (omega arith)
+    by false = ap Some (omega arith)
 
 module _ (c : ℕ) (text : List ℕ) where
   count_key : {k : Key} → key_of c ≡ some k → count_of (keys_of (c ∷ text)) ≡ plus (one_more k.shift 0) (count_of (keys_of text))
   count_key {k} e = ap count_of (keys_first c text ∙ ap (λ (o : Option Key). before o (keys_of text)) e) ∙ one_count k (keys_of text)
 
   -- by its number in the table
-  count_no_key : {n : ℕ} → Entry c n → n ≡ 0 → count_of (keys_of (c ∷ text)) ≡ Counted.NoKey
+  count_no_key : {n : ℕ} → Entry c n → n ≡ 0 → count_of (keys_of (c ∷ text)) ≡ None
   count_no_key (no_entry e) z = ap count_of (keys_first c text ∙ ap (λ (o : Option Key). before o (keys_of text)) e)
   count_no_key (plain k e h l) z = absurd (omega (arith, z))
   count_no_key (shifted k e h l) z = absurd (omega (arith, z))
@@ -71,15 +72,15 @@ pub record Counting (text : List ℕ) (i n : ℕ) : Type 0 where
 pub counting_begins : (text : List ℕ) → Counting text 0 0
 counting_begins text = record { within = omega arith; few = omega arith; all = sym (plus-zero (count_of (keys_of text))) }
 
-module _ {text : List ℕ} {i n key : ℕ} (h : Counting text i n) (l : i < length text) (q : key ≡ or_none (key_of (get_or text i 0))) where
-  here : Entry (get_or text i 0) key
-  here = rw q (entry (get_or text i 0))
+module _ {text : List ℕ} {i n : ℕ} (h : Counting text i n) (l : i < length text) where
+  here : Entry (get_or text i 0) (or_none (key_of (get_or text i 0)))
+  here = entry (get_or text i 0)
 
   next : drop i text ≡ get_or text i 0 ∷ drop (i + 1) text
   next = rw (add-one i) (drop-cons text i 0 l)
 
-  pub counting_stops : key ≡ 0 → Counted.NoKey ≡ count_of (keys_of text)
-  counting_stops z = sym (h.all ∙ ap (λ (t : List ℕ). plus n (count_of (keys_of t))) next ∙ ap (plus n) (count_no_key (get_or text i 0) (drop (i + 1) text) here z))
+  pub counting_stops : None ≡ numbered (key_of (get_or text i 0)) → None ≡ count_of (keys_of text)
+  counting_stops q = sym (h.all ∙ ap (λ (t : List ℕ). plus n (count_of (keys_of t))) next ∙ ap (plus n) (count_no_key (get_or text i 0) (drop (i + 1) text) here (found_none here q)))
 
   counting_by : (m : ℕ) → m ≤ 1 → count_of (keys_of (get_or text i 0 ∷ drop (i + 1) text)) ≡ plus m (count_of (keys_of (drop (i + 1) text))) → Counting text (i + 1) (n + m)
   counting_by m s e =
@@ -89,15 +90,19 @@ module _ {text : List ℕ} {i n key : ℕ} (h : Counting text i n) (l : i < leng
         all = h.all ∙ ap (λ (t : List ℕ). plus n (count_of (keys_of t))) next ∙ ap (plus n) e ∙ plus-plus n m (count_of (keys_of (drop (i + 1) text)));
       }
 
-  pub counting_shift : (key ≡ 0 → ⊥) → 0x80 ≤ key → Counting text (i + 1) (n + 1)
-  counting_shift z s = counting_by 1 (omega arith) (count_shift (get_or text i 0) (drop (i + 1) text) here z s)
+  module _ {key : ℕ} (q : Some key ≡ numbered (key_of (get_or text i 0))) where
+    is_key : Entry (get_or text i 0) key
+    is_key = rw (found_some here q).0 here
 
-  pub counting_plain : (key ≡ 0 → ⊥) → key < 0x80 → Counting text (i + 1) n
-  counting_plain z s = rw (add-zero n) at (counting_by 0 (omega arith) (count_plain (get_or text i 0) (drop (i + 1) text) here z s))
+    pub counting_shift : 0x80 ≤ key → Counting text (i + 1) (n + 1)
+    counting_shift s = counting_by 1 (omega arith) (count_shift (get_or text i 0) (drop (i + 1) text) is_key (found_some here q).1 s)
 
-pub counting_ends : {text : List ℕ} {i n : ℕ} → Counting text i n → length text ≤ i → Counted.Shifted n ≡ count_of (keys_of text)
+    pub counting_plain : key < 0x80 → Counting text (i + 1) n
+    counting_plain s = rw (add-zero n) at (counting_by 0 (omega arith) (count_plain (get_or text i 0) (drop (i + 1) text) is_key (found_some here q).1 s))
+
+pub counting_ends : {text : List ℕ} {i n : ℕ} → Counting text i n → length text ≤ i → Some n ≡ count_of (keys_of text)
 unfolding with_shift
 counting_ends {text} {i} {n} h l = sym (h.all ∙ rw (drop_of_length-le text l, keys_none) (none_more n))
   where
-    none_more : (n : ℕ) → plus n (count_of (some [])) ≡ Counted.Shifted n
+    none_more : (n : ℕ) → plus n (count_of (some [])) ≡ Some n
     none_more n = rw (add-zero n)

@@ -10,7 +10,8 @@ use lib.Dec.{T, leb, ltb, ltb→lt, leb→le}
 use borrow.Author.Tests.{eqb-true, le-leb, ltb-true, ltb-false}
 use Rattle.bits.specs.Bits.{bit, odd, put_bit}
 use Rattle.bits.proofs.Every.{each}
-use Rattle.keycodes_ascii.specs.declared.Character.{Character}
+use Rattle.std.specs.Prelude.{Some, None}
+use Rattle.std.specs.Prelude as prelude
 use Rattle.keycodes_ascii.specs.declared.Keycode.{Keycode}
 use Rattle.keycodes_ascii.specs.Keycode.{number_of, keycodes}
 use Rattle.keycodes_ascii.specs.Characters.{character_of}
@@ -156,9 +157,9 @@ chosen c {k} e = by (choice c) e
 
 -- ---- the keys that give characters
 
-abbrev pub is_absent : Character → Bool
-is_absent (Character.Ascii d) = false
-is_absent Character.Absent = true
+abbrev pub is_absent : prelude.Option ℕ → Bool
+is_absent (Some d) = false
+is_absent None = true
 
 -- their codes are presses of set 1
 abbrev is_press_or_absent : Bool → Keycode → Bool
@@ -170,11 +171,11 @@ presses true k = of_every (is_press_or_absent true) tt k
 presses false k = of_every (is_press_or_absent false) tt k
 
 -- the character of a key that gives it
-is_the_lem : (c : ℕ) (x : Character) → is_the c x ≡ true → x ≡ Character.Ascii c
-is_the_lem c (Character.Ascii d) e = ap Character.Ascii (eqb-true d c e)
-is_the_lem c Character.Absent e = absurd (false≢true e)
+is_the_lem : (c : ℕ) (x : prelude.Option ℕ) → is_the c x ≡ true → x ≡ Some c
+is_the_lem c (Some d) e = ap Some (eqb-true d c e)
+is_the_lem c None e = absurd (false≢true e)
 
-pub gives_character : (shift : Bool) (c : ℕ) (k : Keycode) → gives_it shift c k ≡ true → character_of k (flags_held shift) ≡ Character.Ascii c
+pub gives_character : (shift : Bool) (c : ℕ) (k : Keycode) → gives_it shift c k ≡ true → character_of k (flags_held shift) ≡ Some c
 unfolding gives_it
 gives_character shift c k e = is_the_lem c (character_of k (flags_held shift)) e
 

@@ -1,20 +1,20 @@
 -- How many bytes a text takes: two for each character, and two more for each that needs Shift.
 -- Assumes nothing.
 use mathlib.Core.Path.{◌≡◌, refl, ap, subst⁻¹, ◌∙◌}
-use mathlib.Core.Bool.{Bool, true, false, false≢true}
+use mathlib.Core.Bool.{Bool, true, false}
 use mathlib.Core.List.{List, [], ◌∷◌}
 use mathlib.Core.Option.{Option, none, some}
 use Prim.Native.Nat.{ℕ, suc, ◌+◌, ◌*◌, ◌/◌, ◌-◌, ◌<◌, ◌≤◌}
 use native.Mathlib.Omega.{arith}
 use lib.ListN.{length, drop, length-append}
 use borrow.Author.Tests.{le-leb, lt-leb}
+use Rattle.std.specs.Prelude.{None, Some, Ok, Err}
 use Rattle.exchange.specs.Answer.{Answer, gives, refuses}
 use Rattle.ps2_answers.specs.Refusals.{Success}
 use Rattle.keycodes_ascii.specs.declared.Keycode.{Keycode}
-use Rattle.typing.specs.declared.Counted.{Counted}
-use Rattle.typing.specs.declared.TypingAnswer.{TypingAnswer}
+use Rattle.typing.specs.declared.TypingRefusal.{TypingRefusal}
 use Rattle.typing.specs.Keys.{Key, keys_of}
-use Rattle.typing.specs.Typing.{strokes_of, scancodes, typed, Accepted, Outcome, outcome, leaves, said_typed}
+use Rattle.typing.specs.Typing.{strokes_of, scancodes, typed, Accepted, Outcome, outcome, leaves, refusal_number, told}
 use Rattle.typing.specs.Lengths.{width, widths, one_more, with_shift, count_of}
 use Rattle.typing.proofs.Texts.{keyed, keyed_length}
 
@@ -63,10 +63,10 @@ module _ (text : List ℕ) where
 
 -- ---- what the code counts
 
-pub count_none : (text : List ℕ) → count_of (keys_of text) ≡ Counted.NoKey → keys_of text ≡ none
+pub count_none : (text : List ℕ) → count_of (keys_of text) ≡ None → keys_of text ≡ none
 count_none text e = by (keys_of text) e
   where
-    by : (o : Option (List Key)) → count_of o ≡ Counted.NoKey → o ≡ none
+    by : (o : Option (List Key)) → count_of o ≡ None → o ≡ none
     by none e = refl
     by (some ks) e = cc
 
@@ -75,18 +75,11 @@ pub record Keys (text : List ℕ) (shifted : ℕ) : Type 0 where
   pub are : keys_of text ≡ some keys
   pub count : with_shift keys ≡ shifted
 
-no_count : {n : ℕ} → Counted.NoKey ≡ Counted.Shifted n → ⊥
-no_count e = false≢true (ap is_shifted e)
-  where
-    is_shifted : Counted → Bool
-    is_shifted (Counted.Shifted n) = true
-    is_shifted Counted.NoKey = false
-
-pub count_some : (text : List ℕ) (n : ℕ) → count_of (keys_of text) ≡ Counted.Shifted n → Keys text n
+pub count_some : (text : List ℕ) (n : ℕ) → count_of (keys_of text) ≡ Some n → Keys text n
 count_some text n e = by (keys_of text) refl e
   where
-    by : (o : Option (List Key)) → keys_of text ≡ o → count_of o ≡ Counted.Shifted n → Keys text n
-    by none q e = absurd (no_count e)
+    by : (o : Option (List Key)) → keys_of text ≡ o → count_of o ≡ Some n → Keys text n
+    by none q e = cc
     by (some ks) q e = record { keys = ks; are = q; count = cc }
 
 module _ {text : List ℕ} {shifted : ℕ} (k : Keys text shifted) (room : ℕ) where
@@ -104,9 +97,9 @@ module _ {text : List ℕ} {shifted : ℕ} (k : Keys text shifted) (room : ℕ) 
 
 -- ---- a refusal
 
-pub refused : (text out : List ℕ) (a : TypingAnswer) {written n : ℕ} → said_typed a ≡ refuses n → written ≡ 0 → typed (length out) text ≡ refuses n
-    → outcome (said_typed a) written out ≡ leaves out (typed (length out) text)
-refused text out a e z t = rw (e, z, t)
+pub refused : (text out : List ℕ) (r : TypingRefusal) → typed (length out) text ≡ refuses (refusal_number r)
+    → told (Err r) out ≡ leaves out (typed (length out) text)
+refused text out r t = rw t
 
 -- ---- what a call leaves
 
@@ -115,5 +108,5 @@ leaves-le out (gives codes) = omega (arith, length-append codes (drop (length co
 leaves-le out (refuses n) = omega arith
 
 -- no more bytes are counted than the output has
-pub written_le : (text out : List ℕ) {end : Answer Success} {written : ℕ} {left : List ℕ} → outcome end written left ≡ leaves out (typed (length out) text) → written ≤ length left
-written_le text out {end} {written} {left} e = subst⁻¹ (λ (o : Outcome). o.count ≤ length o.output) e (leaves-le out (typed (length out) text))
+pub written_le : (text out : List ℕ) {written : ℕ} {left : List ℕ} → told (Ok written) left ≡ leaves out (typed (length out) text) → written ≤ length left
+written_le text out {written} {left} e = subst⁻¹ (λ (o : Outcome). o.count ≤ length o.output) e (leaves-le out (typed (length out) text))

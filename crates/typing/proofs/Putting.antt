@@ -4,15 +4,17 @@ use mathlib.Core.Path.{◌≡◌, refl, sym, ap, ap₂, subst, ◌∙◌}
 use mathlib.Core.List.{List, [], ◌∷◌, ◌++◌, append-nil, append_assoc}
 use mathlib.Core.Option.{some, some-injective, none-ne-some}
 use Prim.Native.Nat.{ℕ, ◌+◌, ◌-◌, ◌<◌, ◌≤◌}
-use native.Mathlib.Numerals.{add-one, add-two, add-three}
+use native.Mathlib.Numerals.{add-one}
 use native.Mathlib.Omega.{arith}
-use lib.ListN.{length, get_or, set, drop, length-append, length-drop, drop_of_length-le}
-use lib.Seq.{drop-cons, sets, sets-eq, take-append_seam, drop-append-add, drop-drop}
+use borrow.Rule.Slice.PartMut.{put_mid}
+use lib.ListN.{length, get_or, drop, length-append, length-drop, drop_of_length-le}
+use lib.Seq.{drop-cons, take-append_seam, drop-append_seam, drop-drop}
+use Rattle.std.specs.Prelude.{Ok}
 use Rattle.exchange.specs.Answer.{gives}
 use Rattle.ps2_answers.specs.Refusals.{success}
 use Rattle.keycodes_ascii.specs.Keycode.{number_of}
 use Rattle.typing.specs.Keys.{Key, key_of, keys_of}
-use Rattle.typing.specs.Typing.{strokes_of, scancodes, Accepted, typed, outcome, leaves}
+use Rattle.typing.specs.Typing.{strokes_of, scancodes, Accepted, typed, outcome, leaves, told}
 use Rattle.typing.specs.Table.{or_none}
 use Rattle.typing.proofs.Texts.{Keyed, no_text, one_key, keyed}
 use Rattle.typing.proofs.Table.{Entry, no_entry, plain, shifted, entry}
@@ -21,13 +23,10 @@ use Rattle.typing.proofs.Typable.{key_below}
 
 -- ---- an output of which a part is written
 
-over_sets : (put more before : List ℕ) → length put + length more ≤ length before
-    → sets (put ++ drop (length put) before) (length put) more ≡ (put ++ more) ++ drop (length (put ++ more)) before
-over_sets put more before h =
+over_puts : (put more before : List ℕ) → put_mid (length put) (length more) (put ++ drop (length put) before) more ≡ (put ++ more) ++ drop (length (put ++ more)) before
+over_puts put more before =
     let rest = drop (length put) before in
-    let fits : length put + length more ≤ length (put ++ rest) = rw (length-append put rest, length-drop (length put) before) (omega arith) in
-    sets-eq more (put ++ rest) (length put) fits
-    ∙ rw (take-append_seam put rest, drop-append-add put rest (length more), drop-drop (length more) (length put) before, length-append put more, append_assoc put more (drop (length put + length more) before))
+    rw (take-append_seam put rest, drop-append_seam put rest, drop-drop (length more) (length put) before, length-append put more, append_assoc put more (drop (length put + length more) before))
 
 -- ---- the strokes of a key, by its number in the table
 
@@ -110,7 +109,7 @@ module _ {text before out : List ℕ} {i at : ℕ} (h : Putting text before i at
     room_for : at + length (strokes_of next.one) ≤ length out
     room_for = omega (arith, written_le, putting_length, h.place, ap length left_first ∙ length-append (strokes_of next.one) (scancodes next.others))
 
-    goes_on : Putting text before (i + 1) (at + length (strokes_of next.one)) (sets out at (strokes_of next.one))
+    goes_on : Putting text before (i + 1) (at + length (strokes_of next.one)) (put_mid at (length (strokes_of next.one)) out (strokes_of next.one))
     goes_on =
         let strokes = strokes_of next.one in
         record {
@@ -123,8 +122,8 @@ module _ {text before out : List ℕ} {i at : ℕ} (h : Putting text before i at
           whole = h.whole ∙ ap (λ (m : List ℕ). h.put ++ m) left_first ∙ sym (append_assoc h.put strokes (scancodes next.others));
           place = ap (λ (p : ℕ). p + length strokes) h.place ∙ sym (length-append h.put strokes);
           holds =
-              ap₂ (λ (o : List ℕ) (p : ℕ). sets o p strokes) h.holds h.place
-              ∙ over_sets h.put strokes before (omega (arith, room_for, putting_length, h.place));
+              ap₂ (λ (o : List ℕ) (p : ℕ). put_mid p (length strokes) o strokes) h.holds h.place
+              ∙ over_puts h.put strokes before;
         }
 
     module _ {n : ℕ} (q : n ≡ or_none (key_of (get_or text i 0))) where
@@ -137,14 +136,18 @@ module _ {text before out : List ℕ} {i at : ℕ} (h : Putting text before i at
       pub room_plain : n < 0x80 → at + 2 ≤ length out
       room_plain s = rw (strokes_plain next.is_one here s) at room_for
 
-      pub puts_shift : 0x80 ≤ n → Putting text before (i + 1) (at + 4) (set (set (set (set out at 0x2A) (at + 1) (n - 0x80)) (at + 2) (n - 0x80 + 0x80)) (at + 3) 0xAA)
-      puts_shift s = rw (add-one at, add-two at, add-three at) (rw (strokes_shift next.is_one here s) at goes_on)
+      pub puts_shift : 0x80 ≤ n → Putting text before (i + 1) (at + 4) (put_mid at (at + 4 - at) out (0x2A ∷ (n - 0x80) ∷ (n - 0x80 + 0x80) ∷ 0xAA ∷ []))
+      puts_shift s =
+          let four : at + 4 - at ≡ 4 = omega arith in
+          rw four (rw (strokes_shift next.is_one here s) at goes_on)
 
-      pub puts_plain : n < 0x80 → Putting text before (i + 1) (at + 2) (set (set out at n) (at + 1) (n + 0x80))
-      puts_plain s = rw (add-one at) (rw (strokes_plain next.is_one here s) at goes_on)
+      pub puts_plain : n < 0x80 → Putting text before (i + 1) (at + 2) (put_mid at (at + 2 - at) out (n ∷ (n + 0x80) ∷ []))
+      puts_plain s =
+          let two : at + 2 - at ≡ 2 = omega arith in
+          rw two (rw (strokes_plain next.is_one here s) at goes_on)
 
   -- at the end of the text everything is put
-  pub putting_ends : length text ≤ i → outcome (gives success) at out ≡ leaves before (typed (length before) text)
+  pub putting_ends : length text ≤ i → told (Ok at) out ≡ leaves before (typed (length before) text)
   unfolding scancodes
   putting_ends l = sym (ap (leaves before) (typed_fits text h.are (length before) h.fits ∙ ap gives all) ∙ ap₂ (outcome (gives success)) (sym h.place) (sym h.holds))
     where

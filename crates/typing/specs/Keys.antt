@@ -5,7 +5,8 @@ use Rattle.std.proofs.Math.Option.{Option, none, some}
 use Rattle.bits.specs.Bits.{put_bit}
 use Rattle.keyboard_modifiers.specs.declared.KeyboardModifiers.{KeyboardModifiers}
 use Rattle.keyboard_modifiers.specs.Flags.{shift_left}
-use Rattle.keycodes_ascii.specs.declared.Character.{Character}
+use Rattle.std.specs.Prelude.{Some, None}
+use Rattle.std.specs.Prelude as prelude
 use Rattle.keycodes_ascii.specs.declared.Keycode.{Keycode}
 use Rattle.keycodes_ascii.specs.Keycode.{number_of, keycodes}
 use Rattle.keycodes_ascii.specs.Characters.{character_of}
@@ -20,9 +21,9 @@ abbrev pub flags_held : Bool → KeyboardModifiers
 flags_held shift = record { bits = put_bit shift_left shift 0 }
 
 -- Whether a key gives a character, with Shift or without.
-abbrev pub is_the : ℕ → Character → Bool
-is_the c (Character.Ascii d) = eqb d c
-is_the c Character.Absent = false
+abbrev pub is_the : ℕ → prelude.Option ℕ → Bool
+is_the c (Some d) = eqb d c
+is_the c None = false
 
 unfoldable pub gives_it : Bool → ℕ → Keycode → Bool
 gives_it shift c k = is_the c (character_of k (flags_held shift))

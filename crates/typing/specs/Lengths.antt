@@ -1,8 +1,8 @@
 -- How many bytes keys take.
 -- Assumes nothing.
-use Rattle.std.specs.Prelude.{Bool, true, false, List, [], ◌∷◌, ℕ, suc, ◌+◌}
+use Rattle.std.specs.Prelude.{Bool, true, false, List, [], ◌∷◌, ℕ, suc, ◌+◌, None, Some}
+use Rattle.std.specs.Prelude as found
 use Rattle.std.proofs.Math.Option.{Option, none, some}
-use Rattle.typing.specs.declared.Counted.{Counted}
 use Rattle.typing.specs.Keys.{Key}
 
 -- A key takes two bytes, with Shift four.
@@ -23,7 +23,7 @@ unfoldable pub with_shift : List Key → ℕ
 with_shift [] = 0
 with_shift (k ∷ ks) = one_more k.shift (with_shift ks)
 
--- What the code counts of a text.
-abbrev pub count_of : Option (List Key) → Counted
-count_of none = Counted.NoKey
-count_of (some keys) = Counted.Shifted (with_shift keys)
+-- What the code counts of a text, if no character lacks a key.
+abbrev pub count_of : Option (List Key) → found.Option ℕ
+count_of none = None
+count_of (some keys) = Some (with_shift keys)

@@ -1,12 +1,13 @@
 -- A text typed: its scancodes, and what a call leaves of an output.
 -- Assumes nothing.
-use Rattle.std.specs.Prelude.{Bool, true, false, cond, List, [], ◌∷◌, ◌++◌, ◌≡◌, ℕ, ◌≤◌, leb, length, drop}
+use Rattle.std.specs.Prelude.{Bool, true, false, cond, List, [], ◌∷◌, ◌++◌, ◌≡◌, ℕ, ◌≤◌, leb, length, drop, Result, Ok, Err}
 use Rattle.std.proofs.Math.Option.{Option, none, some}
 use Rattle.exchange.specs.Answer.{Answer, gives, refuses}
 use Rattle.ps2_answers.specs.Refusals.{Success, success}
 use Rattle.keycodes_ascii.specs.Keycode.{number_of}
 use Rattle.scancode_set1.specs.Set1.{release_of}
-use Rattle.typing.specs.declared.TypingAnswer.{TypingAnswer}
+use Rattle.typing.specs.declared.TypingRefusal.{TypingRefusal}
+use Rattle.typing.specs.declared.TypingRefusal.TheVariants.{NoKey, OutputShort}
 use Rattle.typing.specs.Keys.{Key, keys_of}
 
 -- "2A and AA around a key that needs Shift": the press and the release of the left Shift.
@@ -58,8 +59,12 @@ abbrev pub leaves : List ℕ → Answer (List ℕ) → Outcome
 leaves out (gives codes) = outcome (gives success) (length codes) (codes ++ drop (length codes) out)
 leaves out (refuses n) = outcome (refuses n) 0 out
 
--- What the code's answer says, by request 2.6's numbers.
-abbrev pub said_typed : TypingAnswer → Answer Success
-said_typed TypingAnswer.Done = gives success
-said_typed TypingAnswer.NoKey = refuses 25
-said_typed TypingAnswer.OutputShort = refuses 26
+-- The number of a refusal in request 2.6.
+abbrev pub refusal_number : TypingRefusal → ℕ
+refusal_number NoKey = 25
+refusal_number OutputShort = 26
+
+-- What the code's answer says of an output: the count of bytes written, or a refusal's number and no byte.
+abbrev pub told : Result ℕ TypingRefusal → List ℕ → Outcome
+told (Ok count) out = outcome (gives success) count out
+told (Err r) out = outcome (refuses (refusal_number r)) 0 out

@@ -2,46 +2,25 @@
 #![tactic(auto)]
 
 ghost use Rattle.std.specs.Prelude.{◌≡◌, ◌<◌, length};
-ghost use Rattle.exchange.specs.Answer.{number_answered, gives};
-ghost use Rattle.ps2_answers.specs.Refusals.{success};
 ghost use Rattle.typing.specs.Keys.{key_of, keys_of};
-ghost use Rattle.typing.specs.Typing.{Accepted, typed, outcome, leaves, said_typed};
+ghost use Rattle.typing.specs.Typing.{Accepted, typed, leaves, refusal_number, told};
 ghost use Rattle.typing.specs.Lengths.{count_of};
-ghost use Rattle.typing.specs.Table.{or_none, Tabulates};
+ghost use Rattle.typing.specs.Table.{or_none, numbered, Tabulates};
 
-// How a typing ends: done, or with the refusal that request 2.6 numbers 25 or 26.
-#[derive(Clone, Copy)]
-pub enum TypingAnswer {
-    Done,
-    NoKey,
-    OutputShort,
+// Why a text is not typed, by request 2.6's numbers.
+#[derive(Clone, Copy, Debug, PartialEq, Eq)]
+pub enum TypingRefusal {
+    NoKey = 25,
+    OutputShort = 26,
 }
 
-impl TypingAnswer {
-    // The number that request 2.6 gives to a refusal, and 0 where there is none.
+impl TypingRefusal {
+    // The number that request 2.6 gives to a refusal. Kept, no plainer: the documents call it a number, and `u8::from(refusal)` says less.
     pub fn number(self) -> u8
-        ensures { result ≡ number_answered (said_typed self) }
+        ensures { result ≡ refusal_number self }
     {
-        match self {
-            TypingAnswer::Done => 0,
-            TypingAnswer::NoKey => 25,
-            TypingAnswer::OutputShort => 26,
-        }
+        self as u8
     }
-}
-
-// An answer, with how many bytes of the output are written.
-#[derive(Clone, Copy)]
-pub struct Typing {
-    pub answer: TypingAnswer,
-    pub written: usize,
-}
-
-// How many characters of a text need Shift, or that one of them has no key.
-#[derive(Clone, Copy)]
-pub enum Counted {
-    Shifted(usize),
-    NoKey,
 }
 
 // The press and the release of the left Shift.
@@ -71,98 +50,84 @@ const KEYS: [u8; 128] = *b"\
     \x29\x1E\x30\x2E\x20\x12\x21\x22\x23\x17\x24\x25\x26\x32\x31\x18\
     \x19\x10\x13\x1F\x14\x16\x2F\x11\x2D\x15\x2C\x9A\xAB\x9B\xA9\x00";
 
-// Writes the scancodes of a text to the start of an output: each key's press and release, with those of Shift around a key that needs it.
+// Writes the scancodes of a text to the start of an output, and answers how many bytes they are: each key's press and release, with those of Shift around a key that needs it.
 // What is not written stays as it was; a refusal writes nothing.
-pub fn type_text(text: &[u8], out: &mut [u8]) -> Typing
-    ensures { outcome (said_typed result.answer) result.written out.new ≡ leaves out.old (typed (length out.old) text.now) }
+pub fn type_text(text: &[u8], out: &mut [u8]) -> Result<usize, TypingRefusal>
+    ensures { told result out.new ≡ leaves out.old (typed (length out.old) text.now) }
 {
-    // An array that is indexed lies on the stack: once for the call, and not for each character.
+    // Kept lent, for speed: an array that is indexed lies on the stack, once for the call, and not for each character.
     let keys = KEYS;
-    let Counted::Shifted(shifted) = count_shifted(&keys, text) else {
-        return refusal(TypingAnswer::NoKey);
+    let Some(shifted) = count_shifted(&keys, text) else {
+        return Err(TypingRefusal::NoKey);
     };
     // A character takes two bytes, and two more with Shift.
     let room = out.len() / 2;
-    if room < text.len() {
-        return refusal(TypingAnswer::OutputShort);
+    if room < text.len() || room - text.len() < shifted {
+        return Err(TypingRefusal::OutputShort);
     }
-    if room - text.len() < shifted {
-        return refusal(TypingAnswer::OutputShort);
-    }
-    let written = put_keys(&keys, text, out);
-    Typing {
-        answer: TypingAnswer::Done,
-        written,
-    }
+    Ok(put_keys(&keys, text, out))
 }
 
-fn refusal(answer: TypingAnswer) -> Typing
-    ensures { (result.answer ≡ answer) × (result.written ≡ 0) }
-{
-    Typing { answer, written: 0 }
-}
-
-// The key of a character.
-fn key_of(keys: &[u8; 128], character: u8) -> u8
+// The key of a character, if it has one.
+fn key_of(keys: &[u8; 128], character: u8) -> Option<u8>
     requires { Tabulates keys.now }
-    ensures { result ≡ or_none (key_of character) }
+    ensures { result ≡ numbered (key_of character) }
 {
     if END_OF_KEYS <= character {
-        return NO_KEY;
+        return None;
     }
-    key_in(keys, character)
+    let key = key_in(keys, character);
+    if key == NO_KEY {
+        return None;
+    }
+    Some(key)
 }
 
-// The key of a character that the table has.
+// What the table has for a character.
 fn key_in(keys: &[u8; 128], character: u8) -> u8
     requires { Tabulates keys.now × (character < 0x80) }
     ensures { result ≡ or_none (key_of character) }
 {
-    keys[character as usize]
+    keys[usize::from(character)]
 }
 
-// Asks every character for its key, and counts those that need Shift.
-fn count_shifted(keys: &[u8; 128], text: &[u8]) -> Counted
+// Asks every character for its key, and counts those that need Shift, if none lacks a key.
+fn count_shifted(keys: &[u8; 128], text: &[u8]) -> Option<usize>
     requires { Tabulates keys.now }
     ensures { result ≡ count_of (keys_of text.now) }
 {
-    let mut shifted: usize = 0;
-    let mut i: usize = 0;
-    while i < text.len() {
-        let key = key_of(keys, text[i]);
-        if key == NO_KEY {
-            return Counted::NoKey;
-        }
+    let mut shifted = 0;
+    for &character in text {
+        let key = key_of(keys, character)?;
         if NEEDS_SHIFT <= key {
             shifted += 1;
         }
-        i += 1;
     }
-    Counted::Shifted(shifted)
+    Some(shifted)
 }
 
 // Writes the scancodes of a text that is accepted, and answers how many they are. The table has every character of it.
+// Kept, a rule of the project: there is no heap, so the bytes go into a lent output, at a place that is counted.
 fn put_keys(keys: &[u8; 128], text: &[u8], out: &mut [u8]) -> usize
     requires { Tabulates keys.now × Accepted (length out.old) text.now }
-    ensures { outcome (gives success) result out.new ≡ leaves out.old (typed (length out.old) text.now) }
+    ensures { told (Ok result) out.new ≡ leaves out.old (typed (length out.old) text.now) }
 {
-    let mut at: usize = 0;
-    let mut i: usize = 0;
-    while i < text.len() {
-        let key = key_in(keys, text[i]);
+    let mut at = 0;
+    for &character in text {
+        let key = key_in(keys, character);
         if NEEDS_SHIFT <= key {
             let code = key - NEEDS_SHIFT;
-            out[at] = SHIFT_PRESSED;
-            out[at + 1] = code;
-            out[at + 2] = code + RELEASED;
-            out[at + 3] = SHIFT_RELEASED;
+            out[at..at + 4].copy_from_slice(&[
+                SHIFT_PRESSED,
+                code,
+                code + RELEASED,
+                SHIFT_RELEASED,
+            ]);
             at += 4;
         } else {
-            out[at] = key;
-            out[at + 1] = key + RELEASED;
+            out[at..at + 2].copy_from_slice(&[key, key + RELEASED]);
             at += 2;
         }
-        i += 1;
     }
     at
 }

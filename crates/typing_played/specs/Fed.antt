@@ -1,7 +1,7 @@
 -- A handler that is fed the bytes of one side, and whose events are taken at once.
 -- Assumes nothing.
 use Rattle.std.specs.Prelude.{List, [], ◌∷◌, ◌++◌, ℕ}
-use Rattle.keycodes_ascii.specs.declared.Character.{Character}
+use Rattle.std.specs.Prelude.{Option, Some, None}
 use Rattle.keycodes_ascii.specs.declared.KeyAction.{KeyAction}
 use Rattle.keycodes_ascii.specs.declared.KeyEvent.{KeyEvent}
 use Rattle.keycodes_ascii.specs.Characters.{character_of}
@@ -15,9 +15,9 @@ pub data Feeds (side : Side) : Past ℕ → Past Call → Type 0 where
   one_fed : {bytes : Past ℕ} {calls : Past Call} (b : ℕ) (more log : List ℕ) → Feeds side bytes calls → Feeds side (bytes ▸ b) (calls ▸ handling side (b ∷ more) log ▸ taking)
 
 -- "Press events whose characters, those without one passed over".
-abbrev pub or_passed_over : Character → List ℕ
-or_passed_over (Character.Ascii c) = c ∷ []
-or_passed_over Character.Absent = []
+abbrev pub or_passed_over : Option ℕ → List ℕ
+or_passed_over (Some c) = c ∷ []
+or_passed_over None = []
 
 abbrev pub of_press : KeyAction → List ℕ → List ℕ
 of_press KeyAction.Pressed characters = characters

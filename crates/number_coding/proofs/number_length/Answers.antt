@@ -5,17 +5,17 @@ use native.Mathlib.Omega.{arith}
 use Rattle.number_coding.proofs.Lengths.{length_last, two_bytes, three_bytes, four_bytes, five_bytes}
 use Rattle.number_coding.proofs.number_length.Goals as goal
 
-pub returns-then-number-lt-TWO_GROUPS : goal.returns-then-number-lt-TWO_GROUPS
-returns-then-number-lt-TWO_GROUPS c = sym (length_last 4 _ c.if-number-lt-TWO_GROUPS.true)
+pub returns-in-0-to-127 : goal.returns-in-0-to-127
+returns-in-0-to-127 c = sym (length_last 4 c.args.number (omega arith))
 
-pub returns-then-number-lt-THREE_GROUPS : goal.returns-then-number-lt-THREE_GROUPS
-returns-then-number-lt-THREE_GROUPS c = sym (two_bytes _ c.if-number-lt-TWO_GROUPS.false c.if-number-lt-THREE_GROUPS.true)
+pub returns-in-0-to-16383 : goal.returns-in-0-to-16383
+returns-in-0-to-16383 c = sym (two_bytes c.args.number (omega arith) (omega arith))
 
-pub returns-then-number-lt-FOUR_GROUPS : goal.returns-then-number-lt-FOUR_GROUPS
-returns-then-number-lt-FOUR_GROUPS c = sym (three_bytes _ c.if-number-lt-THREE_GROUPS.false c.if-number-lt-FOUR_GROUPS.true)
+pub returns-in-0-to-2097151 : goal.returns-in-0-to-2097151
+returns-in-0-to-2097151 c = sym (three_bytes c.args.number (omega arith) (omega arith))
 
-pub returns-then-number-lt-FIVE_GROUPS : goal.returns-then-number-lt-FIVE_GROUPS
-returns-then-number-lt-FIVE_GROUPS c = sym (four_bytes _ c.if-number-lt-FOUR_GROUPS.false c.if-number-lt-FIVE_GROUPS.true)
+pub returns-in-0-to-268435455 : goal.returns-in-0-to-268435455
+returns-in-0-to-268435455 c = sym (four_bytes c.args.number (omega arith) (omega arith))
 
-pub returns : goal.returns
-returns c = sym (five_bytes _ c.if-number-lt-FIVE_GROUPS.false (omega arith))
+pub returns-in_default : goal.returns-in_default
+returns-in_default c = sym (five_bytes c.args.number (omega arith) (omega arith))
