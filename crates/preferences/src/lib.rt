@@ -6,7 +6,7 @@ ghost use Rattle.preferences.specs.Values.{is_scancode_set, is_sampling_rate, is
 ghost use Rattle.preferences.specs.Record.{within_values};
 
 // The four fields of every record, in the order in which they are written. A field may be any number: only those within its values are accepted.
-#[derive(Clone, Copy)]
+#[derive(Clone, Copy, PartialEq, Eq)]
 pub struct Fields {
     pub set: u32,
     pub rate: u32,
@@ -15,7 +15,7 @@ pub struct Fields {
 }
 
 // A record of version 1, or of version 2, which has the repeat byte behind the four.
-#[derive(Clone, Copy)]
+#[derive(Clone, Copy, PartialEq, Eq)]
 pub enum Preferences {
     Version1(Fields),
     Version2(Fields, u32),
@@ -36,23 +36,14 @@ const REPEAT_BYTE_MOST: u32 = 127;
 pub fn is_scancode_set(value: u32) -> bool
     ensures { result ≡ is_scancode_set value }
 {
-    SCANCODE_SET_LEAST <= value && value <= SCANCODE_SET_MOST
+    (SCANCODE_SET_LEAST..=SCANCODE_SET_MOST).contains(&value)
 }
 
 // Whether a number is one of the seven sampling rates.
 pub fn is_sampling_rate(value: u32) -> bool
     ensures { result ≡ is_sampling_rate value }
 {
-    match value {
-        10 => true,
-        20 => true,
-        40 => true,
-        60 => true,
-        80 => true,
-        100 => true,
-        200 => true,
-        _ => false,
-    }
+    matches!(value, 10 | 20 | 40 | 60 | 80 | 100 | 200)
 }
 
 // Whether a number is one of the resolutions.
@@ -81,11 +72,10 @@ impl Fields {
     pub fn within_values(self) -> bool
         ensures { result ≡ within_values (Preferences.Version1 self) }
     {
-        let set = is_scancode_set(self.set);
-        let rate = is_sampling_rate(self.rate);
-        let resolution = is_resolution(self.resolution);
-        let lamps = is_lamps(self.lamps);
-        set & (rate & (resolution & lamps))
+        is_scancode_set(self.set)
+            && is_sampling_rate(self.rate)
+            && is_resolution(self.resolution)
+            && is_lamps(self.lamps)
     }
 }
 
@@ -97,9 +87,7 @@ impl Preferences {
         match self {
             Preferences::Version1(fields) => fields.within_values(),
             Preferences::Version2(fields, repeat) => {
-                let four = fields.within_values();
-                let fifth = is_repeat_byte(repeat);
-                four & fifth
+                fields.within_values() && is_repeat_byte(repeat)
             }
         }
     }

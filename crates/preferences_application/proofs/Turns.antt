@@ -6,8 +6,8 @@ use mathlib.Core.List.{List}
 use mathlib.Core.Path.{◌≡◌}
 use lib.ListN.{length, get_or, drop, drop_of_length-le}
 use lib.Seq.{drop-cons}
-use Rattle.exchange.specs.Exchange.{done, bind, Played, play}
-use Rattle.exchange.specs.Answer.{Answer, gives, and_then, on_given}
+use Rattle.exchange.specs.Exchange.{done, Played, play}
+use Rattle.exchange.specs.Answer.{Answer, gives, and_then}
 use Rattle.ps2_answers.specs.Refusals.{Success, success}
 use Rattle.preferences_application.specs.declared.Setting.{Setting}
 use Rattle.preferences_application.specs.Application.{apply_setting, apply_settings}
@@ -18,8 +18,8 @@ plays_as s l q r = rw q r
 
 -- the next setting
 pub settings_next : (settings : List Setting) (i : ℕ) (d : Setting) → i < length settings
-    → apply_settings (drop i settings) ≡ bind (apply_setting (get_or settings i d)) (on_given (λ _. apply_settings (drop (i + 1) settings)))
-unfolding apply_settings and_then
+    → apply_settings (drop i settings) ≡ and_then (apply_setting (get_or settings i d)) (λ _. apply_settings (drop (i + 1) settings))
+unfolding apply_settings
 settings_next settings i d h = rw (add-one, drop-cons settings i d)
 
 -- none left

@@ -1,16 +1,14 @@
 -- What the fields of a record ask of the devices, in their order.
 -- Assumes nothing.
 use Rattle.std.specs.Prelude.{List, [], ◌∷◌, ◌++◌, ℕ}
+use Rattle.std.specs.Result.{result_unwrap_or}
 use Rattle.ps2_layouts.specs.declared.leds.LEDState.{LEDState}
 use Rattle.ps2_bytes.specs.declared.data.ScancodeSet.{ScancodeSet}
 use Rattle.ps2_bytes.specs.declared.data.ScancodeSet.TheVariants.{Get}
-use Rattle.ps2_bytes.specs.declared.data.ScancodeSetByte.{ScancodeSetByte}
 use Rattle.ps2_bytes.specs.declared.data.MouseSampleRate.{MouseSampleRate}
 use Rattle.ps2_bytes.specs.declared.data.MouseSampleRate.TheVariants.{_100}
-use Rattle.ps2_bytes.specs.declared.data.SampleRateByte.{SampleRateByte}
 use Rattle.ps2_bytes.specs.declared.data.MouseResolution.{MouseResolution}
 use Rattle.ps2_bytes.specs.declared.data.MouseResolution.TheVariants.{Count4PerMm}
-use Rattle.ps2_bytes.specs.declared.data.ResolutionByte.{ResolutionByte}
 use Rattle.ps2_bytes.specs.Data.{scancode_set_read, sample_rate_read, resolution_read}
 use Rattle.preferences.specs.declared.Fields.{Fields}
 use Rattle.preferences.specs.declared.Preferences.{Preferences}
@@ -20,26 +18,14 @@ use Rattle.preferences_application.specs.declared.Setting.{Setting}
 -- ---- a field's number as what the device's own table lists for it
 -- Every number within the values is listed (proofs/Bytes.antt); what stands for others is never sent.
 
-abbrev pub listed_set : ScancodeSetByte → ScancodeSet
-listed_set (ScancodeSetByte.Listed set) = set
-listed_set ScancodeSetByte.Unlisted = Get
-
 abbrev pub set_of : ℕ → ScancodeSet
-set_of n = listed_set (scancode_set_read n)
-
-abbrev pub listed_rate : SampleRateByte → MouseSampleRate
-listed_rate (SampleRateByte.Listed rate) = rate
-listed_rate SampleRateByte.Unlisted = _100
+set_of n = result_unwrap_or (scancode_set_read n) Get
 
 abbrev pub rate_of : ℕ → MouseSampleRate
-rate_of n = listed_rate (sample_rate_read n)
-
-abbrev pub listed_resolution : ResolutionByte → MouseResolution
-listed_resolution (ResolutionByte.Listed resolution) = resolution
-listed_resolution ResolutionByte.Unlisted = Count4PerMm
+rate_of n = result_unwrap_or (sample_rate_read n) _100
 
 abbrev pub resolution_of : ℕ → MouseResolution
-resolution_of n = listed_resolution (resolution_read n)
+resolution_of n = result_unwrap_or (resolution_read n) Count4PerMm
 
 -- The lamps' number is the byte after ED.
 abbrev pub lamps_of : ℕ → LEDState

@@ -2,18 +2,18 @@
 #![tactic(auto)]
 
 ghost use Rattle.std.specs.Prelude.{true, ◌≡◌, ◌<◌};
-ghost use Rattle.exchange.specs.Exchange.{play, played};
-ghost use Rattle.ps2_answers.specs.Refusals.{said_done};
+ghost use Rattle.exchange.specs.Exchange.{play};
+ghost use Rattle.ps2_answers.specs.Answers.{told};
 ghost use Rattle.preferences.specs.Record.{within_values};
 ghost use Rattle.preferences.specs.declared.Preferences.TheVariants.{Version1, Version2};
 ghost use Rattle.preferences_application.specs.Settings.{set_of, rate_of, resolution_of, four_settings, settings_of};
 ghost use Rattle.preferences_application.specs.Application.{set_keyboard_repeat, apply_setting, apply_settings, apply_preferences};
 
 use preferences::{Fields, Preferences};
-use ps2_answers::{Completed, Completion, Failure, Refusal};
+use ps2_answers::{Answer, Counted, Failure, Refusal};
 use ps2_bytes::{
     HostToDevice, HostToKeyboardCommand, HostToKeyboardCommandOrData, MouseResolution,
-    MouseSampleRate, ResolutionByte, SampleRateByte, ScancodeSet, ScancodeSetByte,
+    MouseSampleRate, ScancodeSet,
 };
 use ps2_command::command_pair;
 use ps2_keyboard::{set_keyboard_led, set_keyboard_scancode_set};
@@ -31,47 +31,37 @@ pub enum Setting {
     RepeatRateAndDelay(u8),
 }
 
+// Kept as two slices here and below: document 01 has each call take a script and a log.
+
 // Applies a record's fields in their order. Where one is outside its values nothing is read or written; after a refusal the fields before it stay applied.
-pub fn apply_preferences(script: &[u8], log: &mut [u8], preferences: Preferences) -> Completed
-    ensures { played (said_done result.answer) result.used result.pairs log.new ≡ play (apply_preferences preferences) script.now log.old }
+pub fn apply_preferences(script: &[u8], log: &mut [u8], preferences: Preferences) -> Answer<()>
+    ensures { told result log.new ≡ play (apply_preferences preferences) script.now log.old }
 {
     if preferences.within_values() {
         apply_within(script, log, preferences)
     } else {
-        Completed {
-            answer: Completion::Refused(Refusal::Failed(Failure::FieldOutsideValues)),
-            used: 0,
-            pairs: 0,
-        }
+        Err(Counted::new(Refusal::Failed(Failure::FieldOutsideValues)))
     }
 }
 
 // Sets one setting of a device. What was thrown away meanwhile is dropped.
-pub fn apply_setting(script: &[u8], log: &mut [u8], setting: Setting) -> Completed
-    ensures { played (said_done result.answer) result.used result.pairs log.new ≡ play (apply_setting setting) script.now log.old }
+pub fn apply_setting(script: &[u8], log: &mut [u8], setting: Setting) -> Answer<()>
+    ensures { told result log.new ≡ play (apply_setting setting) script.now log.old }
 {
     match setting {
         Setting::ScancodeSet(set) => set_keyboard_scancode_set(script, log, set),
         Setting::SamplingRate(rate) => PS2Mouse::set_mouse_sampling_rate(script, log, rate),
         Setting::Resolution(resolution) => PS2Mouse::mouse_resolution(script, log, resolution),
-        Setting::Lamps(lamps) => {
-            let c = set_keyboard_led(script, log, lamps);
-            let answer = c.answer;
-            Completed {
-                answer,
-                used: c.used,
-                pairs: c.pairs,
-            }
-        }
+        Setting::Lamps(lamps) => set_keyboard_led(script, log, lamps).answer,
         Setting::RepeatRateAndDelay(byte) => set_keyboard_repeat(script, log, byte),
     }
 }
 
 // Sets how fast the keyboard repeats a key that is held, and after which delay.
-pub fn set_keyboard_repeat(script: &[u8], log: &mut [u8], byte: u8) -> Completed
-    ensures { played (said_done result.answer) result.used result.pairs log.new ≡ play (set_keyboard_repeat byte) script.now log.old }
+pub fn set_keyboard_repeat(script: &[u8], log: &mut [u8], byte: u8) -> Answer<()>
+    ensures { told result log.new ≡ play (set_keyboard_repeat byte) script.now log.old }
 {
-    let c = command_pair(
+    command_pair(
         script,
         log,
         DevicePort::Port1,
@@ -79,19 +69,14 @@ pub fn set_keyboard_repeat(script: &[u8], log: &mut [u8], byte: u8) -> Completed
             HostToKeyboardCommand::SetRepeatRateAndDelay,
         )),
         HostToDevice::Keyboard(HostToKeyboardCommandOrData::RepeatRateAndDelay(byte)),
-    );
-    let answer = c.answer;
-    Completed {
-        answer,
-        used: c.used,
-        pairs: c.pairs,
-    }
+    )
+    .answer
 }
 
-// Applies a record whose fields are within their values.
-fn apply_within(script: &[u8], log: &mut [u8], preferences: Preferences) -> Completed
+// Applies a record whose fields are within their values. Here and below each asks that of its own record: a type that says so would be one for each version.
+fn apply_within(script: &[u8], log: &mut [u8], preferences: Preferences) -> Answer<()>
     requires { within_values preferences ≡ true }
-    ensures { played (said_done result.answer) result.used result.pairs log.new ≡ play (apply_settings (settings_of preferences)) script.now log.old }
+    ensures { told result log.new ≡ play (apply_settings (settings_of preferences)) script.now log.old }
 {
     match preferences {
         Preferences::Version1(four) => apply_four(script, log, four),
@@ -100,42 +85,24 @@ fn apply_within(script: &[u8], log: &mut [u8], preferences: Preferences) -> Comp
 }
 
 // Applies the four fields, and then the repeat byte.
-fn apply_five(script: &[u8], log: &mut [u8], four: Fields, again: u32) -> Completed
+fn apply_five(script: &[u8], log: &mut [u8], four: Fields, again: u32) -> Answer<()>
     requires { within_values (Version2 four again) ≡ true }
-    ensures { played (said_done result.answer) result.used result.pairs log.new ≡ play (apply_settings (settings_of (Version2 four again))) script.now log.old }
+    ensures { told result log.new ≡ play (apply_settings (settings_of (Version2 four again))) script.now log.old }
 {
-    let f = apply_four(script, log, four);
-    let used = f.used;
-    let pairs = f.pairs;
-    let applied = f.answer;
-    match applied {
-        Completion::Done => {
-            let at = 2 * pairs;
-            let s = set_keyboard_repeat(&script[used..], &mut log[at..], byte_of(again));
-            let answer = s.answer;
-            Completed {
-                answer,
-                used: used + s.used,
-                pairs: pairs + s.pairs,
-            }
-        }
-        Completion::Refused(e) => Completed {
-            answer: Completion::Refused(e),
-            used,
-            pairs,
-        },
-    }
+    let applied = apply_four(script, log, four)?;
+    let tail = 2 * applied.pairs;
+    applied.then(set_keyboard_repeat(&script[applied.used..], &mut log[tail..], byte_of(again)))
 }
 
 // Applies the four fields that every record has.
-fn apply_four(script: &[u8], log: &mut [u8], four: Fields) -> Completed
+fn apply_four(script: &[u8], log: &mut [u8], four: Fields) -> Answer<()>
     requires { within_values (Version1 four) ≡ true }
-    ensures { played (said_done result.answer) result.used result.pairs log.new ≡ play (apply_settings (four_settings four)) script.now log.old }
+    ensures { told result log.new ≡ play (apply_settings (four_settings four)) script.now log.old }
 {
     let set = set_of(byte_of(four.set));
     let rate = rate_of(byte_of(four.rate));
     let resolution = resolution_of(byte_of(four.resolution));
-    let lamps = LEDState::from_byte(byte_of(four.lamps));
+    let lamps = LEDState::from(byte_of(four.lamps));
     apply_settings(
         script,
         log,
@@ -149,37 +116,18 @@ fn apply_four(script: &[u8], log: &mut [u8], four: Fields) -> Completed
 }
 
 // Sets settings, one after another.
-fn apply_settings(script: &[u8], log: &mut [u8], settings: [Setting; 4]) -> Completed
-    ensures { played (said_done result.answer) result.used result.pairs log.new ≡ play (apply_settings settings) script.now log.old }
+fn apply_settings(script: &[u8], log: &mut [u8], settings: [Setting; 4]) -> Answer<()>
+    ensures { told result log.new ≡ play (apply_settings settings) script.now log.old }
 {
-    let mut used: usize = 0;
-    let mut pairs: usize = 0;
-    let mut i: usize = 0;
-    let answer = loop {
-        if i == 4 {
-            break Completion::Done;
-        }
-        let at = 2 * pairs;
-        let s = apply_setting(&script[used..], &mut log[at..], settings[i]);
-        used += s.used;
-        pairs += s.pairs;
-        let set = s.answer;
-        match set {
-            Completion::Done => {}
-            Completion::Refused(e) => {
-                break Completion::Refused(e);
-            }
-        }
-        i += 1;
-    };
-    Completed {
-        answer,
-        used,
-        pairs,
+    let mut done = Counted::new(());
+    for &setting in &settings {
+        let tail = 2 * done.pairs;
+        done = done.then(apply_setting(&script[done.used..], &mut log[tail..], setting))?;
     }
+    Ok(done)
 }
 
-// A field within its values as a byte.
+// A field within its values as a byte. `u8::try_from` is no plainer: its refusal, which can't be, would want a byte too.
 fn byte_of(value: u32) -> u8
     requires { value < 256 }
     ensures { result ≡ value }
@@ -187,32 +135,21 @@ fn byte_of(value: u32) -> u8
     value as u8
 }
 
-// The scancode set of a byte.
+// The scancode set of a byte, and below the sampling rate and the resolution. A function for all three would take the number that stands for the unlisted, and be `unwrap_or` itself.
 fn set_of(byte: u8) -> ScancodeSet
     ensures { result ≡ set_of byte }
 {
-    match ScancodeSet::from_byte(byte) {
-        ScancodeSetByte::Listed(set) => set,
-        ScancodeSetByte::Unlisted => ScancodeSet::Get,
-    }
+    ScancodeSet::try_from(byte).unwrap_or(ScancodeSet::Get)
 }
 
-// The sampling rate of a byte.
 fn rate_of(byte: u8) -> MouseSampleRate
     ensures { result ≡ rate_of byte }
 {
-    match MouseSampleRate::from_byte(byte) {
-        SampleRateByte::Listed(rate) => rate,
-        SampleRateByte::Unlisted => MouseSampleRate::_100,
-    }
+    MouseSampleRate::try_from(byte).unwrap_or(MouseSampleRate::_100)
 }
 
-// The resolution of a byte.
 fn resolution_of(byte: u8) -> MouseResolution
     ensures { result ≡ resolution_of byte }
 {
-    match MouseResolution::from_byte(byte) {
-        ResolutionByte::Listed(resolution) => resolution,
-        ResolutionByte::Unlisted => MouseResolution::Count4PerMm,
-    }
+    MouseResolution::try_from(byte).unwrap_or(MouseResolution::Count4PerMm)
 }

@@ -1,15 +1,14 @@
 -- The codings of numbers, one after another.
 -- Assumes nothing.
-use mathlib.Core.Path.{◌≡◌, refl, sym, ap, ◌∙◌}
+use mathlib.Core.Path.{◌≡◌, refl, sym, ap, ap₂, ◌∙◌}
 use mathlib.Core.List.{List, [], ◌∷◌, ◌++◌, append_assoc, append-nil}
-use Prim.Native.Nat.{ℕ, ◌+◌, ◌<◌, ◌≤◌}
+use Prim.Native.Nat.{ℕ, ◌+◌, ◌*◌, ◌<◌, ◌≤◌}
+use native.Mathlib.Numerals.{add-one}
 use native.Mathlib.Omega.{arith}
-use lib.ListN.{length, length-append}
+use lib.ListN.{length, get_or, take, drop, length-append}
+use lib.Seq.{take-suc, drop-cons}
 use Rattle.number_coding.specs.Coding.{coding}
-use Rattle.number_coding.proofs.Lengths as number
 use Rattle.number_coding.proofs.Shortest.{coding_most}
-use Rattle.preferences.specs.declared.Fields.{Fields}
-use Rattle.preferences.specs.Record.{four_fields}
 use Rattle.preferences_coding.specs.Format.{codings}
 
 pub codings_none : codings [] ≡ []
@@ -35,26 +34,18 @@ length_first n ns = ap length (codings_first n ns) ∙ length-append (coding n) 
 pub length_last : (ns : List ℕ) (n : ℕ) → length (codings (ns ++ n ∷ [])) ≡ length (codings ns) + length (coding n)
 length_last ns n = ap length (codings_last ns n) ∙ length-append (codings ns) (coding n)
 
-pub most_one : (n : ℕ) {k : ℕ} → k ≡ length (coding n) → k ≤ 5
-most_one n e = omega (arith, coding_most n)
+pub codings_most : (ns : List ℕ) → length (codings ns) ≤ 5 * length ns
+codings_most [] = omega (arith, ap length codings_none)
+codings_most (n ∷ ns) = omega (arith, length_first n ns, coding_most n, codings_most ns)
 
--- ---- a record's
+-- ---- the first numbers of several, and one more
 
--- version and count take a byte each
-pub length_head : (v n : ℕ) (ns : List ℕ) → v < 128 → n < 128 → length (codings (v ∷ n ∷ ns)) ≡ 2 + length (codings ns)
-length_head v n ns h l = omega (arith, length_first v (n ∷ ns), length_first n ns, number.length_last 4 v h, number.length_last 4 n l)
+module _ (ns : List ℕ) (i : ℕ) (h : i < length ns) where
+  pub take_next : take (i + 1) ns ≡ take i ns ++ get_or ns i 0 ∷ []
+  take_next = rw (add-one i) (take-suc ns i 0 h)
 
-module _ (four : Fields) where
-  pub length_four : length (codings (four_fields four)) ≡ length (coding four.set) + length (coding four.rate) + length (coding four.resolution) + length (coding four.lamps)
-  length_four =
-      omega (
-        arith,
-        length_first four.set (four.rate ∷ four.resolution ∷ four.lamps ∷ []),
-        length_first four.rate (four.resolution ∷ four.lamps ∷ []),
-        length_first four.resolution (four.lamps ∷ []),
-        length_first four.lamps [],
-        ap length codings_none,
-      )
+  pub drop_next : drop i ns ≡ get_or ns i 0 ∷ drop (i + 1) ns
+  drop_next = rw (add-one i) (drop-cons ns i 0 h)
 
-  pub most_four : {n : ℕ} → n ≡ length (codings (four_fields four)) → n ≤ 20
-  most_four e = omega (arith, length_four, coding_most four.set, coding_most four.rate, coding_most four.resolution, coding_most four.lamps)
+  pub length_next : {k m : ℕ} → k ≡ length (codings (take i ns)) → m ≡ length (coding (get_or ns i 0)) → k + m ≡ length (codings (take (i + 1) ns))
+  length_next e q = ap₂ (λ (a b : ℕ). a + b) e q ∙ sym (length_last (take i ns) (get_or ns i 0)) ∙ ap (λ (l : List ℕ). length (codings l)) (sym take_next)

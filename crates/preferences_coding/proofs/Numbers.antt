@@ -9,7 +9,8 @@ use lib.ListN.{drop}
 use lib.Seq.{drop-append_seam}
 use Rattle.exchange.specs.Answer.{Answer, gives, refuses}
 use Rattle.number_coding.specs.Coding.{numbers_end, coding}
-use Rattle.number_coding.specs.Reading.{Number, read_number}
+use Rattle.number_coding.specs.declared.Number.{Number}
+use Rattle.number_coding.specs.Reading.{read_number}
 use Rattle.number_coding.proofs.RoundTrip.{read_of, coding_read}
 use Rattle.number_coding.proofs.Coded.{Read, well, ill, reading}
 use Rattle.preferences_coding.specs.Format.{codings}

@@ -1,28 +1,33 @@
 -- Numbers put into an output one after another, from its start on.
 -- Assumes nothing.
-use mathlib.Core.Path.{◌≡◌, sym, ap, ap₂, ◌∙◌}
+use mathlib.Core.Path.{◌≡◌, refl, sym, ap, ap₂, subst, ◌∙◌}
 use mathlib.Core.Bool.{true, false}
 use mathlib.Core.List.{List, [], ◌∷◌, ◌++◌, append_assoc}
 use Prim.Native.Nat.{ℕ, ◌+◌, ◌<◌, ◌≤◌}
 use native.Mathlib.Omega.{arith}
-use lib.ListN.{length, drop, length-append, length-drop}
+use lib.ListN.{length, get_or, take, drop, length-append, length-drop}
 use lib.Seq.{take-append_seam, drop-append-add, drop-drop}
 use borrow.Author.Tests.{le-leb, lt-leb}
+use Rattle.std.proofs.lemmas.List.{take_all}
+use Rattle.std.specs.Prelude.{Result, Ok, Err}
+use Rattle.std.specs.Result.{result_unwrap_or}
 use Rattle.exchange.specs.Answer.{gives, refuses}
 use Rattle.ps2_answers.specs.Refusals.{success}
 use Rattle.number_coding.specs.Coding.{coding}
-use Rattle.number_coding.specs.Writing.{Outcome, outcome, with_bytes, number_written}
-use Rattle.preferences.specs.declared.Fields.{Fields}
+use Rattle.number_coding.specs.declared.OutputShort.{OutputShort}
+use Rattle.number_coding.specs.Writing.{Outcome, outcome, with_bytes, number_written, said_written, count_written}
 use Rattle.preferences.specs.declared.Preferences.{Preferences}
-use Rattle.preferences.specs.declared.Preferences.TheVariants.{Version1, Version2}
-use Rattle.preferences.specs.Record.{four_fields, within_values}
-use Rattle.preferences_coding.specs.declared.WriteAnswer.{WriteAnswer}
+use Rattle.preferences.specs.Record.{within_values}
 use Rattle.preferences_coding.specs.Format.{codings, record_bytes}
-use Rattle.preferences_coding.specs.Writing.{written, leaves, said_written}
-use Rattle.preferences_coding.specs.Steps.{Put, Puts}
-use Rattle.preferences_coding.proofs.Codings.{codings_none, codings_last, length_first, length_last, length_head}
+use Rattle.preferences_coding.specs.Writing.{fitting, written, leaves}
+use Rattle.preferences_coding.proofs.Codings.{codings_none, codings_last, length_first, length_last, take_next, drop_next}
 
 -- ---- one number
+
+-- A number written at a place, and the place behind it.
+pub record Put (n : ℕ) (before out : List ℕ) (at end : ℕ) : Type 0 where
+  pub place : end ≡ at + length (coding n)
+  pub output : out ≡ with_bytes before at (coding n)
 
 pub number_put : {n at w : ℕ} {before out : List ℕ} {a : Outcome} → at + length (coding n) ≤ length before → a ≡ number_written n at before → a.count ≡ w → a.output ≡ out → Put n before out at (at + w)
 unfolding number_written
@@ -30,7 +35,21 @@ number_put {n} {at} {w} {before} {out} {a} h e p q =
     let r : a ≡ outcome (gives success) (length (coding n)) (with_bytes before at (coding n)) = e ∙ rw (le-leb (at + length (coding n)) (length before) h) in
     record { place = ap (λ (k : ℕ). at + k) (sym p ∙ ap (λ (o : Outcome). o.count) r); output = sym q ∙ ap (λ (o : Outcome). o.output) r }
 
+-- the same, by what the code takes as the count
+pub number_put_by : {n at w : ℕ} {before out : List ℕ} (r : Result ℕ OutputShort) → at + length (coding n) ≤ length before
+    → outcome (said_written r) (count_written r) out ≡ number_written n at before → w ≡ result_unwrap_or r 0 → Put n before out at (at + w)
+number_put_by r h e q = number_put h e (sym (q ∙ unwrapped r)) refl
+  where
+    unwrapped : (r : Result ℕ OutputShort) → result_unwrap_or r 0 ≡ count_written r
+    unwrapped (Ok count) = refl
+    unwrapped (Err short) = refl
+
 -- ---- several
+
+-- Numbers written from the start of an output on, and the place behind them.
+pub record Puts (numbers before out : List ℕ) (end : ℕ) : Type 0 where
+  pub place : end ≡ length (codings numbers)
+  pub output : out ≡ codings numbers ++ drop (length (codings numbers)) before
 
 -- some are put, others are left, and all find room
 pub record Putting (done left before out : List ℕ) (at : ℕ) : Type 0 where
@@ -69,62 +88,43 @@ putting_on {done} {others} {before} {out} {next} {n} {at} {end} p q =
       room = rw (length_last done n) (omega (arith, p.room, length_first n others));
     }
 
+-- ---- a list of them, from its first to its last
+
+module _ (ns : List ℕ) (i : ℕ) {before out : List ℕ} {at : ℕ} (p : Putting (take i ns) (drop i ns) before out at) where
+  pub next_room : i < length ns → at + length (coding (get_or ns i 0)) ≤ length out
+  next_room h = put_room (subst (λ (l : List ℕ). Putting (take i ns) l before out at) (drop_next ns i h) p)
+
+  pub next_put : {next : List ℕ} {end : ℕ} → i < length ns → Put (get_or ns i 0) out next at end → Putting (take (i + 1) ns) (drop (i + 1) ns) before next end
+  next_put {next} {end} h q =
+      subst (λ (l : List ℕ). Putting l (drop (i + 1) ns) before next end) (sym (take_next ns i h))
+      (putting_on (subst (λ (l : List ℕ). Putting (take i ns) l before out at) (drop_next ns i h) p) q)
+
+  pub all_put : length ns ≤ i → out ≡ codings ns ++ drop (length (codings ns)) before
+  all_put h = subst (λ (l : List ℕ). out ≡ codings l ++ drop (length (codings l)) before) (take_all i ns h) p.puts.output
+
+-- ---- with room and without
+
+module _ (out bytes : List ℕ) where
+  pub no_room : length out < length bytes → outcome (refuses 23) 0 out ≡ leaves out (fitting (length out) bytes)
+  no_room h = rw (lt-leb (length bytes) (length out) h)
+
+  pub with_room : {n : ℕ} {next : List ℕ} → n ≡ length bytes → length bytes ≤ length out → next ≡ bytes ++ drop (length bytes) out
+      → outcome (gives success) n next ≡ leaves out (fitting (length out) bytes)
+  with_room e h q = rw (le-leb (length bytes) (length out) h, e, q)
+
 -- ---- a record
 
--- the answers
 module _ (p : Preferences) where
   pub outside : (room : ℕ) → within_values p ≡ false → written room p ≡ refuses 28
   unfolding written
   outside room e = rw e
 
-  short : (room : ℕ) → within_values p ≡ true → room < length (record_bytes p) → written room p ≡ refuses 23
+module _ (p : Preferences) (out : List ℕ) where
+  pub outside_left : within_values p ≡ false → outcome (refuses 28) 0 out ≡ leaves out (written (length out) p)
   unfolding written
-  short room e h = rw (e, lt-leb (length (record_bytes p)) room h)
+  outside_left e = rw e
 
-  fits : (room : ℕ) → within_values p ≡ true → length (record_bytes p) ≤ room → written room p ≡ gives (record_bytes p)
+  -- 28 is not given: what is left goes by the room
+  pub inside : {o : Outcome} {bytes : List ℕ} → within_values p ≡ true → bytes ≡ record_bytes p → o ≡ leaves out (fitting (length out) bytes) → o ≡ leaves out (written (length out) p)
   unfolding written
-  fits room e h = rw (e, le-leb (length (record_bytes p)) room h)
-
-  done : (before out : List ℕ) (n : ℕ) → within_values p ≡ true → n ≡ length (record_bytes p) → n ≤ length before → out ≡ record_bytes p ++ drop (length (record_bytes p)) before
-      → outcome (gives success) n out ≡ leaves before (written (length before) p)
-  done before out n e q h o = sym (ap (leaves before) (fits (length before) e (omega arith)) ∙ ap₂ (outcome (gives success)) (sym q) (sym o))
-
--- a refusal
-pub refused : (p : Preferences) (out : List ℕ) (a : WriteAnswer) {w n : ℕ} → said_written a ≡ refuses n → w ≡ 0 → written (length out) p ≡ refuses n
-    → outcome (said_written a) w out ≡ leaves out (written (length out) p)
-refused p out a e z t = rw (e, z, t)
-
--- version 1
-module _ {p : Preferences} (four : Fields) (is : p ≡ Version1 four) (within : within_values p ≡ true) {n : ℕ} (long : n ≡ length (codings (four_fields four))) where
-  bytes_1 : 2 + n ≡ length (record_bytes p)
-  bytes_1 = rw (is, length_head 1 4 (four_fields four) (omega arith) (omega arith), long)
-
-  pub short_1 : (room : ℕ) → room < 2 + n → written room p ≡ refuses 23
-  short_1 room h = short p room within (omega (arith, bytes_1))
-
-  pub room_1 : (room : ℕ) → 2 + n ≤ room → length (codings (1 ∷ 4 ∷ four_fields four)) ≤ room
-  room_1 room h = omega (arith, length_head 1 4 (four_fields four) (omega arith) (omega arith))
-
-  pub done_1 : (before out : List ℕ) {end : ℕ} → 2 + n ≤ length before → Puts (1 ∷ 4 ∷ four_fields four) before out end → outcome (gives success) (2 + n) out ≡ leaves before (written (length before) p)
-  done_1 before out h q = done p before out (2 + n) within bytes_1 h (rw is q.output)
-
--- version 2
-module _ {p : Preferences} (four : Fields) (again : ℕ) (is : p ≡ Version2 four again) (within : within_values p ≡ true) {n m : ℕ} (long : n ≡ length (codings (four_fields four))) (last : m ≡ length (coding again)) where
-  bytes_2 : 2 + n + m ≡ length (record_bytes p)
-  bytes_2 = rw (is, length_last (2 ∷ 5 ∷ four_fields four) again, length_head 2 5 (four_fields four) (omega arith) (omega arith), long, last)
-
-  pub short_2 : (room : ℕ) → room < 2 + n + m → written room p ≡ refuses 23
-  short_2 room h = short p room within (omega (arith, bytes_2))
-
-  pub room_2 : (room : ℕ) → 2 + n + m ≤ room → length (codings (2 ∷ 5 ∷ four_fields four)) ≤ room
-  room_2 room h = omega (arith, length_head 2 5 (four_fields four) (omega arith) (omega arith))
-
-  module _ {before middle : List ℕ} {at : ℕ} (h : 2 + n + m ≤ length before) (q : Puts (2 ∷ 5 ∷ four_fields four) before middle at) where
-    fifth : Putting (2 ∷ 5 ∷ four_fields four) (again ∷ []) before middle at
-    fifth = record { puts = q; room = omega (arith, length_head 2 5 (four_fields four) (omega arith) (omega arith), length_first again [], ap length codings_none) }
-
-    pub room_fifth : at + length (coding again) ≤ length middle
-    room_fifth = put_room fifth
-
-    pub done_2 : (out : List ℕ) {end : ℕ} → Put again middle out at end → outcome (gives success) (2 + n + m) out ≡ leaves before (written (length before) p)
-    done_2 out r = done p before out (2 + n + m) within bytes_2 h (rw is (putting_on fifth r).puts.output)
+  inside e q r = rw e (r ∙ ap (λ (l : List ℕ). leaves out (fitting (length out) l)) q)

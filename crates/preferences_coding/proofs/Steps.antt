@@ -9,21 +9,20 @@ use lib.Dec.{eqb, leb}
 use lib.ListN.{length, drop, length-append, length-drop, drop_of_length-le}
 use lib.Seq.{drop-drop, drop-cons}
 use borrow.Author.Tests.{eqb-true, ne_eqb, leb-true, leb-false}
+use Rattle.std.specs.Prelude.{Result, Ok, Err}
 use Rattle.exchange.specs.Answer.{Answer, gives, refuses}
 use Rattle.number_coding.specs.Coding.{coding}
-use Rattle.number_coding.specs.Reading.{Number, taking, read_number}
+use Rattle.number_coding.specs.declared.Number.{Number}
+use Rattle.number_coding.specs.Reading.{taking, read_number}
 use Rattle.number_coding.proofs.RoundTrip.{read_of}
 use Rattle.number_coding.proofs.Shortest.{coding_some}
 use Rattle.preferences.specs.Values.{is_scancode_set, is_sampling_rate, is_resolution, is_lamps, four_values}
 use Rattle.preferences.specs.declared.Fields.{Fields}
 use Rattle.preferences.specs.Record.{four_fields}
 use Rattle.preferences_coding.specs.declared.ReadRefusal.{ReadRefusal}
-use Rattle.preferences_coding.specs.declared.Taken.{Taken}
-use Rattle.preferences_coding.specs.declared.Head.{Head}
-use Rattle.preferences_coding.specs.declared.Four.{Four}
 use Rattle.preferences_coding.specs.Format.{field_count}
 use Rattle.preferences_coding.specs.Reading.{behind, asking, numbers_read, is_version, any_number, is_count, version_in, record_read, refusal_number}
-use Rattle.preferences_coding.specs.Steps.{behind_all, taken_says, value_in, checked_as, Takes, Heads, Fours}
+use Rattle.preferences_coding.specs.Steps.{behind_all, Takes, Heads, Fours}
 
 -- ---- one number
 
@@ -40,22 +39,22 @@ record Known (question : ℕ → Bool) (a : Answer Number) (v : ℕ) : Type 0 wh
   pub accepted : question v ≡ true
 
 module _ {input : List ℕ} {at : ℕ} {question : ℕ → Bool} where
-  pub takes_malformed : read_number (drop at input) ≡ refuses 27 → Takes input at question (Taken.Refused ReadRefusal.Malformed)
+  pub takes_malformed : read_number (drop at input) ≡ refuses 27 → Takes input at question (Err ReadRefusal.Malformed)
   takes_malformed e = record { says = λ next. rw e }
 
-  pub takes_number : {v n : ℕ} → read_number (drop at input) ≡ gives (taking v n) → question v ≡ true → Takes input at question (Taken.Number v (at + n))
+  pub takes_number : {v n : ℕ} → read_number (drop at input) ≡ gives (taking v n) → question v ≡ true → Takes input at question (Ok (v, at + n))
   takes_number {v} {n} e q = record { says = λ next. rw (e, q, drop-drop n at input) }
 
   -- then the other numbers
-  pub then_others : {v end : ℕ} → Takes input at question (Taken.Number v end) → (questions : List (ℕ → Bool)) → numbers_read (question ∷ questions) (drop at input) ≡ behind v (numbers_read questions (drop end input))
+  pub then_others : {v end : ℕ} → Takes input at question (Ok (v, end)) → (questions : List (ℕ → Bool)) → numbers_read (question ∷ questions) (drop at input) ≡ behind v (numbers_read questions (drop end input))
   unfolding numbers_read
   then_others t questions = t.says (numbers_read questions)
 
-  pub then_refused : {x : ReadRefusal} → Takes input at question (Taken.Refused x) → (questions : List (ℕ → Bool)) → numbers_read (question ∷ questions) (drop at input) ≡ refuses (refusal_number x)
+  pub then_refused : {x : ReadRefusal} → Takes input at question (Err x) → (questions : List (ℕ → Bool)) → numbers_read (question ∷ questions) (drop at input) ≡ refuses (refusal_number x)
   unfolding numbers_read
   then_refused t questions = t.says (numbers_read questions)
 
-  known : {v end : ℕ} → Takes input at question (Taken.Number v end) → Known question (read_number (drop at input)) v
+  known : {v end : ℕ} → Takes input at question (Ok (v, end)) → Known question (read_number (drop at input)) v
   known {v} t = by (read_number (drop at input)) (t.says (λ rest. gives []))
     where
       judge : (r : Number) (b : Bool) → question r.value ≡ b → cond b (gives (r.value ∷ [])) (refuses 28) ≡ gives (v ∷ []) → Known question (gives r) v
@@ -66,25 +65,41 @@ module _ {input : List ℕ} {at : ℕ} {question : ℕ → Bool} where
       by (refuses k) e = let z : ◌≡◌ {A = ℕ} 0 1 = cc in absurd (omega arith)
       by (gives r) e = judge r (question r.value) refl e
 
+-- what is asked of a number whose form is asked for alone
+asked : (input : List ℕ) (at v end : ℕ) (question : ℕ → Bool) (a : Answer Number) (next : List ℕ → Answer (List ℕ)) → asking any_number (λ rest. gives []) (drop at input) a ≡ gives (v ∷ [])
+    → asking any_number next (drop at input) a ≡ behind v (next (drop end input)) → asking question next (drop at input) a ≡ cond (question v) (behind v (next (drop end input))) (refuses 28)
+asked input at v end question (refuses k) next f s = absurd (let z : ◌≡◌ {A = ℕ} 0 1 = cc in omega arith)
+asked input at v end question (gives n) next f s =
+    let z : n.value ≡ v = cc in
+    let w : cond (question n.value) (behind n.value (next (drop n.count (drop at input)))) (refuses 28) ≡ cond (question v) (behind n.value (next (drop n.count (drop at input)))) (refuses 28) =
+    ap (λ (w : ℕ). cond (question w) (behind n.value (next (drop n.count (drop at input)))) (refuses 28)) z in
+    w ∙ ap (λ (a : Answer (List ℕ)). cond (question v) a (refuses 28)) s
+
 -- a number that was read, with its question
 module _ {input : List ℕ} {at : ℕ} (question : ℕ → Bool) where
-  with_question : (t : Taken) → Takes input at any_number t → Takes input at question (checked_as t (question (value_in t)))
-  with_question t r = record { says = λ next. by t (read_number (drop at input)) next (r.says (λ rest. gives [])) (r.says next) }
+  takes_accepted : {t : ℕ × ℕ} → Takes input at any_number (Ok t) → question t.0 ≡ true → Takes input at question (Ok t)
+  takes_accepted {t} r q = record { says = λ next. asked input at t.0 t.1 question (read_number (drop at input)) next (r.says (λ rest. gives [])) (r.says next) ∙ rw q }
+
+  takes_outside : {t : ℕ × ℕ} → Takes input at any_number (Ok t) → question t.0 ≡ false → Takes input at question (Err ReadRefusal.OutsideValues)
+  takes_outside {t} r q = record { says = λ next. asked input at t.0 t.1 question (read_number (drop at input)) next (r.says (λ rest. gives [])) (r.says next) ∙ rw q }
+
+  takes_refused : {x : ReadRefusal} → Takes input at any_number (Err x) → Takes input at question (Err x)
+  takes_refused {x} r = record { says = λ next. by (read_number (drop at input)) next (r.says (λ rest. gives [])) (r.says next) }
     where
-      told : (n : Number) (v end : ℕ) (next : List ℕ → Answer (List ℕ)) → behind n.value (next (drop n.count (drop at input))) ≡ behind v (next (drop end input)) → (b : Bool) → question n.value ≡ b → question v ≡ b
-          → asking question next (drop at input) (gives n) ≡ taken_says input next (checked_as (Taken.Number v end) (question v))
-      told n v end next s true p q = rw (p, q) s
-      told n v end next s false p q = rw (p, q)
+      by : (a : Answer Number) (next : List ℕ → Answer (List ℕ)) → asking any_number (λ rest. gives []) (drop at input) a ≡ refuses (refusal_number x)
+          → asking any_number next (drop at input) a ≡ refuses (refusal_number x) → asking question next (drop at input) a ≡ refuses (refusal_number x)
+      by (refuses k) next f s = s
+      by (gives n) next f s = absurd (let z : ◌≡◌ {A = ℕ} 0 1 = cc in omega arith)
 
-      by : (t : Taken) (a : Answer Number) (next : List ℕ → Answer (List ℕ)) → asking any_number (λ rest. gives []) (drop at input) a ≡ taken_says input (λ rest. gives []) t
-          → asking any_number next (drop at input) a ≡ taken_says input next t → asking question next (drop at input) a ≡ taken_says input next (checked_as t (question (value_in t)))
-      by (Taken.Refused x) (refuses k) next f s = s
-      by (Taken.Refused x) (gives n) next f s = absurd (let z : ◌≡◌ {A = ℕ} 0 1 = cc in omega arith)
-      by (Taken.Number v end) (refuses k) next f s = absurd (let z : ◌≡◌ {A = ℕ} 0 1 = cc in omega arith)
-      by (Taken.Number v end) (gives n) next f s = let z : n.value ≡ v = cc in told n v end next s (question v) (ap question z) refl
+  -- the three ways on from a number that was read: it is malformed, it is what its question asks for, or it is outside its values
+  pub malformed : {r : Result (ℕ × ℕ) ReadRefusal} {x : ReadRefusal} → Takes input at any_number r → r ≡ Err x → Takes input at question (Err x)
+  malformed h e = takes_refused (subst (Takes input at any_number) e h)
 
-  pub takes_checked : {t u : Taken} {v : ℕ} {accepted : Bool} → Takes input at any_number t → v ≡ value_in t → accepted ≡ question v → u ≡ checked_as t accepted → Takes input at question u
-  takes_checked {t} r p q e = subst (Takes input at question) (sym (e ∙ ap (checked_as t) (q ∙ ap question p))) (with_question t r)
+  pub taken : {r : Result (ℕ × ℕ) ReadRefusal} {t : ℕ × ℕ} {b : Bool} → Takes input at any_number r → r ≡ Ok t → b ≡ question t.0 → b ≡ true → Takes input at question (Ok t)
+  taken h e p q = takes_accepted (subst (Takes input at any_number) e h) (sym p ∙ q)
+
+  pub outside : {r : Result (ℕ × ℕ) ReadRefusal} {t : ℕ × ℕ} {b : Bool} {x : ReadRefusal} → Takes input at any_number r → r ≡ Ok t → b ≡ question t.0 → b ≡ false → x ≡ ReadRefusal.OutsideValues → Takes input at question (Err x)
+  outside h e p q z = subst (λ (y : ReadRefusal). Takes input at question (Err y)) (sym z) (takes_outside (subst (Takes input at any_number) e h) (sym p ∙ q))
 
 -- ---- version and count
 
@@ -92,7 +107,7 @@ second_version : (n : ℕ) → is_version n ≡ true → (n ≡ 1 → ⊥) → n
 second_version n e other = eqb-true n 2 (rw (ne_eqb n 1 other) at e)
 
 module _ {input : List ℕ} where
-  pub head_refused : {x : ReadRefusal} → Takes input 0 is_version (Taken.Refused x) → Heads input (Head.Refused x)
+  pub head_refused : {x : ReadRefusal} → Takes input 0 is_version (Err x) → Heads input (Err x)
   unfolding record_read
   head_refused t =
       record {
@@ -100,15 +115,15 @@ module _ {input : List ℕ} where
         version = tt;
       }
 
-  module _ {v at : ℕ} (t : Takes input 0 is_version (Taken.Number v at)) where
+  module _ {v at : ℕ} (t : Takes input 0 is_version (Ok (v, at))) where
     by_version : (fifth : ℕ → Bool) → record_read fifth input ≡ behind v (numbers_read (is_count v ∷ four_values ++ cond (eqb v 1) [] (fifth ∷ [])) (drop at input))
     unfolding record_read
     by_version fifth = rw (known t).value (then_others t (is_count v ∷ four_values ++ cond (eqb v 1) [] (fifth ∷ [])))
 
-    pub count_refused : {x : ReadRefusal} → Takes input at (is_count v) (Taken.Refused x) → Heads input (Head.Refused x)
+    pub count_refused : {x : ReadRefusal} → Takes input at (is_count v) (Err x) → Heads input (Err x)
     count_refused c = record { says = λ fifth. by_version fifth ∙ ap (behind v) (then_refused c (four_values ++ cond (eqb v 1) [] (fifth ∷ []))); version = tt }
 
-    pub head_read : {n end : ℕ} → Takes input at (is_count v) (Taken.Number n end) → Heads input (Head.Version v end)
+    pub head_read : {n end : ℕ} → Takes input at (is_count v) (Ok (n, end)) → Heads input (Ok (v, end))
     head_read {n} {end} c =
         let z : n ≡ field_count v = eqb-true n (field_count v) (known c).accepted in
         record {
@@ -123,28 +138,28 @@ module _ {input : List ℕ} where
 -- ---- the four fields
 
 module _ {input : List ℕ} {at : ℕ} where
-  pub first_refused : {x : ReadRefusal} → Takes input at is_scancode_set (Taken.Refused x) → Fours input at (Four.Refused x)
+  pub first_refused : {x : ReadRefusal} → Takes input at is_scancode_set (Err x) → Fours input at (Err x)
   first_refused t = record { says = λ qs. then_refused t (is_sampling_rate ∷ is_resolution ∷ is_lamps ∷ qs) }
 
-  module _ {set at2 : ℕ} (t : Takes input at is_scancode_set (Taken.Number set at2)) where
-    pub second_refused : {x : ReadRefusal} → Takes input at2 is_sampling_rate (Taken.Refused x) → Fours input at (Four.Refused x)
+  module _ {set at2 : ℕ} (t : Takes input at is_scancode_set (Ok (set, at2))) where
+    pub second_refused : {x : ReadRefusal} → Takes input at2 is_sampling_rate (Err x) → Fours input at (Err x)
     second_refused u = record { says = λ qs. then_others t (is_sampling_rate ∷ is_resolution ∷ is_lamps ∷ qs) ∙ ap (behind set) (then_refused u (is_resolution ∷ is_lamps ∷ qs)) }
 
-    module _ {rate at3 : ℕ} (u : Takes input at2 is_sampling_rate (Taken.Number rate at3)) where
+    module _ {rate at3 : ℕ} (u : Takes input at2 is_sampling_rate (Ok (rate, at3))) where
       to_third : (qs : List (ℕ → Bool)) → numbers_read (four_values ++ qs) (drop at input) ≡ behind set (behind rate (numbers_read (is_resolution ∷ is_lamps ∷ qs) (drop at3 input)))
       to_third qs = then_others t (is_sampling_rate ∷ is_resolution ∷ is_lamps ∷ qs) ∙ ap (behind set) (then_others u (is_resolution ∷ is_lamps ∷ qs))
 
-      pub third_refused : {x : ReadRefusal} → Takes input at3 is_resolution (Taken.Refused x) → Fours input at (Four.Refused x)
+      pub third_refused : {x : ReadRefusal} → Takes input at3 is_resolution (Err x) → Fours input at (Err x)
       third_refused v = record { says = λ qs. to_third qs ∙ ap (λ (a : Answer (List ℕ)). behind set (behind rate a)) (then_refused v (is_lamps ∷ qs)) }
 
-      module _ {resolution at4 : ℕ} (v : Takes input at3 is_resolution (Taken.Number resolution at4)) where
+      module _ {resolution at4 : ℕ} (v : Takes input at3 is_resolution (Ok (resolution, at4))) where
         to_fourth : (qs : List (ℕ → Bool)) → numbers_read (four_values ++ qs) (drop at input) ≡ behind set (behind rate (behind resolution (numbers_read (is_lamps ∷ qs) (drop at4 input))))
         to_fourth qs = to_third qs ∙ ap (λ (a : Answer (List ℕ)). behind set (behind rate a)) (then_others v (is_lamps ∷ qs))
 
-        pub fourth_refused : {x : ReadRefusal} → Takes input at4 is_lamps (Taken.Refused x) → Fours input at (Four.Refused x)
+        pub fourth_refused : {x : ReadRefusal} → Takes input at4 is_lamps (Err x) → Fours input at (Err x)
         fourth_refused w = record { says = λ qs. to_fourth qs ∙ ap (λ (a : Answer (List ℕ)). behind set (behind rate (behind resolution a))) (then_refused w qs) }
 
-        pub four_read : {lamps end : ℕ} → Takes input at4 is_lamps (Taken.Number lamps end) → Fours input at (Four.Fields (record { set = set; rate = rate; resolution = resolution; lamps = lamps }) end)
+        pub four_read : {lamps end : ℕ} → Takes input at4 is_lamps (Ok (lamps, end)) → Fours input at (Ok (record { set = set; rate = rate; resolution = resolution; lamps = lamps }, end))
         four_read w = record { says = λ qs. to_fourth qs ∙ ap (λ (a : Answer (List ℕ)). behind set (behind rate (behind resolution a))) (then_others w qs) }
 
 -- ---- the end
@@ -159,14 +174,14 @@ module _ (input : List ℕ) (end : ℕ) where
   bytes_follow h = rw (drop-cons input end 0 (leb-false (length input) end h))
 
 module _ {input : List ℕ} (fifth : ℕ → Bool) where
-  pub head_ends : {x : ReadRefusal} → Heads input (Head.Refused x) → record_read fifth input ≡ refuses (refusal_number x)
+  pub head_ends : {x : ReadRefusal} → Heads input (Err x) → record_read fifth input ≡ refuses (refusal_number x)
   head_ends h = h.says fifth
 
-  module _ {v at : ℕ} (h : Heads input (Head.Version v at)) where
-    pub four_ends : {x : ReadRefusal} → Fours input at (Four.Refused x) → record_read fifth input ≡ refuses (refusal_number x)
+  module _ {v at : ℕ} (h : Heads input (Ok (v, at))) where
+    pub four_ends : {x : ReadRefusal} → Fours input at (Err x) → record_read fifth input ≡ refuses (refusal_number x)
     four_ends f = h.says fifth ∙ ap (behind_all (v ∷ field_count v ∷ [])) (f.says (cond (eqb v 1) [] (fifth ∷ [])))
 
-    module _ {four : Fields} {end : ℕ} (f : Fours input at (Four.Fields four end)) where
+    module _ {four : Fields} {end : ℕ} (f : Fours input at (Ok (four, end))) where
       behind_four : record_read fifth input ≡ behind_all (v ∷ field_count v ∷ four_fields four) (numbers_read (cond (eqb v 1) [] (fifth ∷ [])) (drop end input))
       behind_four = h.says fifth ∙ ap (behind_all (v ∷ field_count v ∷ [])) (f.says (cond (eqb v 1) [] (fifth ∷ [])))
 
@@ -186,10 +201,10 @@ module _ {input : List ℕ} (fifth : ℕ → Bool) where
             behind_four
             ∙ ap (λ (w : ℕ). behind_all (w ∷ field_count w ∷ four_fields four) (numbers_read (cond (eqb w 1) [] (fifth ∷ [])) (drop end input))) (second_version v h.version other)
 
-        pub fifth_ends : {x : ReadRefusal} → Takes input end fifth (Taken.Refused x) → record_read fifth input ≡ refuses (refusal_number x)
+        pub fifth_ends : {x : ReadRefusal} → Takes input end fifth (Err x) → record_read fifth input ≡ refuses (refusal_number x)
         fifth_ends t = behind_2 ∙ ap (behind_all (2 ∷ 5 ∷ four_fields four)) (then_refused t [])
 
-        module _ {again last : ℕ} (t : Takes input end fifth (Taken.Number again last)) where
+        module _ {again last : ℕ} (t : Takes input end fifth (Ok (again, last))) where
           pub two_follows : leb (length input) last ≡ false → record_read fifth input ≡ refuses 29
           two_follows l = behind_2 ∙ ap (behind_all (2 ∷ 5 ∷ four_fields four)) (then_others t [] ∙ ap (behind again) (bytes_follow input last l))
 

@@ -3,7 +3,8 @@
 use Rattle.std.specs.Prelude.{Bool, true, false, List, [], ◌∷◌, ◌++◌, ◌≡◌, ℕ, ◌<◌}
 use Rattle.exchange.specs.Answer.{gives, refuses}
 use Rattle.number_coding.specs.Coding.{numbers_end, coding}
-use Rattle.number_coding.specs.Reading.{Number, read_number}
+use Rattle.number_coding.specs.declared.Number.{Number}
+use Rattle.number_coding.specs.Reading.{read_number}
 use Rattle.preferences.specs.declared.Fields.{Fields}
 use Rattle.preferences.specs.declared.Preferences.{Preferences}
 use Rattle.preferences.specs.declared.Preferences.TheVariants.{Version1, Version2}

@@ -1,13 +1,14 @@
 -- A record read from a string of bytes.
 -- Assumes nothing.
-use Rattle.std.specs.Prelude.{Bool, true, cond, ◌||◌, List, [], ◌∷◌, ◌++◌, ℕ, eqb, take, drop}
+use Rattle.std.specs.Prelude.{Bool, true, cond, ◌||◌, List, [], ◌∷◌, ◌++◌, ℕ, eqb, take, drop, Result, Ok, Err}
 use Rattle.exchange.specs.Answer.{Answer, gives, refuses}
-use Rattle.number_coding.specs.Reading.{Number, read_number}
+use Rattle.number_coding.specs.declared.Number.{Number}
+use Rattle.number_coding.specs.Reading.{read_number}
 use Rattle.preferences.specs.Values.{four_values, is_repeat_byte}
 use Rattle.preferences.specs.Record.{four_fields}
+use Rattle.preferences.specs.declared.Fields.{Fields}
+use Rattle.preferences.specs.declared.Preferences.{Preferences}
 use Rattle.preferences_coding.specs.declared.ReadRefusal.{ReadRefusal}
-use Rattle.preferences_coding.specs.declared.FieldsRead.{FieldsRead}
-use Rattle.preferences_coding.specs.declared.PreferencesRead.{PreferencesRead}
 use Rattle.preferences_coding.specs.Format.{field_count, numbers_of}
 
 -- ---- numbers, each with its question
@@ -81,10 +82,10 @@ refusal_number ReadRefusal.OutsideValues = 28
 refusal_number ReadRefusal.BytesFollow = 29
 
 -- "Refused reading yields no field."
-abbrev pub said_read1 : FieldsRead → Answer (List ℕ)
-said_read1 (FieldsRead.Fields four) = gives (four_fields four)
-said_read1 (FieldsRead.Refused x) = refuses (refusal_number x)
+abbrev pub said_read1 : Result Fields ReadRefusal → Answer (List ℕ)
+said_read1 (Ok four) = gives (four_fields four)
+said_read1 (Err x) = refuses (refusal_number x)
 
-abbrev pub said_read2 : PreferencesRead → Answer (List ℕ)
-said_read2 (PreferencesRead.Preferences p) = gives (numbers_of p)
-said_read2 (PreferencesRead.Refused x) = refuses (refusal_number x)
+abbrev pub said_read2 : Result Preferences ReadRefusal → Answer (List ℕ)
+said_read2 (Ok p) = gives (numbers_of p)
+said_read2 (Err x) = refuses (refusal_number x)

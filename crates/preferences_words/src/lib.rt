@@ -14,13 +14,10 @@ ghost use Rattle.preferences_words.specs.Reading.{told_read, as_version1};
 ghost use Rattle.preferences_words.specs.Parts.{said_found};
 
 use argument_words::MEANS_NOTHING;
-use port_words::{PortWords, completed_words, refusing_words};
+use port_words::{PortWords, answer_words, refusing_words};
 use preferences::{Fields, Preferences};
 use preferences_application::apply_preferences;
-use preferences_coding::{
-    FieldsRead, PreferencesRead, ReadRefusal, read_preferences_1, read_preferences_2,
-    write_preferences,
-};
+use preferences_coding::{ReadRefusal, read_preferences_1, read_preferences_2, write_preferences};
 
 // A record of version 1 or 2: its fields in their order. Version 1 has no repeat byte: it is not looked at, and 0 where it is given back.
 #[repr(C)]
@@ -51,36 +48,21 @@ pub struct PreferencesWrittenWords {
 }
 
 // The record that six numbers stand for, if any.
-#[derive(Clone, Copy)]
-enum FoundPreferences {
-    Preferences(Preferences),
-    Nothing,
-}
-
-fn wide_number(x: u8) -> u32
-    ensures { result ≡ x }
-{
-    x as u32
-}
-
-// The record that six numbers stand for.
-fn preferences_of(words: PreferencesWords) -> FoundPreferences
+#[tactic(auto, unfolding(crate::specs::Record::preferences_at))]
+fn preferences_of(words: PreferencesWords) -> Option<Preferences>
     ensures { said_found result ≡ preferences_at words }
 {
-    let version = words.version;
     let fields = Fields {
         set: words.set,
         rate: words.rate,
         resolution: words.resolution,
         lamps: words.lamps,
     };
-    if version == 1 {
-        return FoundPreferences::Preferences(Preferences::Version1(fields));
+    match words.version {
+        1 => Some(Preferences::Version1(fields)),
+        2 => Some(Preferences::Version2(fields, words.repeat)),
+        _ => None,
     }
-    if version == 2 {
-        return FoundPreferences::Preferences(Preferences::Version2(fields, words.repeat));
-    }
-    FoundPreferences::Nothing
 }
 
 // The six numbers of a record.
@@ -112,7 +94,7 @@ fn refused(refusal: ReadRefusal) -> PreferencesReadWords
     ensures { result ≡ told_read (refuses (refusal_number refusal)) }
 {
     PreferencesReadWords {
-        refusal: wide_number(refusal.number()),
+        refusal: u32::from(refusal.number()),
         preferences: PreferencesWords {
             version: 0,
             set: 0,
@@ -128,18 +110,19 @@ fn refused(refusal: ReadRefusal) -> PreferencesReadWords
 pub fn write(preferences: PreferencesWords, output: &mut [u8]) -> PreferencesWrittenWords
     ensures { WordsWritten preferences output.old result output.new }
 {
-    let found = preferences_of(preferences);
-    match found {
-        FoundPreferences::Preferences(known) => {
-            let w = write_preferences(known, output);
-            let answer = w.answer;
-            PreferencesWrittenWords {
-                refusal: wide_number(answer.number()),
-                written: w.written,
-            }
-        }
-        FoundPreferences::Nothing => PreferencesWrittenWords {
+    let Some(known) = preferences_of(preferences) else {
+        return PreferencesWrittenWords {
             refusal: MEANS_NOTHING,
+            written: 0,
+        };
+    };
+    match write_preferences(known, output) {
+        Ok(written) => PreferencesWrittenWords {
+            refusal: 0,
+            written,
+        },
+        Err(refusal) => PreferencesWrittenWords {
+            refusal: u32::from(refusal.number()),
             written: 0,
         },
     }
@@ -149,13 +132,12 @@ pub fn write(preferences: PreferencesWords, output: &mut [u8]) -> PreferencesWri
 pub fn read_1(input: &[u8]) -> PreferencesReadWords
     ensures { result ≡ told_read (as_version1 (read1 input.now)) }
 {
-    let read = read_preferences_1(input);
-    match read {
-        FieldsRead::Fields(fields) => PreferencesReadWords {
+    match read_preferences_1(input) {
+        Ok(fields) => PreferencesReadWords {
             refusal: 0,
             preferences: words_of(Preferences::Version1(fields)),
         },
-        FieldsRead::Refused(refusal) => refused(refusal),
+        Err(refusal) => refused(refusal),
     }
 }
 
@@ -163,25 +145,23 @@ pub fn read_1(input: &[u8]) -> PreferencesReadWords
 pub fn read_2(input: &[u8]) -> PreferencesReadWords
     ensures { result ≡ told_read (read2 input.now) }
 {
-    let read = read_preferences_2(input);
-    match read {
-        PreferencesRead::Preferences(preferences) => PreferencesReadWords {
+    match read_preferences_2(input) {
+        Ok(preferences) => PreferencesReadWords {
             refusal: 0,
             preferences: words_of(preferences),
         },
-        PreferencesRead::Refused(refusal) => refused(refusal),
+        Err(refusal) => refused(refusal),
     }
 }
+
+// Kept as two slices: document 01 has each call take a script and a log.
 
 // Applies a record's fields to the devices, in their order. Where one is outside its values nothing is read or written; after a refusal the fields before it stay applied.
 pub fn apply(preferences: PreferencesWords, script: &[u8], log: &mut [u8]) -> PortWords
     ensures { TellsAt (refusing means_nothing) (told no_value) apply_preferences (preferences_at preferences) script.now log.old result log.new }
 {
-    let found = preferences_of(preferences);
-    match found {
-        FoundPreferences::Preferences(known) => {
-            completed_words(apply_preferences(script, log, known))
-        }
-        FoundPreferences::Nothing => refusing_words(MEANS_NOTHING),
-    }
+    let Some(known) = preferences_of(preferences) else {
+        return refusing_words(MEANS_NOTHING);
+    };
+    answer_words(apply_preferences(script, log, known))
 }

@@ -2,53 +2,44 @@
 -- Assumes nothing.
 use native.Mathlib.Omega.{arith}
 use mathlib.Core.Path.{refl}
-use Rattle.exchange.proofs.Position.{call_used_le, call_pairs_le, call_tail_le}
-use Rattle.exchange.proofs.Calls.{two_used_le, two_pairs_le}
-use Rattle.ps2_answers.proofs.Then.{done_then, refused_then}
+use Rattle.exchange.proofs.Counts.{counts}
+use Rattle.ps2_answers.proofs.Then.{exit, first_steps, first_stops, then_ends}
 use Rattle.preferences_application.specs.Application.{set_keyboard_repeat}
 use Rattle.preferences_application.proofs.Bytes.{first_four, fifth_within}
 use Rattle.preferences_application.proofs.Steps.{plays_two}
 use Rattle.preferences_application.proofs.apply_five.Goals as goal
 
-pub apply_four-f-requires : goal.apply_four-f-requires
-apply_four-f-requires c = first_four c.args.four c.args.again c.requires
-
-pub overflow_mul-at : goal.overflow_mul-at
-overflow_mul-at c =
-    omega (arith, call_pairs_le _ _ _ c.apply_four-f.ensures, c.well_formed)
-
-pub slice_bounds-set_keyboard_repeat-count : goal.slice_bounds-set_keyboard_repeat-count
-slice_bounds-set_keyboard_repeat-count c = call_used_le _ _ _ c.apply_four-f.ensures
-
-pub slice_bounds-set_keyboard_repeat-start : goal.slice_bounds-set_keyboard_repeat-start
-slice_bounds-set_keyboard_repeat-start c = call_used_le _ _ _ c.apply_four-f.ensures
-
-pub slice_bounds-set_keyboard_repeat-count-in-Done : goal.slice_bounds-set_keyboard_repeat-count-in-Done
-slice_bounds-set_keyboard_repeat-count-in-Done c = call_tail_le _ _ _ c.apply_four-f.ensures
-
-pub slice_bounds-set_keyboard_repeat-start-in-Done : goal.slice_bounds-set_keyboard_repeat-start-in-Done
-slice_bounds-set_keyboard_repeat-start-in-Done c = call_tail_le _ _ _ c.apply_four-f.ensures
+pub apply_four-requires : goal.apply_four-requires
+apply_four-requires c = first_four c.args.four c.args.again c.requires
 
 pub byte_of-requires : goal.byte_of-requires
-byte_of-requires c =
-    omega (arith, fifth_within c.args.four c.args.again c.requires)
+byte_of-requires c = omega (arith, fifth_within c.args.four c.args.again c.requires)
 
-pub overflow_add-result : goal.overflow_add-result
-overflow_add-result c =
-    omega (arith, two_used_le _ _ _ _ c.apply_four-f.ensures refl c.set_keyboard_repeat-s.ensures, c.well_formed)
-
-pub overflow_add-result-in-Done : goal.overflow_add-result-in-Done
-overflow_add-result-in-Done c =
-    omega (arith, two_pairs_le _ _ _ _ c.apply_four-f.ensures refl c.set_keyboard_repeat-s.ensures, c.well_formed)
-
-pub returns-in-Done : goal.returns-in-Done
-returns-in-Done c =
+pub returns-in_err-applied : goal.returns-in_err-applied
+returns-in_err-applied c =
     let a = c.args in
-    plays_two a.four a.again _ _ c.byte_of.ensures
-    (done_then _ (λ _. set_keyboard_repeat _) _ _ _ c.apply_four-f.ensures c.in-Done.is refl c.set_keyboard_repeat-s.ensures)
+    rw (exit _ _ c.from_residual.ensures.1)
+    (plays_two a.four a.again _ _ refl (first_stops _ (λ _. set_keyboard_repeat a.again) _ _ _ c.in_err-applied.ensures))
 
-pub returns-in-Refused : goal.returns-in-Refused
-returns-in-Refused c =
+pub returns : goal.returns
+returns c =
     let a = c.args in
-    plays_two a.four a.again _ _ refl
-    (refused_then _ (λ _. set_keyboard_repeat _) _ _ _ c.apply_four-f.ensures c.in-Refused.e c.in-Refused.is)
+    rw c.then.ensures
+    (plays_two a.four a.again _ _ c.byte_of.ensures
+    (then_ends (omega (arith, c.well_formed)) (omega (arith, c.well_formed)) c.in_ok-applied.applied (set_keyboard_repeat c.byte_of.result)
+    (first_steps _ (λ _. set_keyboard_repeat c.byte_of.result) _ _ _ c.in_ok-applied.ensures) _ c.set_keyboard_repeat.ensures))
+
+pub overflow_mul-tail : goal.overflow_mul-tail
+overflow_mul-tail c = search (counts, c.in_ok-applied.ensures)
+
+pub slice_bounds-set_keyboard_repeat-count : goal.slice_bounds-set_keyboard_repeat-count
+slice_bounds-set_keyboard_repeat-count c = search (counts, c.in_ok-applied.ensures)
+
+pub slice_bounds-set_keyboard_repeat-start : goal.slice_bounds-set_keyboard_repeat-start
+slice_bounds-set_keyboard_repeat-start c = search (counts, c.in_ok-applied.ensures)
+
+pub slice_bounds-set_keyboard_repeat-count-2 : goal.slice_bounds-set_keyboard_repeat-count-2
+slice_bounds-set_keyboard_repeat-count-2 c = search (counts, c.in_ok-applied.ensures)
+
+pub slice_bounds-set_keyboard_repeat-start-2 : goal.slice_bounds-set_keyboard_repeat-start-2
+slice_bounds-set_keyboard_repeat-start-2 c = search (counts, c.in_ok-applied.ensures)

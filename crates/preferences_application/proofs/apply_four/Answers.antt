@@ -26,5 +26,5 @@ byte_of-requires-4 c =
 pub returns : goal.returns
 returns c =
     plays_four c.args.four _ _ (c.set_of-set.ensures ∙ ap set_of c.byte_of.ensures) (c.rate_of-rate.ensures ∙ ap rate_of c.byte_of-2.ensures)
-    (c.resolution_of-resolution.ensures ∙ ap resolution_of c.byte_of-3.ensures) (c.from_byte-lamps.ensures ∙ c.byte_of-4.ensures)
+    (c.resolution_of-resolution.ensures ∙ ap resolution_of c.byte_of-3.ensures) (c.from-lamps.ensures ∙ c.byte_of-4.ensures)
     c.apply_settings.ensures

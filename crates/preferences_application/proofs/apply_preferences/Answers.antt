@@ -12,4 +12,4 @@ returns-then-within_values c =
     plays_within c.args.preferences _ _ (sym c.within_values.ensures ∙ c.if-within_values.true) c.apply_within.ensures
 
 pub returns-else-within_values : goal.returns-else-within_values
-returns-else-within_values c = sym (plays_outside c.args.preferences (sym c.within_values.ensures ∙ c.if-within_values.false) _ _)
+returns-else-within_values c = rw c.new.ensures (sym (plays_outside c.args.preferences (sym c.within_values.ensures ∙ c.if-within_values.false) _ _))

@@ -19,7 +19,7 @@ returns-in-Resolution c = plays_as _ _ c.in-Resolution.is c.mouse_resolution.ens
 
 pub returns-in-Lamps : goal.returns-in-Lamps
 unfolding apply_setting
-returns-in-Lamps c = plays_as _ _ c.in-Lamps.is (plays_forgets _ c.set_keyboard_led-c.ensures)
+returns-in-Lamps c = plays_as _ _ c.in-Lamps.is (plays_forgets _ c.set_keyboard_led.ensures)
 
 pub returns-in-RepeatRateAndDelay : goal.returns-in-RepeatRateAndDelay
 unfolding apply_setting

@@ -7,4 +7,4 @@ use Rattle.preferences_application.proofs.set_keyboard_repeat.Goals as goal
 
 pub returns : goal.returns
 unfolding set_keyboard_repeat command_to_keyboard
-returns c = plays_forgets _ c.command_pair-c.ensures
+returns c = plays_forgets _ c.command_pair.ensures

@@ -1,16 +1,10 @@
 -- `preferences_coding::any_number_at` meets its contract: a malformed number, or one that is read.
 -- Assumes nothing.
 use native.Mathlib.Omega.{arith}
-use mathlib.Core.Path.{refl, sym, ap, ◌∙◌}
+use mathlib.Core.Path.{sym, ap, ◌∙◌}
 use Rattle.number_coding.specs.Reading.{said_number}
-use Rattle.preferences_coding.proofs.Steps.{read_end, takes_malformed, takes_number}
+use Rattle.preferences_coding.proofs.Steps.{read_end}
 use Rattle.preferences_coding.proofs.any_number_at.Goals as goal
 
-pub returns-in_default : goal.returns-in_default
-returns-in_default c = takes_malformed (sym c.read_number.ensures ∙ ap said_number c.in_default.is)
-
 pub overflow_add-result : goal.overflow_add-result
-overflow_add-result c = omega (arith, read_end c.args.input.now c.args.at (sym c.read_number.ensures ∙ ap said_number c.in-Number.is))
-
-pub returns : goal.returns
-returns c = takes_number (sym c.read_number.ensures ∙ ap said_number c.in-Number.is) refl
+overflow_add-result c = omega (arith, read_end c.args.input.now c.args.at (sym c.read_number.ensures ∙ ap said_number c.in_ok-number.was))

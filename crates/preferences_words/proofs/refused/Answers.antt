@@ -3,4 +3,4 @@
 use Rattle.preferences_words.proofs.refused.Goals as goal
 
 pub returns : goal.returns
-returns c = rw (c.wide_number.ensures, c.number.ensures)
+returns c = rw (c.from.ensures, c.number.ensures)

@@ -1,14 +1,14 @@
--- `Preferences::within_values` meets its contract: the four fields are asked, and in version 2 the fifth. Assumes nothing.
-use mathlib.Core.Bool.{Bool, ◌&&◌}
-use mathlib.Core.Path.{◌∙◌, sym, ap, ap₂}
+-- `Preferences::within_values` meets its contract: where the four fields of version 2 are within their values, the fifth decides. Assumes nothing.
+use mathlib.Core.Bool.{true}
+use mathlib.Core.Path.{◌≡◌, sym, ap, ◌∙◌}
+use Rattle.preferences.specs.Values.{is_repeat_byte}
 use Rattle.preferences.specs.Record.{within_values}
+use Rattle.preferences.specs.declared.Preferences.TheVariants.{Version1, Version2}
 use Rattle.preferences.proofs.Values.{within_fifth}
 use Rattle.preferences.proofs.Preferences.within_values.Goals as goal
 
-pub returns-in-Version1 : goal.returns-in-Version1
-returns-in-Version1 c = c.within_values.ensures ∙ sym (ap within_values c.in-Version1.is)
-
-pub returns-in-Version2 : goal.returns-in-Version2
-returns-in-Version2 c =
-    ap₂ (λ (a b : Bool). a && b) c.within_values-four.ensures c.is_repeat_byte-fifth.ensures ∙ within_fifth c.in-Version2.fields c.in-Version2.repeat
-    ∙ sym (ap within_values c.in-Version2.is)
+pub returns-then-within_values : goal.returns-then-within_values
+returns-then-within_values c =
+    let four : within_values (Version1 c.in-Version2.fields) ≡ true = sym c.within_values-in-Version2.ensures ∙ c.if-within_values.true in
+    let fifth : is_repeat_byte c.in-Version2.repeat ≡ within_values (Version2 c.in-Version2.fields c.in-Version2.repeat) = rw four at (within_fifth c.in-Version2.fields c.in-Version2.repeat) in
+    c.is_repeat_byte.ensures ∙ fifth ∙ sym (ap within_values c.in-Version2.is)
