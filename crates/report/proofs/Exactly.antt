@@ -15,9 +15,8 @@ use Rattle.report_totals.specs.Keys.{key_count}
 use Rattle.report_totals.specs.Totals.{Session, totals_of}
 use Rattle.report_totals.proofs.Keys.{at_key}
 use Rattle.report.specs.declared.Limits.{Limits}
-use Rattle.report.specs.declared.Settled.{Settled}
-use Rattle.report.specs.declared.ReportAnswer.TheVariants.{Done, OutOfRange}
-use Rattle.report.specs.Adding.{plus, at_most, between, in_range, added}
+use Rattle.std.specs.Prelude.{Ok, Err}
+use Rattle.report.specs.Adding.{Settled, out_of_range, plus, at_most, between, in_range, added}
 use Rattle.report.specs.Within.{Within}
 use Rattle.report.proofs.Ranges.{and_true_both, at_most_at, at_most_all, in_range_lem}
 
@@ -61,24 +60,24 @@ module _ (l : Limits) (old : Totals) (s : Session) where
       let p : at_most l.count new.presses ≡ true = at_most_all l.count 0 key_count _ (λ k h. let b : k < key_count = omega arith in rw (← at_key (λ key. get_or old.presses key 0 + get_or (totals_of s).presses key 0) k b) (w.presses k b)) in
       rw (p, le-leb new.packets l.count w.packets, both l.low l.high new.x w.x_low w.x_high) (both l.low l.high new.y w.y_low w.y_high)
 
-  answer_in : (b : Bool) → (cond {A = Settled} b (record { answer = Done; totals = new }) (record { answer = OutOfRange; totals = old })).answer ≡ Done → b ≡ true
+  answer_in : (b : Bool) → (cond {A = Settled} b (record { answer = Ok tt; totals = new }) (record { answer = Err out_of_range; totals = old })).answer ≡ Ok tt → b ≡ true
   answer_in true e = refl
-  answer_in false e = absurd (let n : ◌≡◌ {A = ℕ} 0 1 = cc in omega arith)
+  answer_in false e = absurd (cc)
 
-  pub exactly : ((added l old s).answer ≡ Done) ↔ Within l (plus old (totals_of s))
+  pub exactly : ((added l old s).answer ≡ Ok tt) ↔ Within l (plus old (totals_of s))
   unfolding new
   exactly = (λ e. in_within (answer_in (in_range l new) e), λ w. rw (within_in w))
 
   -- what is accepted is the sum
-  pub accepted_is : (added l old s).answer ≡ Done → added l old s ≡ record { answer = Done; totals = plus old (totals_of s) }
+  pub accepted_is : (added l old s).answer ≡ Ok tt → added l old s ≡ record { answer = Ok tt; totals = plus old (totals_of s) }
   unfolding new
   accepted_is e = rw (answer_in (in_range l new) e)
 
   -- 32 leaves the report as it was
-  pub refused_stays : (added l old s).answer ≡ OutOfRange → (added l old s).totals ≡ old
+  pub refused_stays : (added l old s).answer ≡ Err out_of_range → (added l old s).totals ≡ old
   unfolding new
   refused_stays e = go (in_range l new) e
     where
-      go : (b : Bool) → (cond {A = Settled} b (record { answer = Done; totals = new }) (record { answer = OutOfRange; totals = old })).answer ≡ OutOfRange → (cond {A = Settled} b (record { answer = Done; totals = new }) (record { answer = OutOfRange; totals = old })).totals ≡ old
-      go true e = absurd (let n : ◌≡◌ {A = ℕ} 0 1 = cc in omega arith)
+      go : (b : Bool) → (cond {A = Settled} b (record { answer = Ok tt; totals = new }) (record { answer = Err out_of_range; totals = old })).answer ≡ Err out_of_range → (cond {A = Settled} b (record { answer = Ok tt; totals = new }) (record { answer = Err out_of_range; totals = old })).totals ≡ old
+      go true e = absurd (cc)
       go false e = refl

@@ -8,16 +8,15 @@ use native.Mathlib.Omega.{arith}
 use Rattle.report_totals.specs.declared.Totals.{Totals}
 use Rattle.report_totals.specs.Totals.{Session, totals_of}
 use Rattle.report.specs.declared.Limits.{Limits}
-use Rattle.report.specs.declared.Settled.{Settled}
-use Rattle.report.specs.declared.ReportAnswer.TheVariants.{Done, OutOfRange}
-use Rattle.report.specs.Adding.{plus, in_range}
+use Rattle.std.specs.Prelude.{Ok, Err}
+use Rattle.report.specs.Adding.{Settled, out_of_range, plus, in_range}
 use Rattle.report.specs.Sessions.{Accepted, OneByOne, none, next, joined, OneIdentity, alone, and}
 use Rattle.report.proofs.Together.{plus_assoc, join_totals}
 
 -- what was accepted is the sum
-accepted_plus : (b : Bool) (old new r : Totals) → cond {A = Settled} b (record { answer = Done; totals = new }) (record { answer = OutOfRange; totals = old }) ≡ record { answer = Done; totals = r } → r ≡ new
+accepted_plus : (b : Bool) (old new r : Totals) → cond {A = Settled} b (record { answer = Ok tt; totals = new }) (record { answer = Err out_of_range; totals = old }) ≡ record { answer = Ok tt; totals = r } → r ≡ new
 accepted_plus true old new r e = sym (ap (λ (s : Settled). s.totals) e)
-accepted_plus false old new r e = absurd (let a = ap (λ (s : Settled). s.answer) e in let n : ◌≡◌ {A = ℕ} 0 1 = cc in omega arith)
+accepted_plus false old new r e = absurd (let a = ap (λ (s : Settled). s.answer) e in (cc))
 
 pub accepted : (l : Limits) (old : Totals) (s : Session) (r : Totals) → Accepted l old s r → r ≡ plus old (totals_of s)
 accepted l old s r e = accepted_plus (in_range l (plus old (totals_of s))) old (plus old (totals_of s)) r e

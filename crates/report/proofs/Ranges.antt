@@ -12,37 +12,23 @@ use lib.IntN.{ℤ}
 use lib.ListN.{length, get_or, set, replicate, length-set, length-replicate}
 use lib.Seq.{get_or-set_same, get_or-set_other}
 use borrow.Author.Tests.{le-leb, lt-leb, leb-true, leb-false}
-use Rattle.report_totals.specs.Keys.{key_count, values_from}
+use Rattle.report_totals.specs.Keys.{key_count, values_from, for_each_key}
 use Rattle.report_totals.proofs.Keys.{keys_are}
 use Rattle.report_totals.specs.declared.Totals.{Totals}
 use Rattle.report.specs.declared.Limits.{Limits}
-use Rattle.report.specs.declared.Count.TheVariants as CountIs
-use Rattle.report.specs.declared.Sum.TheVariants as SumIs
-use Rattle.report.specs.Adding.{at_most, between, in_range, count_within, CountsAdded}
+use Rattle.std.specs.Prelude.{Ok, Err}
+use Rattle.report.specs.declared.OutOfRange.{OutOfRange}
+use Rattle.report.specs.Adding.{at_most, between, in_range, out_of_range, count_within, counts_within}
 
--- ---- one number
+-- ---- a choice by a test
 
-cond_within : (b : Bool) (m n : ℕ) → cond b (CountIs.Within m) CountIs.Outside ≡ CountIs.Within n → (b ≡ true) × (n ≡ m)
-cond_within true m n e = (refl, (cc))
-cond_within false m n e = absurd (let z : ◌≡◌ {A = ℕ} 0 1 = cc in omega arith)
+pub cond_ok : {A : Type 0} (b : Bool) (x : A) {y : A} → cond b (Ok x) (Err out_of_range) ≡ Ok y → (b ≡ true) × (y ≡ x)
+cond_ok true x e = (refl, (cc))
+cond_ok false x e = absurd (cc)
 
-cond_outside : (b : Bool) (m : ℕ) → cond b (CountIs.Within m) CountIs.Outside ≡ CountIs.Outside → b ≡ false
-cond_outside true m e = absurd (let z : ◌≡◌ {A = ℕ} 0 1 = cc in omega arith)
-cond_outside false m e = refl
-
-pub count_within_lem : (most m n : ℕ) → count_within most m ≡ CountIs.Within n → (leb m most ≡ true) × (n ≡ m)
-count_within_lem most m n e = cond_within (leb m most) m n e
-
-pub count_outside : (most m : ℕ) → count_within most m ≡ CountIs.Outside → leb m most ≡ false
-count_outside most m e = cond_outside (leb m most) m e
-
-pub sum_within_lem : (b : Bool) (y z : ℤ) → cond b (SumIs.Within y) SumIs.Outside ≡ SumIs.Within z → (b ≡ true) × (z ≡ y)
-sum_within_lem true y z e = (refl, (cc))
-sum_within_lem false y z e = absurd (let n : ◌≡◌ {A = ℕ} 0 1 = cc in omega arith)
-
-pub sum_outside : (b : Bool) (y : ℤ) → cond b (SumIs.Within y) SumIs.Outside ≡ SumIs.Outside → b ≡ false
-sum_outside true y e = absurd (let n : ◌≡◌ {A = ℕ} 0 1 = cc in omega arith)
-sum_outside false y e = refl
+pub cond_err : {A : Type 0} (b : Bool) (x : A) {d : OutOfRange} → cond b (Ok x) (Err out_of_range) ≡ Err d → b ≡ false
+cond_err true x e = absurd (cc)
+cond_err false x e = refl
 
 -- ---- a number for each key
 
@@ -103,7 +89,7 @@ adding_begins most old more =
     }
 
 module _ {most : ℕ} {old more : List ℕ} {i : ℕ} {counts : List ℕ} (a : Adding most old more i counts) where
-  pub adding_goes : (n : ℕ) → i < key_count → count_within most (get_or old i 0 + get_or more i 0) ≡ CountIs.Within n → Adding most old more (i + 1) (set counts i n)
+  pub adding_goes : (n : ℕ) → i < key_count → count_within most (get_or old i 0 + get_or more i 0) ≡ Ok n → Adding most old more (i + 1) (set counts i n)
   adding_goes n h e =
       record {
         within = omega arith;
@@ -113,7 +99,7 @@ module _ {most : ℕ} {old more : List ℕ} {i : ℕ} {counts : List ℕ} (a : A
       }
     where
       w : (leb (get_or old i 0 + get_or more i 0) most ≡ true) × (n ≡ get_or old i 0 + get_or more i 0)
-      w = count_within_lem most (get_or old i 0 + get_or more i 0) n e
+      w = cond_ok (leb (get_or old i 0 + get_or more i 0) most) _ e
 
       entry : (k : ℕ) → k < i + 1 → Dec (k ≡ i) → get_or (set counts i n) k 0 ≡ get_or old k 0 + get_or more k 0
       entry k l (yes p) = rw p (get_or-set_same counts i n 0 (rw a.long h) ∙ w.1)
@@ -123,17 +109,16 @@ module _ {most : ℕ} {old more : List ℕ} {i : ℕ} {counts : List ℕ} (a : A
       fits k l (yes p) = rw p (leb-true _ _ w.0)
       fits k l (no p) = a.fit k (omega arith)
 
-  pub adding_fails : i < key_count → count_within most (get_or old i 0 + get_or more i 0) ≡ CountIs.Outside → CountsAdded most old more false counts
-  adding_fails h e =
-      let above : most < get_or old i 0 + get_or more i 0 = leb-false _ _ (count_outside most _ e) in
-      record {
-        fits = sym (at_most_not most 0 key_count (λ key. get_or old key 0 + get_or more key 0) i (omega arith) (omega arith) above);
-        are = λ t. absurd (let z : ◌≡◌ {A = ℕ} 0 1 = cc in omega arith);
-      }
+  abbrev Sums : List ℕ
+  Sums = for_each_key (λ key. get_or old key 0 + get_or more key 0)
 
-  pub adding_ends : key_count ≤ i → CountsAdded most old more true counts
+  pub adding_fails : {d : OutOfRange} → i < key_count → count_within most (get_or old i 0 + get_or more i 0) ≡ Err d → Err out_of_range ≡ counts_within most Sums
+  adding_fails h e =
+      let above : most < get_or old i 0 + get_or more i 0 = leb-false _ _ (cond_err (leb (get_or old i 0 + get_or more i 0) most) _ e) in
+      let no : at_most most Sums ≡ false = at_most_not most 0 key_count (λ key. get_or old key 0 + get_or more key 0) i (omega arith) (omega arith) above in
+      rw no
+
+  pub adding_ends : key_count ≤ i → Ok counts ≡ counts_within most Sums
   adding_ends h =
-      record {
-        fits = sym (at_most_all most 0 key_count _ (λ k l. a.fit k (omega arith)));
-        are = λ t. keys_are counts _ a.long (λ k l. a.at k (omega arith));
-      }
+      let yes : at_most most Sums ≡ true = at_most_all most 0 key_count _ (λ k l. a.fit k (omega arith)) in
+      rw (yes, keys_are counts (λ key. get_or old key 0 + get_or more key 0) a.long (λ k l. a.at k (omega arith)))

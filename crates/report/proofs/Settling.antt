@@ -8,12 +8,14 @@ use lib.Dec.{leb}
 use lib.IntN.{ℤ}
 use Rattle.report_totals.specs.declared.Totals.{Totals}
 use Rattle.report.specs.declared.Limits.{Limits}
-use Rattle.report.specs.declared.ReportAnswer.TheVariants.{Done, OutOfRange}
-use Rattle.report.specs.Adding.{at_most, between, in_range, settled}
+use Rattle.std.specs.Prelude.{Ok, Err}
+use Rattle.report.specs.declared.OutOfRange.{OutOfRange}
+use Rattle.report.specs.Adding.{at_most, between, in_range, out_of_range, fitting, settled, reported}
+use Rattle.report.proofs.Ranges.{cond_ok, cond_err}
 
-module _ (l : Limits) (old new : Totals) where
+module _ (l : Limits) (new : Totals) where
   abbrev Refuses : Type 0
-  Refuses = record { answer = OutOfRange; totals = old } ≡ settled l old new
+  Refuses = in_range l new ≡ false
 
   pub presses_refuse : at_most l.count new.presses ≡ false → Refuses
   unfolding in_range
@@ -32,12 +34,31 @@ module _ (l : Limits) (old new : Totals) where
   y_refuses e =
       rw (e, and-false (between l.low l.high new.x), and-false (leb new.packets l.count), and-false (at_most l.count new.presses))
 
-  pub all_accept : at_most l.count new.presses ≡ true → leb new.packets l.count ≡ true → between l.low l.high new.x ≡ true → between l.low l.high new.y ≡ true
-      → record { answer = Done; totals = new } ≡ settled l old new
+  pub all_accept : at_most l.count new.presses ≡ true → leb new.packets l.count ≡ true → between l.low l.high new.x ≡ true → between l.low l.high new.y ≡ true → in_range l new ≡ true
   unfolding in_range
   all_accept p n x y = rw (p, n, x, y)
 
   pub accepts : {counts : List ℕ} {packets : ℕ} {x y : ℤ} → counts ≡ new.presses → packets ≡ new.packets → x ≡ new.x → y ≡ new.y
       → at_most l.count new.presses ≡ true → leb new.packets l.count ≡ true → between l.low l.high new.x ≡ true → between l.low l.high new.y ≡ true
-      → record { answer = Done; totals = record { presses = counts; packets = packets; x = x; y = y } } ≡ settled l old new
-  accepts e f g h p n x y = rw (e, f, g, h) (all_accept p n x y)
+      → Ok (record { presses = counts; packets = packets; x = x; y = y }) ≡ fitting l new
+  accepts e f g h p n x y = rw (e, f, g, h, all_accept p n x y)
+
+  pub refuses : Refuses → Err out_of_range ≡ fitting l new
+  refuses e = rw e
+
+-- ---- what was settled, read off
+
+pub fitting_ok : (l : Limits) (new : Totals) {t : Totals} → fitting l new ≡ Ok t → (in_range l new ≡ true) × (t ≡ new)
+fitting_ok l new e = cond_ok (in_range l new) new e
+
+pub fitting_err : (l : Limits) (new : Totals) {d : OutOfRange} → fitting l new ≡ Err d → in_range l new ≡ false
+fitting_err l new e = cond_err (in_range l new) new e
+
+-- ---- the ends of a session, at any width
+
+module _ {R : Type 0} (of : Totals → R) (before : R) (l : Limits) (old new : Totals) where
+  pub reported_in : in_range l new ≡ true → record { answer = Ok tt; report = of new } ≡ reported of before (settled l old new)
+  reported_in e = rw e
+
+  pub reported_outside : in_range l new ≡ false → record { answer = Err out_of_range; report = before } ≡ reported of before (settled l old new)
+  reported_outside e = rw e

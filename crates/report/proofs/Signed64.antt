@@ -14,7 +14,9 @@ use mir.Val.{SFits, to_z, of_z}
 use mir.ValLaws.{to_z_pos, to_z-neg}
 use mir.Facts.{to_z-of_z}
 use Rattle.report_totals.proofs.Sums.{widened}
-use Rattle.report.specs.Adding.{negative, between}
+use Rattle.std.specs.Prelude.{Result}
+use Rattle.report.specs.declared.OutOfRange.{OutOfRange}
+use Rattle.report.specs.Adding.{between, sum_within}
 
 abbrev pub half : ℕ
 half = 9223372036854775808
@@ -53,53 +55,6 @@ inverted_back k h =
     let e : most - k ≡ 18446744073709551616 - suc k = omega arith in
     rw e (to_z-neg w64 k h)
 
-pub below_zero : (z : ℤ) → lt_z z (pos 0) ≡ negative z
-below_zero (pos n) = le-ltb n 0 (omega arith)
-below_zero (negsuc n) = refl
-
--- ---- sums, by the signs
-
-mag_sub_low : (m n h : ℕ) → m < h → n ≤ h → Dec (m < n) → mag (sub_ℕ m n) < h
-mag_sub_low m n h p q (yes l) = rw (lt-ltb m n l) (omega arith)
-mag_sub_low m n h p q (no l) = rw (le-ltb m n (omega arith)) (omega arith)
-
-module _ (a b : ℤ) (fa : SFits w64 a) (fb : SFits w64 b) where
-  pub both_below : negative a ≡ true → negative b ≡ true → ltb (mag a + mag b) 9223372036854775807 ≡ ltb (mag (a +ℤ b)) half
-  both_below = go a b
-    where
-      go : (a b : ℤ) → negative a ≡ true → negative b ≡ true → ltb (mag a + mag b) 9223372036854775807 ≡ ltb (mag (a +ℤ b)) half
-      go (negsuc m) (negsuc n) p q = by_one (m + n) (dec_lt (m + n) 9223372036854775807)
-        where
-          by_one : (k : ℕ) → Dec (k < 9223372036854775807) → ltb k 9223372036854775807 ≡ ltb (suc k) half
-          by_one k (yes h) = lt-ltb k _ h ∙ sym (lt-ltb (suc k) half (omega arith))
-          by_one k (no h) = le-ltb k 9223372036854775807 (omega arith) ∙ sym (le-ltb (suc k) half (omega arith))
-      go (pos m) b p q = absurd (let e : ◌≡◌ {A = ℕ} 0 1 = cc in omega arith)
-      go (negsuc m) (pos n) p q = absurd (let e : ◌≡◌ {A = ℕ} 0 1 = cc in omega arith)
-
-  pub both_above : negative a ≡ false → negative b ≡ false → ltb (mag a + mag b) half ≡ ltb (mag (a +ℤ b)) half
-  both_above = go a b
-    where
-      go : (a b : ℤ) → negative a ≡ false → negative b ≡ false → ltb (mag a + mag b) half ≡ ltb (mag (a +ℤ b)) half
-      go (pos m) (pos n) p q = refl
-      go (negsuc m) b p q = absurd (let e : ◌≡◌ {A = ℕ} 0 1 = cc in omega arith)
-      go (pos m) (negsuc n) p q = absurd (let e : ◌≡◌ {A = ℕ} 0 1 = cc in omega arith)
-
-  pub below_above : negative a ≡ true → negative b ≡ false → true ≡ ltb (mag (a +ℤ b)) half
-  below_above = go a b fa.sfits fb.sfits
-    where
-      go : (a b : ℤ) → mag a < half → mag b < half → negative a ≡ true → negative b ≡ false → true ≡ ltb (mag (a +ℤ b)) half
-      go (negsuc m) (pos n) f g p q = sym (lt-ltb _ half (mag_sub_low n (suc m) half g f (dec_lt n (suc m))))
-      go (pos m) b f g p q = absurd (let e : ◌≡◌ {A = ℕ} 0 1 = cc in omega arith)
-      go (negsuc m) (negsuc n) f g p q = absurd (let e : ◌≡◌ {A = ℕ} 0 1 = cc in omega arith)
-
-  pub above_below : negative a ≡ false → negative b ≡ true → true ≡ ltb (mag (a +ℤ b)) half
-  above_below = go a b fa.sfits fb.sfits
-    where
-      go : (a b : ℤ) → mag a < half → mag b < half → negative a ≡ false → negative b ≡ true → true ≡ ltb (mag (a +ℤ b)) half
-      go (pos m) (negsuc n) f g p q = sym (lt-ltb _ half (mag_sub_low m (suc n) half f g (dec_lt m (suc n))))
-      go (negsuc m) b f g p q = absurd (let e : ◌≡◌ {A = ℕ} 0 1 = cc in omega arith)
-      go (pos m) (pos n) f g p q = absurd (let e : ◌≡◌ {A = ℕ} 0 1 = cc in omega arith)
-
 -- ---- ranges
 
 -- a number that 64 bits don't hold is in no range that they hold
@@ -108,22 +63,6 @@ not_between low (pos h) (pos n) f g k = rw (lt-leb n h (omega arith)) (and-false
 not_between low (negsuc h) (pos n) f g k = and-false (le_z low (pos n))
 not_between (pos l) high (negsuc n) f g k = refl
 not_between (negsuc l) high (negsuc n) f g k = rw (lt-leb n l (omega arith))
-
--- the test that fails first
-pub under_low : (low high z : ℤ) → lt_z z low ≡ true → between low high z ≡ false
-under_low (pos l) high (pos n) t = rw (lt-leb l n (ltb-true n l t))
-under_low (pos l) high (negsuc n) t = refl
-under_low (negsuc l) high (pos n) t = absurd (let e : ◌≡◌ {A = ℕ} 0 1 = cc in omega arith)
-under_low (negsuc l) high (negsuc n) t = rw (lt-leb n l (ltb-true l n t))
-
-from_low : (low z : ℤ) → lt_z z low ≡ false → le_z low z ≡ true
-from_low (pos l) (pos n) t = le-leb l n (ltb-false n l t)
-from_low (pos l) (negsuc n) t = absurd (let e : ◌≡◌ {A = ℕ} 0 1 = cc in omega arith)
-from_low (negsuc l) (pos n) t = refl
-from_low (negsuc l) (negsuc n) t = le-leb n l (ltb-false l n t)
-
-pub not_under_low : (low high z : ℤ) → lt_z z low ≡ false → le_z z high ≡ between low high z
-not_under_low low high z t = rw (from_low low z t)
 
 -- a number in a range that 64 bits hold is one of theirs
 pub between_fits : (low high z : ℤ) → mag low < half → mag high < half → between low high z ≡ true → mag z < half
@@ -139,3 +78,8 @@ read_back low high y z f g e s = to_z-of_z {w = w64} {z = z} (record { sfits = r
 -- a number of 32 bits that was widened, read back
 pub wide_back : (y z : ℤ) → SFits w32 z → y ≡ to_z w32 (of_z w32 z) → to_z w64 (of_z w64 y) ≡ z
 wide_back y z f e = rw e (widened {w = w32} tt f)
+
+-- two sums that were added, read back from their bits
+pub sum_read : (low high a b : ℤ) {r : Result ℤ OutOfRange} → SFits w64 low → SFits w64 high → SFits w64 a → SFits w64 b
+    → r ≡ sum_within (to_z w64 (of_z w64 low)) (to_z w64 (of_z w64 high)) (to_z w64 (of_z w64 a) +ℤ to_z w64 (of_z w64 b)) → r ≡ sum_within low high (a +ℤ b)
+sum_read low high a b f g h k e = rw (to_z-of_z {w = w64} f, to_z-of_z {w = w64} g, to_z-of_z {w = w64} h, to_z-of_z {w = w64} k) at e

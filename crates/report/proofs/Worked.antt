@@ -11,9 +11,8 @@ use Rattle.report_totals.specs.Events.{presses}
 use Rattle.ps2_packet.specs.Packets.{by_threes, by_fours}
 use Rattle.report_totals.specs.Packets.{sum_of}
 use Rattle.report_totals.specs.Totals.{Session}
-use Rattle.report.specs.declared.Mean.TheVariants.{Of, Absent}
-use Rattle.report.specs.declared.ReportAnswer.TheVariants.{Done, OutOfRange}
-use Rattle.report.specs.Adding.{at_most, in_range, added}
+use Rattle.std.specs.Prelude.{Ok, Err, Some, None}
+use Rattle.report.specs.Adding.{out_of_range, at_most, in_range, added}
 use Rattle.report.specs.Mean.{mean_of}
 use Rattle.report.specs.Narrow.{narrow_limits}
 
@@ -29,12 +28,12 @@ rightwards = record { id = Identity.Zero; events = []; mouse = 0x08 ∷ 1 ∷ 0 
 and_back : Session
 and_back = record { id = Identity.Zero; events = []; mouse = 0x08 ∷ 1 ∷ 0 ∷ 0x08 ∷ 1 ∷ 0 ∷ 0x08 ∷ 1 ∷ 0 ∷ 0x18 ∷ 0xFD ∷ 0 ∷ [] }
 
-refused : (added narrow_limits at_limit rightwards).answer ≡ OutOfRange
+refused : (added narrow_limits at_limit rightwards).answer ≡ Err out_of_range
 unfolding at_limit rightwards values_from presses by_threes sum_of bit odd at_most in_range
 refused = refl
 
 -- a sum that leaves its range and is back at the session's end
-there_and_back : added narrow_limits at_limit and_back ≡ record { answer = Done; totals = record { presses = for_each_key (λ key. 0); packets = 13; x = pos 2147483647; y = pos 5 } }
+there_and_back : added narrow_limits at_limit and_back ≡ record { answer = Ok tt; totals = record { presses = for_each_key (λ key. 0); packets = 13; x = pos 2147483647; y = pos 5 } }
 unfolding at_limit and_back values_from presses by_threes sum_of bit odd at_most in_range
 there_and_back = refl
 
@@ -44,8 +43,8 @@ unfolding at_limit values_from presses by_fours sum_of bit odd at_most in_range
 nothing = refl
 
 -- -7 over 3 packets is -3, and 2 remain
-mean_below : mean_of (negsuc 6) 3 ≡ Of (record { quotient = negsuc 2; remainder = 2 })
+mean_below : mean_of (negsuc 6) 3 ≡ Some (record { quotient = negsuc 2; remainder = 2 })
 mean_below = refl
 
-no_mean : mean_of (pos 0) 0 ≡ Absent
+no_mean : mean_of (pos 0) 0 ≡ None
 no_mean = refl

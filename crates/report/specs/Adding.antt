@@ -1,23 +1,27 @@
 -- Adding a session to a report: numbers without a width, and the limits that a width has.
 -- Assumes nothing.
-use Rattle.std.specs.Prelude.{◌≡◌, Bool, true, false, ◌&&◌, cond, List, [], ◌∷◌, ℕ, ◌+◌, leb, ℤ, pos, negsuc, ◌+ℤ◌, get_or}
+use Rattle.std.specs.Prelude.{Bool, true, ◌&&◌, cond, List, [], ◌∷◌, ℕ, ◌+◌, leb, ℤ, ◌+ℤ◌, get_or, Result, Ok, Err}
 use Rattle.std.specs.Int.Signed.{le_z}
 use Rattle.report_totals.specs.declared.Totals.{Totals}
 use Rattle.report_totals.specs.Keys.{for_each_key}
 use Rattle.report_totals.specs.Totals.{Session, totals_of}
 use Rattle.report.specs.declared.Limits.{Limits}
-use Rattle.report.specs.declared.ReportAnswer.{ReportAnswer}
-use Rattle.report.specs.declared.ReportAnswer.TheVariants.{Done, OutOfRange}
-use Rattle.report.specs.declared.Settled.{Settled}
-use Rattle.report.specs.declared.Count.{Count}
-use Rattle.report.specs.declared.Count.TheVariants as CountIs
-use Rattle.report.specs.declared.Sum.{Sum}
-use Rattle.report.specs.declared.Sum.TheVariants as SumIs
+use Rattle.report.specs.declared.OutOfRange.{OutOfRange}
+
+-- Whether a session was added.
+abbrev pub Answer : Type 0
+Answer = Result (Unit {0}) OutOfRange
+
+abbrev pub out_of_range : OutOfRange
+out_of_range = record {}
 
 -- The number of each answer in document 02's request 2.10; 0 is no refusal.
-abbrev pub answer_number : ReportAnswer → ℕ
-answer_number Done = 0
-answer_number OutOfRange = 32
+abbrev pub refusal_number : OutOfRange → ℕ
+refusal_number e = 32
+
+abbrev pub answer_number : Answer → ℕ
+answer_number (Ok u) = 0
+answer_number (Err e) = refusal_number e
 
 -- Two totals together, number by number.
 abbrev pub plus : Totals → Totals → Totals
@@ -41,26 +45,43 @@ unfoldable pub in_range : Limits → Totals → Bool
 in_range l t =
     at_most l.count t.presses && (leb t.packets l.count && (between l.low l.high t.x && between l.low l.high t.y))
 
+-- Totals after others were added to them, or as they were.
+pub record Settled : Type 0 where
+  pub answer : Answer
+  pub totals : Totals
+
 -- "32 if a total or count would be outside its range at the session's end, the report staying as before that session."
 abbrev pub settled : Limits → Totals → Totals → Settled
-settled l old new = cond (in_range l new) (record { answer = Done; totals = new }) (record { answer = OutOfRange; totals = old })
+settled l old new = cond (in_range l new) (record { answer = Ok tt; totals = new }) (record { answer = Err out_of_range; totals = old })
 
 abbrev pub added : Limits → Totals → Session → Settled
 added l old s = settled l old (plus old (totals_of s))
 
--- ---- what parts of the code give: a number within its limits, or none
+-- ---- a report of any width
 
-abbrev pub count_within : ℕ → ℕ → Count
-count_within most n = cond (leb n most) (CountIs.Within n) CountIs.Outside
+-- A report after a session: the new one, or the one as it was.
+pub record Reported (R : Type 0) : Type 0 where
+  pub answer : Answer
+  pub report : R
 
-abbrev pub sum_within : ℤ → ℤ → ℤ → Sum
-sum_within low high z = cond (between low high z) (SumIs.Within z) SumIs.Outside
+abbrev pub answered : {R : Type 0} → (Totals → R) → R → Totals → Answer → Reported R
+answered of before t (Ok u) = record { answer = Ok u; report = of t }
+answered of before t (Err e) = record { answer = Err e; report = before }
 
-abbrev pub negative : ℤ → Bool
-negative (pos n) = false
-negative (negsuc n) = true
+abbrev pub reported : {R : Type 0} → (Totals → R) → R → Settled → Reported R
+reported of before s = answered of before s.totals s.answer
 
--- the counts of each key together, where none is above its limit
-pub record CountsAdded (most : ℕ) (old more : List ℕ) (fit : Bool) (counts : List ℕ) : Type 0 where
-  pub fits : fit ≡ at_most most (for_each_key (λ key. get_or old key 0 + get_or more key 0))
-  pub are : fit ≡ true → counts ≡ for_each_key (λ key. get_or old key 0 + get_or more key 0)
+-- ---- what parts of the code give: numbers within their limits, or none
+
+abbrev pub fitting : Limits → Totals → Result Totals OutOfRange
+fitting l t = cond (in_range l t) (Ok t) (Err out_of_range)
+
+abbrev pub count_within : ℕ → ℕ → Result ℕ OutOfRange
+count_within most n = cond (leb n most) (Ok n) (Err out_of_range)
+
+abbrev pub sum_within : ℤ → ℤ → ℤ → Result ℤ OutOfRange
+sum_within low high z = cond (between low high z) (Ok z) (Err out_of_range)
+
+-- the counts of each key, where none is above its limit
+abbrev pub counts_within : ℕ → List ℕ → Result (List ℕ) OutOfRange
+counts_within most counts = cond (at_most most counts) (Ok counts) (Err out_of_range)

@@ -1,8 +1,7 @@
 -- "The mean movement is given as a whole quotient and remainder, the remainder below the packet count and never negative; with no packets no mean is shown."
 -- Assumes nothing.
-use Rattle.std.specs.Prelude.{cond, ◌≡◌, ℕ, ◌-◌, ◌/◌, ◌%◌, ◌<◌, eqb, ℤ, pos, negsuc, ◌+ℤ◌, ◌*ℤ◌}
-use Rattle.report.specs.declared.Mean.{Mean}
-use Rattle.report.specs.declared.Mean.TheVariants.{Of, Absent}
+use Rattle.std.specs.Prelude.{cond, ◌≡◌, ℕ, ◌-◌, ◌/◌, ◌%◌, ◌<◌, eqb, ℤ, pos, negsuc, ◌+ℤ◌, ◌*ℤ◌, Option, Some, None}
+use Rattle.report.specs.declared.WholeMean.{WholeMean}
 
 -- What a quotient and a remainder must be.
 pub record Divides (sum : ℤ) (packets : ℕ) (quotient : ℤ) (remainder : ℕ) : Type 0 where
@@ -18,5 +17,5 @@ abbrev pub remainder_of : ℤ → ℕ → ℕ
 remainder_of (pos s) n = s % n
 remainder_of (negsuc k) n = n - 1 - k % n
 
-abbrev pub mean_of : ℤ → ℕ → Mean
-mean_of sum packets = cond (eqb packets 0) Absent (Of (record { quotient = quotient_of sum packets; remainder = remainder_of sum packets }))
+abbrev pub mean_of : ℤ → ℕ → Option WholeMean
+mean_of sum packets = cond (eqb packets 0) None (Some (record { quotient = quotient_of sum packets; remainder = remainder_of sum packets }))

@@ -4,11 +4,7 @@ use Rattle.std.specs.Prelude.{pos, neg_ℤ, get_or}
 use Rattle.report_totals.specs.declared.Totals.{Totals}
 use Rattle.report_totals.specs.Keys.{for_each_key}
 use Rattle.report.specs.declared.Limits.{Limits}
-use Rattle.report.specs.declared.ReportAnswer.{ReportAnswer}
-use Rattle.report.specs.declared.ReportAnswer.TheVariants.{Done, OutOfRange}
-use Rattle.report.specs.declared.Settled.{Settled}
 use Rattle.report.specs.declared.Report.{Report}
-use Rattle.report.specs.declared.Added.{Added}
 
 -- "Unsigned 32-bit counts, and [..] signed 32-bit totals."
 abbrev pub narrow_limits : Limits
@@ -20,11 +16,3 @@ numbers r = record { presses = for_each_key (λ key. get_or r.presses key 0); pa
 
 abbrev pub report_of : Totals → Report
 report_of t = record { presses = for_each_key (λ key. get_or t.presses key 0); packets = t.packets; x = t.x; y = t.y }
-
--- The report after a session: the new one, or the one as it was.
-abbrev pub answered : Report → Totals → ReportAnswer → Added
-answered before t Done = record { answer = Done; report = report_of t }
-answered before t OutOfRange = record { answer = OutOfRange; report = before }
-
-abbrev pub reported : Report → Settled → Added
-reported before s = answered before s.totals s.answer

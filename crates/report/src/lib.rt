@@ -1,34 +1,38 @@
 // Reports over sessions: presses for each key, packets, sums of x and y, and the mean movement.
 #![tactic(auto)]
 
-ghost use Rattle.std.specs.Prelude.{◌≡◌, ◌&&◌, true, ◌<◌, ◌+◌, leb, ltb, ◌+ℤ◌, get_or};
+ghost use Rattle.std.specs.Prelude.{◌≡◌, true, ◌<◌, ◌+◌, ◌+ℤ◌, get_or};
 ghost use Rattle.std.specs.Int.Signed.{mag};
 ghost use Rattle.report_totals.specs.Keys.{for_each_key};
 ghost use Rattle.report_totals.specs.Totals.{no_totals};
-ghost use Rattle.report.specs.Adding.{answer_number, plus, at_most, between, in_range, settled, added, count_within, sum_within, negative, CountsAdded};
-ghost use Rattle.report.specs.declared.ReportAnswer.TheVariants.{OutOfRange};
+ghost use Rattle.report.specs.Adding.{refusal_number, answer_number, plus, at_most, in_range, fitting, added, count_within, counts_within, sum_within, reported};
 ghost use Rattle.report.specs.Mean.{quotient_of, remainder_of, mean_of};
-ghost use Rattle.report.specs.Narrow.{narrow_limits, numbers, report_of, reported};
+ghost use Rattle.report.specs.Narrow.{narrow_limits, report_of};
+ghost use Rattle.std.proofs.Common.{rules};
 
 use ps2_bytes::MouseId;
 use report_totals::{Totals, tally};
 
-// Whether a session was added: it was, or a count or a sum would be outside its range.
+// A count or a sum would be outside its range.
 #[derive(Clone, Copy)]
-pub enum ReportAnswer {
-    Done,
-    OutOfRange,
+pub struct OutOfRange;
+
+impl OutOfRange {
+    // The number that document 02 gives to this refusal. Kept, no plainer: the documents call it a number, and `u8::from(refusal)` says less.
+    pub fn number(self) -> u8
+        ensures { result ≡ refusal_number self }
+    {
+        32
+    }
 }
 
-impl ReportAnswer {
-    // The number that document 02 gives to a refusal, and 0 where there is none.
-    pub fn number(self) -> u8
-        ensures { result ≡ answer_number self }
-    {
-        match self {
-            ReportAnswer::Done => 0,
-            ReportAnswer::OutOfRange => 32,
-        }
+// The number of an answer: 0 where nothing is refused.
+pub fn answer_number(answer: Result<(), OutOfRange>) -> u8
+    ensures { result ≡ answer_number answer }
+{
+    match answer {
+        Ok(()) => 0,
+        Err(refusal) => refusal.number(),
     }
 }
 
@@ -40,73 +44,54 @@ pub struct Limits {
     pub high: i64,
 }
 
-// Totals after others were added to them, or as they were.
-#[derive(Clone, Copy)]
-pub struct Settled {
-    pub answer: ReportAnswer,
-    pub totals: Totals,
-}
-
 // ---- totals within limits
 
-// Counts that were added, if none is above its limit.
-#[derive(Clone, Copy)]
-struct Counts {
-    fit: bool,
-    counts: [u64; 94],
-}
-
-#[derive(Clone, Copy)]
-enum Count {
-    Within(u64),
-    Outside,
-}
-
-#[derive(Clone, Copy)]
-enum Sum {
-    Within(i64),
-    Outside,
-}
+// Kept, C interface: C has the counts of the 94 keys as an array, so they are one here and in each report.
 
 // Two counts together.
-fn add_count(most: u64, old: u64, more: u64) -> Count
+fn add_count(most: u64, old: u64, more: u64) -> Result<u64, OutOfRange>
     ensures { result ≡ count_within most (old + more) }
 {
-    if most < more {
-        return Count::Outside;
+    match old.checked_add(more) {
+        Some(sum) if sum <= most => Ok(sum),
+        _ => Err(OutOfRange),
     }
-    if most - more < old {
-        return Count::Outside;
-    }
-    Count::Within(old + more)
 }
 
 // The counts of each key together.
-fn add_counts(most: u64, old: [u64; 94], more: [u64; 94]) -> Counts
-    ensures { CountsAdded most old more result.fit result.counts }
+fn add_counts(most: u64, old: [u64; 94], more: [u64; 94]) -> Result<[u64; 94], OutOfRange>
+    ensures { result ≡ counts_within most (for_each_key (λ key. get_or old key 0 + get_or more key 0)) }
 {
-    let mut counts = [0u64; 94];
-    let mut i: usize = 0;
-    while i < 94 {
-        let sum = add_count(most, old[i], more[i]);
-        match sum {
-            Count::Within(n) => {
-                counts[i] = n;
-            }
-            Count::Outside => {
-                return Counts { fit: false, counts };
-            }
-        }
-        i += 1;
+    let mut counts = [0; 94];
+    for i in 0..94 {
+        counts[i] = add_count(most, old[i], more[i])?;
     }
-    Counts { fit: true, counts }
+    Ok(counts)
 }
 
-pub fn is_negative(z: i64) -> bool
-    ensures { result ≡ negative z }
+// Two sums together.
+fn add_sum(low: i64, high: i64, old: i64, more: i64) -> Result<i64, OutOfRange>
+    ensures { result ≡ sum_within low high (old +ℤ more) }
 {
-    z < 0
+    match old.checked_add(more) {
+        Some(sum) if low <= sum && sum <= high => Ok(sum),
+        _ => Err(OutOfRange),
+    }
 }
+
+// Totals with others added to them, where every number is within the limits then.
+pub fn settle(limits: Limits, old: Totals, more: Totals) -> Result<Totals, OutOfRange>
+    ensures { result ≡ fitting limits (plus old more) }
+{
+    Ok(Totals {
+        presses: add_counts(limits.count, old.presses, more.presses)?,
+        packets: add_count(limits.count, old.packets, more.packets)?,
+        x: add_sum(limits.low, limits.high, old.x, more.x)?,
+        y: add_sum(limits.low, limits.high, old.y, more.y)?,
+    })
+}
+
+// ---- the mean
 
 // How far a number is from 0, less 1 below 0.
 pub fn magnitude(z: i64) -> u64
@@ -118,104 +103,11 @@ pub fn magnitude(z: i64) -> u64
     z as u64
 }
 
-// Whether the sum of two numbers fits 64 bits.
-fn sum_fits(old: i64, more: i64) -> bool
-    ensures { result ≡ ltb (mag (old +ℤ more)) 9223372036854775808 }
-{
-    let a = magnitude(old);
-    let b = magnitude(more);
-    if is_negative(old) {
-        if is_negative(more) {
-            return a + b < 9223372036854775807;
-        }
-        return true;
-    }
-    if is_negative(more) {
-        return true;
-    }
-    a + b < 9223372036854775808
-}
-
-fn is_between(low: i64, high: i64, z: i64) -> bool
-    ensures { result ≡ between low high z }
-{
-    if z < low {
-        return false;
-    }
-    z <= high
-}
-
-// Two sums together.
-fn add_sum(low: i64, high: i64, old: i64, more: i64) -> Sum
-    ensures { result ≡ sum_within low high (old +ℤ more) }
-{
-    if !sum_fits(old, more) {
-        return Sum::Outside;
-    }
-    let sum = old + more;
-    if !is_between(low, high, sum) {
-        return Sum::Outside;
-    }
-    Sum::Within(sum)
-}
-
-fn refused(old: Totals) -> Settled
-    ensures { result ≡ record { answer = OutOfRange; totals = old } }
-{
-    Settled {
-        answer: ReportAnswer::OutOfRange,
-        totals: old,
-    }
-}
-
-// Totals with others added to them, where every number is within the limits then; otherwise as they were.
-pub fn settle(limits: Limits, old: Totals, more: Totals) -> Settled
-    ensures { result ≡ settled limits old (plus old more) }
-{
-    let count = limits.count;
-    let low = limits.low;
-    let high = limits.high;
-    let old_presses = old.presses;
-    let more_presses = more.presses;
-    let presses = add_counts(count, old_presses, more_presses);
-    if !presses.fit {
-        return refused(old);
-    }
-    let Count::Within(packets) = add_count(count, old.packets, more.packets) else {
-        return refused(old);
-    };
-    let Sum::Within(x) = add_sum(low, high, old.x, more.x) else {
-        return refused(old);
-    };
-    let Sum::Within(y) = add_sum(low, high, old.y, more.y) else {
-        return refused(old);
-    };
-    let counts = presses.counts;
-    Settled {
-        answer: ReportAnswer::Done,
-        totals: Totals {
-            presses: counts,
-            packets,
-            x,
-            y,
-        },
-    }
-}
-
-// ---- the mean
-
 // A whole quotient, rounded down, and the remainder, which is below the packet count.
 #[derive(Clone, Copy)]
 pub struct WholeMean {
     pub quotient: i64,
     pub remainder: u64,
-}
-
-// A mean, where there are packets.
-#[derive(Clone, Copy)]
-pub enum Mean {
-    Of(WholeMean),
-    Absent,
 }
 
 // Below 0 the bits are inverted, so that an unsigned division rounds down: -(k + 1) is !k.
@@ -239,15 +131,67 @@ fn divide(sum: i64, packets: u64) -> WholeMean
     }
 }
 
-// The mean of a sum over so many packets.
-pub fn mean_of(sum: i64, packets: u64) -> Mean
+// The mean of a sum over so many packets, where there are any.
+pub fn mean_of(sum: i64, packets: u64) -> Option<WholeMean>
     ensures { result ≡ mean_of sum packets }
 {
     if packets == 0 {
-        return Mean::Absent;
+        return None;
     }
-    let whole = divide(sum, packets);
-    Mean::Of(whole)
+    Some(divide(sum, packets))
+}
+
+// ---- the report of a season
+
+// A report of one width: what its numbers may be, and which they are.
+pub trait Season: Copy {
+    ghost use Rattle.report_totals.specs.declared.Totals.{Totals};
+    ghost use Rattle.report.specs.declared.Limits.{Limits};
+
+    ghost LIMITS: { Limits };
+
+    const LIMITS: Limits;
+
+    // Its numbers, and the report that has given ones.
+    ghost told: { Self → Totals };
+
+    ghost having: { Totals → Self };
+
+    // The same numbers, in 64 bits.
+    fn numbers(self) -> Totals
+        ensures { result ≡ told self };
+
+    // The report that has these numbers, where they are all within its limits.
+    fn of_totals(totals: Totals) -> Self
+        ensures { in_range LIMITS totals ≡ true → result ≡ having totals };
+
+    // A session that is too long to be tallied has more packets than that.
+    ghost few: { LIMITS.count < 4503599627370495 };
+
+    // Adds a session: its events, each as `event_code` has it, and its mouse bytes, in packets of one identity. Where a number would be outside its range at the
+    // session's end the report stays as it was.
+    final fn add(&mut self, id: MouseId, events: &[u8], mouse: &[u8]) -> Result<(), OutOfRange>
+        ensures { record { answer = result; report = self.new } ≡ reported having self.old (added LIMITS (told self.old) (record { id = id; events = events.now; mouse = mouse.now })) }
+    {
+        let brought = tally(id, events, mouse).ok_or(OutOfRange)?;
+        *self = Self::of_totals(settle(Self::LIMITS, self.numbers(), brought)?);
+        Ok(())
+    }
+
+    // The mean movement sideways, and upwards.
+    final fn mean_x(self) -> Option<WholeMean>
+        ensures { result ≡ mean_of (told self).x (told self).packets }
+    {
+        let totals = self.numbers();
+        mean_of(totals.x, totals.packets)
+    }
+
+    final fn mean_y(self) -> Option<WholeMean>
+        ensures { result ≡ mean_of (told self).y (told self).packets }
+    {
+        let totals = self.numbers();
+        mean_of(totals.y, totals.packets)
+    }
 }
 
 // ---- the report in 32 bits
@@ -262,67 +206,36 @@ pub struct Report {
     pub y: i32,
 }
 
-// A report after a session, or as it was.
-#[derive(Clone, Copy)]
-pub struct Added {
-    pub answer: ReportAnswer,
-    pub report: Report,
-}
-
-// What its numbers may be.
-const NARROW_LIMITS: Limits = Limits {
-    count: 4294967295,
-    low: -2147483648,
-    high: 2147483647,
-};
-
-fn wide(n: u32) -> u64
-    ensures { result ≡ n }
-{
-    n as u64
-}
-
-fn wide_signed(z: i32) -> i64
-    ensures { result ≡ z }
-{
-    z as i64
-}
-
+// Kept, no plainer, here and below: each is called twice, and its callers rest on its promise that a number which fits stays the same.
 fn narrow(n: u64) -> u32
-    requires { n < 4294967296 }
-    ensures { result ≡ n }
+    ensures { n < 4294967296 → result ≡ n }
 {
-    n as u32
+    u32::try_from(n).unwrap_or(u32::MAX)
 }
 
 fn narrow_signed(z: i64) -> i32
-    requires { mag z < 2147483648 }
-    ensures { result ≡ z }
+    ensures { mag z < 2147483648 → result ≡ z }
 {
-    z as i32
+    i32::try_from(z).unwrap_or(i32::MAX)
 }
 
+// Both by a loop: by `map`, whose closure is called for each key, a session of ten packets took four times as long.
 fn wide_counts(counts: [u32; 94]) -> [u64; 94]
     ensures { result ≡ for_each_key (λ key. get_or counts key 0) }
 {
-    let mut all = [0u64; 94];
-    let mut i: usize = 0;
-    while i < 94 {
-        all[i] = wide(counts[i]);
-        i += 1;
+    let mut all = [0; 94];
+    for i in 0..94 {
+        all[i] = u64::from(counts[i]);
     }
     all
 }
 
 fn narrow_counts(counts: [u64; 94]) -> [u32; 94]
-    requires { at_most narrow_limits.count counts ≡ true }
-    ensures { result ≡ for_each_key (λ key. get_or counts key 0) }
+    ensures { at_most narrow_limits.count counts ≡ true → result ≡ for_each_key (λ key. get_or counts key 0) }
 {
-    let mut all = [0u32; 94];
-    let mut i: usize = 0;
-    while i < 94 {
+    let mut all = [0; 94];
+    for i in 0..94 {
         all[i] = narrow(counts[i]);
-        i += 1;
     }
     all
 }
@@ -339,81 +252,40 @@ impl Report {
             y: 0,
         }
     }
+}
 
-    // The same numbers, in 64 bits.
-    pub fn numbers(self) -> Totals
-        ensures { result ≡ numbers self }
-    {
-        let counts = self.presses;
-        let presses = wide_counts(counts);
-        let packets = wide(self.packets);
-        let x = wide_signed(self.x);
-        let y = wide_signed(self.y);
+impl Season for Report {
+    ghost use Rattle.report.specs.Narrow.{narrow_limits, numbers, report_of};
+
+    ghost LIMITS = { narrow_limits };
+
+    const LIMITS: Limits = Limits {
+        count: 4294967295,
+        low: -2147483648,
+        high: 2147483647,
+    };
+
+    ghost told = { numbers };
+
+    ghost having = { report_of };
+
+    fn numbers(self) -> Totals {
         Totals {
-            presses,
-            packets,
-            x,
-            y,
+            presses: wide_counts(self.presses),
+            packets: u64::from(self.packets),
+            x: i64::from(self.x),
+            y: i64::from(self.y),
         }
     }
 
-    // The report that has these numbers.
-    fn of_totals(totals: Totals) -> Report
-        requires { in_range narrow_limits totals ≡ true }
-        ensures { result ≡ report_of totals }
-    {
-        let counts = totals.presses;
-        let presses = narrow_counts(counts);
-        let packets = narrow(totals.packets);
-        let x = narrow_signed(totals.x);
-        let y = narrow_signed(totals.y);
+    fn of_totals(totals: Totals) -> Report {
         Report {
-            presses,
-            packets,
-            x,
-            y,
+            presses: narrow_counts(totals.presses),
+            packets: narrow(totals.packets),
+            x: narrow_signed(totals.x),
+            y: narrow_signed(totals.y),
         }
     }
 
-    // The report with a session more: its events, each as `event_code` has it, and its mouse bytes, in packets of one identity. Where a number would be outside
-    // its range at the session's end the report is as it was.
-    pub fn add(self, id: MouseId, events: &[u8], mouse: &[u8]) -> Added
-        ensures { result ≡ reported self (added narrow_limits (numbers self) (record { id = id; events = events.now; mouse = mouse.now })) }
-    {
-        let session = tally(id, events, mouse);
-        if session.too_long {
-            return Added {
-                answer: ReportAnswer::OutOfRange,
-                report: self,
-            };
-        }
-        let brought = session.totals;
-        let settled = settle(NARROW_LIMITS, self.numbers(), brought);
-        let answer = settled.answer;
-        match answer {
-            ReportAnswer::Done => {
-                let totals = settled.totals;
-                Added {
-                    answer: ReportAnswer::Done,
-                    report: Report::of_totals(totals),
-                }
-            }
-            ReportAnswer::OutOfRange => Added {
-                answer: ReportAnswer::OutOfRange,
-                report: self,
-            },
-        }
-    }
-
-    pub fn mean_x(self) -> Mean
-        ensures { result ≡ mean_of self.x self.packets }
-    {
-        mean_of(wide_signed(self.x), wide(self.packets))
-    }
-
-    pub fn mean_y(self) -> Mean
-        ensures { result ≡ mean_of self.y self.packets }
-    {
-        mean_of(wide_signed(self.y), wide(self.packets))
-    }
+    ghost few = { Prim.search rules };
 }

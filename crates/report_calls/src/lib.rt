@@ -5,8 +5,8 @@ ghost use Rattle.std.specs.Prelude.{◌≡◌};
 ghost use Rattle.ps2_bytes.specs.Responses.{mouse_id_read};
 ghost use Rattle.report_calls.specs.Numbers.{called};
 
-use ps2_bytes::{MouseId, MouseIdByte};
-use report::{Report, ReportAnswer};
+use ps2_bytes::MouseId;
+use report::{Report, Season, answer_number};
 
 // What the session came to.
 #[repr(C)]
@@ -26,19 +26,18 @@ const NO_IDENTITY: u32 = 255;
 pub extern "C" fn report_session(id: u8, events: &[u8], mouse: &[u8]) -> SessionNumbers
     ensures { result ≡ called (mouse_id_read id) events.now mouse.now }
 {
-    match MouseId::from_byte(id) {
-        MouseIdByte::Listed(identity) => {
-            let added = Report::empty().add(identity, events, mouse);
-            let answer = added.answer;
-            let r = added.report;
+    match MouseId::try_from(id) {
+        Ok(identity) => {
+            let mut report = Report::empty();
+            let answer = report.add(identity, events, mouse);
             SessionNumbers {
-                number: answer.number() as u32,
-                packets: r.packets,
-                x: r.x,
-                y: r.y,
+                number: u32::from(answer_number(answer)),
+                packets: report.packets,
+                x: report.x,
+                y: report.y,
             }
         }
-        MouseIdByte::Unlisted => SessionNumbers {
+        Err(_) => SessionNumbers {
             number: NO_IDENTITY,
             packets: 0,
             x: 0,

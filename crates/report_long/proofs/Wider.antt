@@ -11,13 +11,12 @@ use Rattle.report_totals.specs.declared.Totals.{Totals}
 use Rattle.report_totals.specs.Totals.{Session, totals_of}
 use Rattle.report_totals.proofs.Keys.{at_key, keys_same}
 use Rattle.report.specs.declared.Report.{Report}
-use Rattle.report.specs.declared.ReportAnswer.{ReportAnswer}
-use Rattle.report.specs.declared.ReportAnswer.TheVariants.{Done, OutOfRange}
-use Rattle.report.specs.Adding.{plus, added}
-use Rattle.report.specs.Narrow.{narrow_limits, numbers, report_of, answered, reported}
+use Rattle.std.specs.Prelude.{Ok, Err}
+use Rattle.report.specs.Adding.{Answer, plus, added, answered, reported}
+use Rattle.report.specs.Narrow.{narrow_limits, numbers, report_of}
 use Rattle.report.specs.Within.{Within}
 use Rattle.report.proofs.Exactly.{exactly, accepted_is}
-use Rattle.report_long.specs.Long.{long_limits, long_reported, widened}
+use Rattle.report_long.specs.Long.{long_limits, long_numbers, long_of, widened}
 use Rattle.report_long.specs.Widened.{SameNumbers}
 
 pub widened_same : (r : Report) → SameNumbers r (widened r)
@@ -48,13 +47,13 @@ again a b =
     ap (λ l. record { presses = l; packets = (plus a b).packets; x = (plus a b).x; y = (plus a b).y })
     (keys_same _ _ (λ key h. at_key (λ k. get_or (plus a b).presses k 0) key h ∙ at_key (λ k. get_or a.presses k 0 + get_or b.presses k 0) key h))
 
-told_done : (r : Report) (t : Totals) (a : ReportAnswer) → (answered r t a).answer ≡ Done → a ≡ Done
-told_done r t Done e = refl
-told_done r t OutOfRange e = absurd (let q : ◌≡◌ {A = ℕ} 0 1 = cc in omega arith)
+told_done : (r : Report) (t : Totals) (a : Answer) → (answered report_of r t a).answer ≡ Ok tt → a ≡ Ok tt
+told_done r t (Ok u) e = refl
+told_done r t (Err d) e = absurd (cc)
 
 -- accepted before, accepted after, with the same numbers
-pub widened_accepts : (r : Report) (s : Session) → (reported r (added narrow_limits (numbers r) s)).answer ≡ Done
-    → long_reported (added long_limits (widened r).totals s) ≡ record { answer = Done; report = widened (reported r (added narrow_limits (numbers r) s)).report }
+pub widened_accepts : (r : Report) (s : Session) → (reported report_of r (added narrow_limits (numbers r) s)).answer ≡ Ok tt
+    → reported long_of (widened r) (added long_limits (long_numbers (widened r)) s) ≡ record { answer = Ok tt; report = widened (reported report_of r (added narrow_limits (numbers r) s)).report }
 widened_accepts r s e =
     let done = told_done r (added narrow_limits (numbers r) s).totals (added narrow_limits (numbers r) s).answer e in
     let narrow_is = accepted_is narrow_limits (numbers r) s done in

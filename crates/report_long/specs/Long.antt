@@ -4,21 +4,19 @@ use Rattle.std.specs.Prelude.{pos, neg_ℤ}
 use Rattle.report_totals.specs.declared.Totals.{Totals}
 use Rattle.report.specs.declared.Limits.{Limits}
 use Rattle.report.specs.declared.Report.{Report}
-use Rattle.report.specs.declared.Settled.{Settled}
 use Rattle.report.specs.Narrow.{numbers}
 use Rattle.report_long.specs.declared.LongReport.{LongReport}
-use Rattle.report_long.specs.declared.LongAdded.{LongAdded}
 
 -- "32 is now given exactly when at a session's end any count would be above 281,474,976,710,656 or a sum further than 72,057,594,037,927,936 from 0."
 abbrev pub long_limits : Limits
 long_limits = record { count = 281474976710656; low = neg_ℤ (pos 72057594037927936); high = pos 72057594037927936 }
 
--- The report that has given numbers, and the report after a session.
+-- A report's numbers, and the report that has given ones.
+abbrev pub long_numbers : LongReport → Totals
+long_numbers r = r.totals
+
 abbrev pub long_of : Totals → LongReport
 long_of t = record { totals = t }
-
-abbrev pub long_reported : Settled → LongAdded
-long_reported s = record { answer = s.answer; report = long_of s.totals }
 
 -- "Every old report must convert": a report of 32 bits as one of 64.
 abbrev pub widened : Report → LongReport

@@ -2,14 +2,12 @@
 #![tactic(auto)]
 
 ghost use Rattle.std.specs.Prelude.{◌≡◌};
+ghost use Rattle.std.proofs.Common.{rules};
 ghost use Rattle.report_totals.specs.Totals.{no_totals};
-ghost use Rattle.report.specs.Adding.{added};
-ghost use Rattle.report.specs.Mean.{mean_of};
-ghost use Rattle.report_long.specs.Long.{long_limits, long_of, long_reported, widened};
+ghost use Rattle.report_long.specs.Long.{long_of, widened};
 
-use ps2_bytes::MouseId;
-use report::{Limits, Mean, Report, ReportAnswer, mean_of, settle};
-use report_totals::{Totals, tally};
+use report::{Limits, Report, Season};
+use report_totals::Totals;
 
 // Presses for each key, packets, and sums of x and y.
 #[repr(C)]
@@ -18,22 +16,8 @@ pub struct LongReport {
     pub totals: Totals,
 }
 
-// A report after a session, or as it was.
-#[derive(Clone, Copy)]
-pub struct LongAdded {
-    pub answer: ReportAnswer,
-    pub report: LongReport,
-}
-
-// What its numbers may be. A report beyond them is taken as it is: 32 goes by what it would be at the session's end.
-const LONG_LIMITS: Limits = Limits {
-    count: 281474976710656,
-    low: -72057594037927936,
-    high: 72057594037927936,
-};
-
 impl LongReport {
-    // A report of no session.
+    // A report of no session. Kept, C interface: C has the 94 counts as an array.
     pub fn empty() -> LongReport
         ensures { result ≡ long_of no_totals }
     {
@@ -47,47 +31,39 @@ impl LongReport {
         }
     }
 
-    // An old report, with no number changed.
+    // An old report, with no number changed. Kept, no plainer: `From` would not say that it is.
     pub fn widen(old: Report) -> LongReport
         ensures { result ≡ widened old }
     {
-        let totals = old.numbers();
+        LongReport {
+            totals: old.numbers(),
+        }
+    }
+}
+
+impl Season for LongReport {
+    ghost use Rattle.report_long.specs.Long.{long_limits, long_of, long_numbers};
+
+    // A report beyond them is taken as it is: 32 goes by what it would be at the session's end.
+    ghost LIMITS = { long_limits };
+
+    const LIMITS: Limits = Limits {
+        count: 281474976710656,
+        low: -72057594037927936,
+        high: 72057594037927936,
+    };
+
+    ghost told = { long_numbers };
+
+    ghost having = { long_of };
+
+    fn numbers(self) -> Totals {
+        self.totals
+    }
+
+    fn of_totals(totals: Totals) -> LongReport {
         LongReport { totals }
     }
 
-    // The report with a session more, as `Report::add` has it, within the wider limits.
-    pub fn add(self, id: MouseId, events: &[u8], mouse: &[u8]) -> LongAdded
-        ensures { result ≡ long_reported (added long_limits self.totals (record { id = id; events = events.now; mouse = mouse.now })) }
-    {
-        let session = tally(id, events, mouse);
-        if session.too_long {
-            return LongAdded {
-                answer: ReportAnswer::OutOfRange,
-                report: self,
-            };
-        }
-        let before = self.totals;
-        let brought = session.totals;
-        let settled = settle(LONG_LIMITS, before, brought);
-        let answer = settled.answer;
-        let totals = settled.totals;
-        LongAdded {
-            answer,
-            report: LongReport { totals },
-        }
-    }
-
-    pub fn mean_x(self) -> Mean
-        ensures { result ≡ mean_of self.totals.x self.totals.packets }
-    {
-        let t = self.totals;
-        mean_of(t.x, t.packets)
-    }
-
-    pub fn mean_y(self) -> Mean
-        ensures { result ≡ mean_of self.totals.y self.totals.packets }
-    {
-        let t = self.totals;
-        mean_of(t.y, t.packets)
-    }
+    ghost few = { Prim.search rules };
 }

@@ -1,8 +1,9 @@
 -- Movements that are being summed: what is summed so far, and what the packets ahead come to, is the whole.
 -- Assumes nothing.
-use mathlib.Core.Path.{◌≡◌, ap, sym, ◌∙◌}
+use mathlib.Core.Path.{◌≡◌, refl, ap, sym, ◌∙◌}
 use mathlib.Core.List.{List}
-use Prim.Native.Nat.{ℕ, ◌+◌, ◌*◌, ◌≤◌, ◌<◌}
+use Prim.Native.Nat.{ℕ, ◌+◌, ◌*◌, ◌/◌, ◌≤◌, ◌<◌}
+use native.Mathlib.Nat.{add-mul, one-mul}
 use native.Mathlib.Omega.{arith}
 use lib.IntN.{ℤ, pos, negsuc, ◌+ℤ◌, +ℤ_idl, +ℤ_idr, +ℤ_assoc}
 use lib.Dec.{leb→le}
@@ -21,7 +22,7 @@ use Rattle.ps2_packet.specs.Packets.{packets_of}
 use Rattle.report_totals.specs.Packets.{sum_of, Movements}
 use Rattle.report_totals.specs.Totals.{tally_bytes}
 use Rattle.report_totals.proofs.Sums.{mag-add}
-use Rattle.report_totals.proofs.Packets.{next_packet, no_packet_at, length_low}
+use Rattle.report_totals.proofs.Packets.{next_packet, no_packet_at, length_low, whole_ahead, none_ahead}
 
 -- a movement is a number from -256 to 255
 mag_between : (z : ℤ) → Between (negsuc 255) (pos 255) z → mag z ≤ 255
@@ -73,6 +74,11 @@ module _ {f : MousePacketGeneric → ℤ} {id : MouseId} {bytes : List ℕ} {at 
   unfolding sum_of
   sum_ends h = sym (+ℤ_idr s) ∙ ap (λ l. s +ℤ sum_of f l) (sym (no_packet_at id bytes at h)) ∙ u.so_far
 
+-- the next of the packets that there are is whole
+pub ahead : (id : MouseId) {n i len : ℕ} → packet_length id ≡ n → i < len / n → i * n + n ≤ len
+ahead id {i = i} {len} e h =
+    let w : i * packet_length id + packet_length id ≤ len = whole_ahead id len i (i * packet_length id) refl (rw e h) in rw (← e) w
+
 pub record Summing (id : MouseId) (bytes : List ℕ) (at packets : ℕ) (x y : ℤ) : Type 0 where
   pub within : at ≤ length bytes
   pub few : packets ≤ at
@@ -89,6 +95,10 @@ summing_begins id bytes =
       x_sum = sum_begins x_movement id bytes;
       y_sum = sum_begins y_movement id bytes;
     }
+
+-- at the first of the packets of so many bytes
+pub summing_starts : (id : MouseId) (bytes : List ℕ) (n : ℕ) → Summing id bytes (0 * n) 0 (pos 0) (pos 0)
+summing_starts id bytes n = let z : 0 * n ≡ 0 = omega arith in rw z (summing_begins id bytes)
 
 module _ {id : MouseId} {bytes : List ℕ} {at packets : ℕ} {x y : ℤ} (u : Summing id bytes at packets x y) where
   pub summing_goes : ((i : ℕ) → get_or bytes i 0 < 256) → at + packet_length id ≤ length bytes
@@ -129,3 +139,19 @@ module _ {id : MouseId} {bytes : List ℕ} {at packets : ℕ} {x y : ℤ} (u : S
         x_summed = sum_ends u.x_sum h;
         y_summed = sum_ends u.y_sum h;
       }
+
+-- where as many packets were summed as there are
+pub summing_all : {id : MouseId} {bytes : List ℕ} {n i whole : ℕ} {x y : ℤ} → packet_length id ≡ n → whole ≡ length bytes / n → i ≤ whole → whole ≤ i → Summing id bytes (i * n) i x y → Movements id bytes whole x y
+summing_all {id = id} {bytes} {n} {i} {whole} e w a b u =
+    let k : i ≡ whole = omega arith in
+    let h : length bytes < i * n + packet_length id = none_ahead id (length bytes) i (i * n) (ap (λ (k : ℕ). i * k) (sym e)) (rw (e, ← w) b) in
+    rw (← k) (summing_ends u h)
+
+-- one packet more
+pub summing_next : {id : MouseId} {bytes : List ℕ} {n i : ℕ} {x y : ℤ} {p : MousePacketGeneric} {xm ym : ℤ} → ((k : ℕ) → get_or bytes k 0 < 256) → length bytes < tally_bytes → packet_length id ≡ n → i < length bytes / n
+    → p ≡ generic (get_or bytes (i * n) 0) (get_or bytes (i * n + 1) 0) (get_or bytes (i * n + 2) 0) → xm ≡ x_movement p → ym ≡ y_movement p → Summing id bytes (i * n) i x y
+    → Summing id bytes ((i + 1) * n) (i + 1) (to_z w64 (of_z w64 (x +ℤ to_z w64 (of_z w64 xm)))) (to_z w64 (of_z w64 (y +ℤ to_z w64 (of_z w64 ym))))
+summing_next {id = id} {bytes} {n} {i} fit l e h ep ex ey u =
+    let a : i * n + n ≤ length bytes = ahead id e h in
+    let s : (i + 1) * n ≡ i * n + n = add-mul i 1 n ∙ ap (λ (k : ℕ). i * n + k) (one-mul n) in
+    rw s (summing_again u fit l (sym e) a ep ex refl ey refl)

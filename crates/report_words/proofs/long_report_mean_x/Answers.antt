@@ -1,8 +1,0 @@
--- `report_words::long_report_mean_x` meets its contract.
--- Assumes nothing.
-use mathlib.Core.Path.{ap, ◌∙◌}
-use Rattle.report_words.specs.Words.{mean_words}
-use Rattle.report_words.proofs.long_report_mean_x.Goals as goal
-
-pub returns : goal.returns
-returns c = c.mean_words.ensures ∙ ap mean_words c.mean_x.ensures

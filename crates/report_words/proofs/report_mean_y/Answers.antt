@@ -1,8 +1,0 @@
--- `report_words::report_mean_y` meets its contract.
--- Assumes nothing.
-use mathlib.Core.Path.{ap, ◌∙◌}
-use Rattle.report_words.specs.Words.{mean_words}
-use Rattle.report_words.proofs.report_mean_y.Goals as goal
-
-pub returns : goal.returns
-returns c = c.mean_words.ensures ∙ ap mean_words c.mean_y.ensures
