@@ -3,7 +3,7 @@
 use mathlib.Core.Path.{◌≡◌, sym, ap, ◌∙◌}
 use mathlib.Core.Bool.{Bool, true}
 use mathlib.Core.List.{List, []}
-use mathlib.Core.Option.{Option}
+use Rattle.std.specs.Prelude.{Option}
 use Prim.Native.Nat.{ℕ, ◌+◌, ◌-◌, ◌≤◌, ◌<◌}
 use native.Mathlib.Omega.{arith}
 use lib.Dec.{ltb}
@@ -23,12 +23,11 @@ use Rattle.keyboard.specs.Handler.{Called, handle, effects, log_left, handled}
 use Rattle.dispatcher.specs.declared.Dispatcher.{Dispatcher}
 use Rattle.dispatcher.specs.declared.Places.{Places}
 use Rattle.dispatcher.specs.declared.Source.{Source}
-use Rattle.dispatcher.specs.declared.Turn.{Turn}
 use Rattle.dispatcher.specs.declared.Waits.{Waits}
 use Rattle.dispatcher.specs.Turns.{served}
 use Rattle.dispatcher.specs.Sources.{Scripts, place_of, with_place, unused, keyboard_waits, mouse_waits, waits_now}
 use Rattle.dispatcher.specs.Step.{keyed, packet, call_answered, packet_answered, packet_read, Stepped, stepped, turn_over, served_one, serve_mouse, serve_keyboard, serve, step_of}
-use Rattle.dispatcher.specs.Said.{wait_in, said_turn}
+use Rattle.dispatcher.specs.Said.{wait_in}
 use Rattle.dispatcher.proofs.Turns.{same_served}
 
 -- ---- the unused bytes
@@ -102,7 +101,7 @@ waits_are d s a b c Source.Mouse = c
 -- ---- the step
 
 module _ {A : Type 0} (lamps : Side → ℕ → Exchange (Answer A)) (d : Dispatcher) (s : Scripts) (log : List ℕ)
-    (w : Waits) (is : (source : Source) → wait_in w source ≡ waits_now d s source) (t : Turn) (q : said_turn t ≡ served (wait_in w) d.last) where
-  pub step_served : {o : Option Source} → said_turn t ≡ o → {x : Stepped} → x ≡ serve lamps d s log o → x ≡ step_of lamps d s log
+    (w : Waits) (is : (source : Source) → wait_in w source ≡ waits_now d s source) {t : Option Source} (q : t ≡ served (wait_in w) d.last) where
+  pub step_served : {o : Option Source} → t ≡ o → {x : Stepped} → x ≡ serve lamps d s log o → x ≡ step_of lamps d s log
   unfolding step_of
   step_served e k = k ∙ ap (serve lamps d s log) (sym e ∙ q ∙ same_served is d.last)

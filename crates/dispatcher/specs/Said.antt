@@ -1,16 +1,16 @@
 -- What the code gives back, as the definitions have it.
 -- Assumes nothing.
-use Rattle.std.specs.Prelude.{Bool, List, ℕ}
-use Rattle.std.proofs.Math.Option.{Option, none, some}
-use Rattle.ps2_packet_reading.specs.declared.SignedRead.{SignedRead}
-use Rattle.ps2_packet_reading.specs.Reading.{said_signed}
+use Rattle.std.specs.Prelude.{Bool, List, ℕ, Result}
+use Rattle.ps2_packet.specs.declared.SignedPacket.{SignedPacket}
+use Rattle.ps2_answers.specs.declared.Counted.{Counted}
+use Rattle.ps2_answers.specs.declared.Refusal.{Refusal}
+use Rattle.ps2_answers.specs.Answers.{ended, used_of, pairs_of}
 use Rattle.keyboard_sides.specs.declared.Side.{Side}
 use Rattle.keyboard.specs.Answers.{said_call, said_lamps}
 use Rattle.dispatcher.specs.declared.CallAnswer.{CallAnswer}
 use Rattle.dispatcher.specs.declared.Dispatched.{Dispatched}
 use Rattle.dispatcher.specs.declared.Served.{Served}
 use Rattle.dispatcher.specs.declared.Source.{Source}
-use Rattle.dispatcher.specs.declared.Turn.{Turn}
 use Rattle.dispatcher.specs.declared.Waits.{Waits}
 use Rattle.dispatcher.specs.Step.{CallAnswered, PacketAnswered, Service, keyed, packet, idle, Stepped}
 
@@ -20,16 +20,11 @@ wait_in w (Source.Keyboard Side.First) = w.first
 wait_in w (Source.Keyboard Side.Second) = w.second
 wait_in w Source.Mouse = w.mouse
 
--- Whom a step serves, if it serves one.
-abbrev pub said_turn : Turn → Option Source
-said_turn (Turn.Serves s) = some s
-said_turn Turn.Idle = none
-
 abbrev pub said_call_answer : CallAnswer → CallAnswered
 said_call_answer x = record { end = said_call x.answer; lamps = said_lamps x.lamps_failed; used = x.used; pairs = x.pairs; dropped = x.dropped }
 
-abbrev pub said_read : SignedRead → PacketAnswered
-said_read x = record { end = said_signed x.answer; used = x.used; pairs = x.pairs }
+abbrev pub said_read : Result (Counted SignedPacket) (Counted Refusal) → PacketAnswered
+said_read x = record { end = ended x; used = used_of x; pairs = pairs_of x }
 
 abbrev pub said_served : Served → Service
 said_served (Served.Key side x) = keyed side (said_call_answer x)

@@ -1,8 +1,7 @@
 -- What a step of the dispatcher means, on any state, scripts and log.
 -- The lamp exchanges are an argument, `lamps`, as the handler's are.
 -- Assumes nothing.
-use Rattle.std.specs.Prelude.{List, [], ℕ, ◌+◌}
-use Rattle.std.proofs.Math.Option.{Option, none, some}
+use Rattle.std.specs.Prelude.{List, [], ℕ, ◌+◌, Option, None, Some}
 use Rattle.exchange.specs.Exchange.{Exchange, End, Played, play}
 use Rattle.exchange.specs.Answer.{Answer}
 use Rattle.ps2_answers.specs.Refusals.{Success}
@@ -14,7 +13,6 @@ use Rattle.keyboard_sides.specs.declared.Side.{Side}
 use Rattle.keyboard_record.specs.declared.KeyboardHandler.{KeyboardHandler}
 use Rattle.keyboard.specs.Handler.{Called, log_left, handled}
 use Rattle.dispatcher.specs.declared.Dispatcher.{Dispatcher}
-use Rattle.dispatcher.specs.declared.LastServed.{LastServed}
 use Rattle.dispatcher.specs.declared.Places.{Places}
 use Rattle.dispatcher.specs.declared.Source.{Source}
 use Rattle.dispatcher.specs.Turns.{served}
@@ -24,7 +22,7 @@ use Rattle.dispatcher.specs.Sources.{Scripts, script_of, place_of, with_place, u
 
 -- A dispatcher that has served nobody, for these records: its places are the starts of the scripts.
 abbrev pub new_dispatcher : KeyboardHandler → PS2Mouse → Dispatcher
-new_dispatcher h mouse = record { last = LastServed.Nobody; places = record { first = 0; second = 0; mouse = 0 }; handler = h; mouse = mouse }
+new_dispatcher h mouse = record { last = None; places = record { first = 0; second = 0; mouse = 0 }; handler = h; mouse = mouse }
 
 -- The same with another handler record, as after a taking from the queue: "takings are no steps".
 abbrev pub with_handler : KeyboardHandler → Dispatcher → Dispatcher
@@ -32,7 +30,7 @@ with_handler h d = record { last = d.last; places = d.places; handler = h; mouse
 
 -- A source was served: its turn is over, and these are the places and the handler record now.
 abbrev pub turn_over : Source → Places → KeyboardHandler → Dispatcher → Dispatcher
-turn_over source places h d = record { last = LastServed.One source; places = places; handler = h; mouse = d.mouse }
+turn_over source places h d = record { last = Some source; places = places; handler = h; mouse = d.mouse }
 
 -- The same by a call that used so many bytes: "its script moves on by the bytes its answer counts".
 abbrev pub served_one : Source → ℕ → KeyboardHandler → Dispatcher → Dispatcher
@@ -108,9 +106,9 @@ module _ {A : Type 0} (lamps : Side → ℕ → Exchange (Answer A)) where
 
   -- "Each step serves one waiting source with one handler call or one packet"; ""Idle" comes only when no source waits", and leaves all as it was.
   abbrev pub serve : Dispatcher → Scripts → List ℕ → Option Source → Stepped
-  serve d s log none = stepped idle d log
-  serve d s log (some (Source.Keyboard side)) = serve_keyboard side d (script_of (Source.Keyboard side) s) log
-  serve d s log (some Source.Mouse) = serve_mouse d (script_of Source.Mouse s) log
+  serve d s log None = stepped idle d log
+  serve d s log (Some (Source.Keyboard side)) = serve_keyboard side d (script_of (Source.Keyboard side) s) log
+  serve d s log (Some Source.Mouse) = serve_mouse d (script_of Source.Mouse s) log
 
   unfoldable pub step_of : Dispatcher → Scripts → List ℕ → Stepped
   step_of d s log = serve d s log (served (waits_now d s) d.last)

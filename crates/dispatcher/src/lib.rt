@@ -3,32 +3,26 @@
 
 ghost use Rattle.std.specs.Prelude.{List, ◌≡◌, ℕ, ◌≤◌, length};
 ghost use Rattle.keyboard.specs.KeyboardLamps.{keyboard_lamps};
+ghost use Rattle.ps2_answers.specs.Answers.{used_of, pairs_of};
 ghost use Rattle.dispatcher.specs.Turns.{next, asked_first, served};
 ghost use Rattle.dispatcher.specs.Sources.{scripts, place_of, with_place, unused, keyboard_waits, mouse_waits, waits_now};
 ghost use Rattle.dispatcher.specs.Step.{new_dispatcher, with_handler, turn_over, serve_mouse, serve_keyboard, step_of};
-ghost use Rattle.dispatcher.specs.Said.{wait_in, said_turn, said_step};
+ghost use Rattle.dispatcher.specs.Said.{wait_in, said_step};
 
 use keyboard::{HandlerAnswer, handle};
 use keyboard_record::KeyboardHandler;
-use keyboard_scancodes::KeyboardState;
 use keyboard_sides::Side;
+use ps2_answers::Answer;
 use ps2_bytes::MouseId;
 use ps2_mouse::PS2Mouse;
-use ps2_packet::packet_length;
-use ps2_packet_reading::{SignedRead, read_signed_packet};
+use ps2_packet::{SignedPacket, packet_length};
+use ps2_packet_reading::read_signed_packet;
 
 // What a step can serve: the keyboard of a side, or the mouse.
 #[derive(Clone, Copy)]
 pub enum Source {
     Keyboard(Side),
     Mouse,
-}
-
-// The source served last.
-#[derive(Clone, Copy)]
-pub enum LastServed {
-    Nobody,
-    One(Source),
 }
 
 // Where in its script each source is: the number of its bytes that are used.
@@ -47,17 +41,10 @@ pub struct Waits {
     pub mouse: bool,
 }
 
-// Whom a step serves.
-#[derive(Clone, Copy)]
-pub enum Turn {
-    Serves(Source),
-    Idle,
-}
-
-// The dispatcher's state: who was served last, the places in the three scripts, the handler record and the mouse's.
+// The dispatcher's state: who was served last, if a source was; the places in the three scripts, the handler record and the mouse's.
 #[derive(Clone, Copy)]
 pub struct Dispatcher {
-    pub last: LastServed,
+    pub last: Option<Source>,
     pub places: Places,
     pub mouse: PS2Mouse,
     pub handler: KeyboardHandler,
@@ -77,7 +64,7 @@ pub struct CallAnswer {
 #[derive(Clone, Copy)]
 pub enum Served {
     Key(Side, CallAnswer),
-    Packet(SignedRead),
+    Packet(Answer<SignedPacket>),
     Idle,
 }
 
@@ -96,24 +83,20 @@ impl Source {
         ensures { result ≡ next self }
     {
         match self {
-            Source::Keyboard(side) => match side {
-                Side::First => Source::Keyboard(Side::Second),
-                Side::Second => Source::Mouse,
-            },
+            Source::Keyboard(Side::First) => Source::Keyboard(Side::Second),
+            Source::Keyboard(Side::Second) => Source::Mouse,
             Source::Mouse => Source::Keyboard(Side::First),
         }
     }
 }
 
-impl LastServed {
-    // The source that a step asks first.
-    pub fn asked_first(self) -> Source
-        ensures { result ≡ asked_first self }
-    {
-        match self {
-            LastServed::Nobody => Source::Keyboard(Side::First),
-            LastServed::One(source) => source.next(),
-        }
+// The source that a step asks first, by the one served last.
+pub fn asked_first(last: Option<Source>) -> Source
+    ensures { result ≡ asked_first last }
+{
+    match last {
+        None => Source::Keyboard(Side::First),
+        Some(source) => source.next(),
     }
 }
 
@@ -123,31 +106,29 @@ impl Waits {
         ensures { result ≡ wait_in self source }
     {
         match source {
-            Source::Keyboard(side) => match side {
-                Side::First => self.first,
-                Side::Second => self.second,
-            },
+            Source::Keyboard(Side::First) => self.first,
+            Source::Keyboard(Side::Second) => self.second,
             Source::Mouse => self.mouse,
         }
     }
 
     // Whom a step serves: the first that waits, going round from the one after the last served.
-    pub fn serves(self, last: LastServed) -> Turn
-        ensures { said_turn result ≡ served (wait_in self) last }
+    pub fn serves(self, last: Option<Source>) -> Option<Source>
+        ensures { result ≡ served (wait_in self) last }
     {
-        let one = last.asked_first();
+        let one = asked_first(last);
         if self.at(one) {
-            return Turn::Serves(one);
+            return Some(one);
         }
         let two = one.next();
         if self.at(two) {
-            return Turn::Serves(two);
+            return Some(two);
         }
         let three = two.next();
         if self.at(three) {
-            return Turn::Serves(three);
+            return Some(three);
         }
-        Turn::Idle
+        None
     }
 }
 
@@ -157,10 +138,8 @@ impl Places {
         ensures { result ≡ place_of source self }
     {
         match source {
-            Source::Keyboard(side) => match side {
-                Side::First => self.first,
-                Side::Second => self.second,
-            },
+            Source::Keyboard(Side::First) => self.first,
+            Source::Keyboard(Side::Second) => self.second,
             Source::Mouse => self.mouse,
         }
     }
@@ -169,50 +148,43 @@ impl Places {
     pub fn with_place(self, source: Source, place: usize) -> Places
         ensures { result ≡ with_place source place self }
     {
-        let mut places = self;
         match source {
-            Source::Keyboard(side) => match side {
-                Side::First => {
-                    places.first = place;
-                }
-                Side::Second => {
-                    places.second = place;
-                }
+            Source::Keyboard(Side::First) => Places {
+                first: place,
+                ..self
             },
-            Source::Mouse => {
-                places.mouse = place;
-            }
+            Source::Keyboard(Side::Second) => Places {
+                second: place,
+                ..self
+            },
+            Source::Mouse => Places {
+                mouse: place,
+                ..self
+            },
         }
-        places
     }
 }
 
-// The place, or the script's end where it is past it.
-fn start(place: usize, script: &[u8]) -> usize
-    ensures { (result ≤ length script.now) × (unused result script.now ≡ unused place script.now) }
+// A place in a source's script, or the script's end where it is past it: from there on the same bytes are unused.
+pub fn start(place: usize, bytes: &[u8]) -> usize
+    ensures within { result ≤ length bytes.now }
+    ensures rest { unused result bytes.now ≡ unused place bytes.now }
 {
-    if place < script.len() {
-        place
-    } else {
-        script.len()
-    }
+    place.min(bytes.len())
 }
 
-// Whether a keyboard waits: it has an unused script byte or a waiting byte.
-fn keyboard_waits(place: usize, script: &[u8], keyboard: KeyboardState) -> bool
-    ensures { result ≡ keyboard_waits (unused place script.now) keyboard.waiting.count }
+// Whether a keyboard waits, by its place in its script and the number of its waiting bytes: it has an unused script byte or a waiting byte.
+pub fn keyboard_waits(place: usize, bytes: &[u8], waiting: u8) -> bool
+    ensures { result ≡ keyboard_waits (unused place bytes.now) waiting }
 {
-    if place < script.len() {
-        return true;
-    }
-    0 < keyboard.waiting.count
+    place < bytes.len() || 0 < waiting
 }
 
-// Whether the mouse waits: a whole packet is unread.
-fn mouse_waits(place: usize, script: &[u8], id: MouseId) -> bool
-    ensures { result ≡ mouse_waits (unused place script.now) id }
+// Whether a mouse of this identity waits, by its place in its script: a whole packet is unread.
+pub fn mouse_waits(place: usize, bytes: &[u8], id: MouseId) -> bool
+    ensures { result ≡ mouse_waits (unused place bytes.now) id }
 {
-    let unread = script.len() - start(place, script);
+    let unread = bytes.len() - start(place, bytes);
     packet_length(id) <= unread
 }
 
@@ -221,27 +193,37 @@ fn serve_keyboard(state: Dispatcher, side: Side, script: &[u8], log: &mut [u8]) 
     ensures { said_step result log.new ≡ serve_keyboard keyboard_lamps side state script.now log.old }
 {
     let source = Source::Keyboard(side);
-    let places = state.places;
-    let place = places.at(source);
-    let from = start(place, script);
-    let call = handle(state.handler, side, &script[from..], log);
-    let answer = call.answer;
-    let used = call.used;
-    let handler = call.handler;
+    let place = state.places.at(source);
+    let call = handle(state.handler, side, &script[start(place, script)..], log);
     Dispatched {
         served: Served::Key(
             side,
             CallAnswer {
-                answer,
+                answer: call.answer,
                 lamps_failed: call.lamps_failed,
-                used,
+                used: call.used,
                 pairs: call.pairs,
                 dropped: call.dropped,
             },
         ),
-        used,
+        used: call.used,
         pairs: call.pairs,
-        state: state.turn_over(source, places.with_place(source, place + used), handler),
+        state: state.turn_over(
+            source,
+            state.places.with_place(source, place + call.used),
+            call.handler,
+        ),
+    }
+}
+
+// The counts of an answer, script bytes used and pairs written.
+fn counts(answer: Answer<SignedPacket>) -> (usize, usize)
+    ensures used { result.0 ≡ used_of answer }
+    ensures pairs { result.1 ≡ pairs_of answer }
+{
+    match answer {
+        Ok(packet) => (packet.used, packet.pairs),
+        Err(refused) => (refused.used, refused.pairs),
     }
 }
 
@@ -249,20 +231,16 @@ fn serve_keyboard(state: Dispatcher, side: Side, script: &[u8], log: &mut [u8]) 
 fn serve_mouse(state: Dispatcher, script: &[u8]) -> Dispatched
     ensures { (log : List ℕ) → said_step result log ≡ serve_mouse state script.now log }
 {
-    let mouse = state.mouse;
-    let id = mouse.id;
-    let places = state.places;
-    let place = places.mouse;
-    let from = start(place, script);
-    let read = read_signed_packet(id, &script[from..]);
-    let used = read.used;
+    let place = state.places.mouse;
+    let read = read_signed_packet(state.mouse.id, &script[start(place, script)..]);
+    let (used, pairs) = counts(read);
     Dispatched {
         served: Served::Packet(read),
         used,
-        pairs: read.pairs,
+        pairs,
         state: state.turn_over(
             Source::Mouse,
-            places.with_place(Source::Mouse, place + used),
+            state.places.with_place(Source::Mouse, place + used),
             state.handler,
         ),
     }
@@ -274,7 +252,7 @@ impl Dispatcher {
         ensures { result ≡ new_dispatcher handler mouse }
     {
         Dispatcher {
-            last: LastServed::Nobody,
+            last: None,
             places: Places {
                 first: 0,
                 second: 0,
@@ -289,28 +267,18 @@ impl Dispatcher {
     pub fn with_handler(self, handler: KeyboardHandler) -> Dispatcher
         ensures { result ≡ with_handler handler self }
     {
-        let last = self.last;
-        let places = self.places;
-        let mouse = self.mouse;
-        Dispatcher {
-            last,
-            places,
-            mouse,
-            handler,
-        }
+        Dispatcher { handler, ..self }
     }
 
     // The state where a source was served: its turn is over, whatever the call answered.
     fn turn_over(self, source: Source, places: Places, handler: KeyboardHandler) -> Dispatcher
         ensures { result ≡ turn_over source places handler self }
     {
-        let last = LastServed::One(source);
-        let mouse = self.mouse;
         Dispatcher {
-            last,
+            last: Some(source),
             places,
-            mouse,
             handler,
+            ..self
         }
     }
 
@@ -318,15 +286,18 @@ impl Dispatcher {
     pub fn waits(self, first: &[u8], second: &[u8], third: &[u8]) -> Waits
         ensures { (source : Source) → wait_in result source ≡ waits_now self (scripts first.now second.now third.now) source }
     {
-        let places = self.places;
-        let mouse = self.mouse;
-        let handler = self.handler;
-        let state = handler.state;
-        let id = mouse.id;
         Waits {
-            first: keyboard_waits(places.first, first, state.first),
-            second: keyboard_waits(places.second, second, state.second),
-            mouse: mouse_waits(places.mouse, third, id),
+            first: keyboard_waits(
+                self.places.first,
+                first,
+                self.handler.state.first.waiting.count,
+            ),
+            second: keyboard_waits(
+                self.places.second,
+                second,
+                self.handler.state.second.waiting.count,
+            ),
+            mouse: mouse_waits(self.places.mouse, third, self.mouse.id),
         }
     }
 
@@ -334,18 +305,11 @@ impl Dispatcher {
     pub fn step(self, first: &[u8], second: &[u8], third: &[u8], log: &mut [u8]) -> Dispatched
         ensures { said_step result log.new ≡ step_of keyboard_lamps self (scripts first.now second.now third.now) log.old }
     {
-        let waits = self.waits(first, second, third);
-        let last = self.last;
-        let turn = waits.serves(last);
-        match turn {
-            Turn::Serves(source) => match source {
-                Source::Keyboard(side) => match side {
-                    Side::First => serve_keyboard(self, Side::First, first, log),
-                    Side::Second => serve_keyboard(self, Side::Second, second, log),
-                },
-                Source::Mouse => serve_mouse(self, third),
-            },
-            Turn::Idle => Dispatched {
+        match self.waits(first, second, third).serves(self.last) {
+            Some(Source::Keyboard(Side::First)) => serve_keyboard(self, Side::First, first, log),
+            Some(Source::Keyboard(Side::Second)) => serve_keyboard(self, Side::Second, second, log),
+            Some(Source::Mouse) => serve_mouse(self, third),
+            None => Dispatched {
                 served: Served::Idle,
                 used: 0,
                 pairs: 0,

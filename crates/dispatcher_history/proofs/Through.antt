@@ -1,7 +1,8 @@
 -- The history rule through the dispatcher, for every lamp exchange, and for the keyboards' own.
 -- Assumes nothing.
 use mathlib.Core.List.{List}
-use mathlib.Core.Option.{Option, none, some}
+use mathlib.Core.Option as math
+use Rattle.std.specs.Prelude.{Option, None, Some}
 use mathlib.Core.Path.{◌≡◌, refl, sym, ap, ap₂, ◌∙◌}
 use Prim.Native.Nat.{ℕ}
 use lib.ListN.{length}
@@ -61,29 +62,29 @@ module _ {A : Type 0} (table : Table) (lamps : Side → ℕ → Exchange (Answer
     step_whom = ap (serve lamps (state_told t) s log) (same_served waits_told_lem t.last)
 
     -- a packet that waits is whole
-    whole : whom ≡ some Source.Mouse → First mouse.id (bytes_told t s Source.Mouse)
+    whole : whom ≡ Some Source.Mouse → First mouse.id (bytes_told t s Source.Mouse)
     unfolding waits_told
     whole e = first_packet mouse.id (bytes_told t s Source.Mouse) (leb-true _ _ (served_waits (waits_told table lamps mouse.id t s) t.last Source.Mouse e))
 
     serve_told : (o : Option Source) → whom ≡ o → (serve lamps (state_told t) s log o).state ≡ state_told (told_serving table lamps mouse.id t s log o)
     unfolding serve_keyboard serve_mouse after leaves
-    serve_told none e = refl
-    serve_told (some (Source.Keyboard side)) e = refl
-    serve_told (some Source.Mouse) e =
+    serve_told None e = refl
+    serve_told (Some (Source.Keyboard side)) e = refl
+    serve_told (Some Source.Mouse) e =
         ap (λ (o : Played (Answer SignedPacket)). served_one Source.Mouse o.used (after table lamps t.calls) (state_told t)) (whole e).reads
 
     answer_told : (o : Option Source) (past : Past (End (Answer Success))) → past ≡ answers table lamps t.calls
         → call_end past (serve lamps (state_told t) s log o).answer ≡ answers table lamps (told_serving table lamps mouse.id t s log o).calls
     unfolding serve_keyboard serve_mouse answers
-    answer_told none past e = e
-    answer_told (some (Source.Keyboard side)) past e = rw e
-    answer_told (some Source.Mouse) past e = e
+    answer_told None past e = e
+    answer_told (Some (Source.Keyboard side)) past e = rw e
+    answer_told (Some Source.Mouse) past e = e
 
     taking_told : (o : Option Source) → takings table lamps (told_serving table lamps mouse.id t s log o).calls ≡ takings table lamps t.calls
     unfolding takings
-    taking_told none = refl
-    taking_told (some (Source.Keyboard side)) = refl
-    taking_told (some Source.Mouse) = refl
+    taking_told None = refl
+    taking_told (Some (Source.Keyboard side)) = refl
+    taking_told (Some Source.Mouse) = refl
 
   -- ---- the list
 
@@ -114,7 +115,7 @@ module _ {A : Type 0} (table : Table) (lamps : Side → ℕ → Exchange (Answer
   all_taken nothing = refl
   all_taken (past ▸ stepping s log) = all_taken past ∙ sym (taking_told (told_of past) s log (whom (told_of past) s log))
   all_taken (past ▸ taking) =
-      ap₂ {C = Past (Answer (Option (Sided KeyEvent)))} (λ (x : Past (Answer (Option (Sided KeyEvent)))) (y : Answer (Option (Sided KeyEvent))). x ▸ y) (all_taken past)
+      ap₂ {C = Past (Answer (math.Option (Sided KeyEvent)))} (λ (x : Past (Answer (math.Option (Sided KeyEvent)))) (y : Answer (math.Option (Sided KeyEvent))). x ▸ y) (all_taken past)
       (ap (λ (d : Dispatcher). (taken d.handler).answer) (state_told_lem past))
 
   pub history_through : (moves : Past Move) → HistoryThrough table lamps mouse moves

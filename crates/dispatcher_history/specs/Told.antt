@@ -1,7 +1,6 @@
 -- What a list of steps and takings says by itself: whom each step serves, which part of its script that call is given, and so which handler calls are made. No dispatcher's state is run here.
 -- Assumes nothing.
-use Rattle.std.specs.Prelude.{Bool, List, ℕ, ◌+◌, length}
-use Rattle.std.proofs.Math.Option.{Option, none, some}
+use Rattle.std.specs.Prelude.{Bool, List, ℕ, ◌+◌, length, Option, None, Some}
 use Rattle.exchange.specs.Exchange.{Exchange}
 use Rattle.exchange.specs.Answer.{Answer}
 use Rattle.ps2_packet.specs.Packet.{packet_length}
@@ -12,7 +11,6 @@ use Rattle.keyboard.specs.Handler.{handled}
 use Rattle.keyboard_history.specs.Past.{Past, nothing, ◌▸◌}
 use Rattle.keyboard_history.specs.Counted.{Call, handling, taking, waits_of}
 use Rattle.keyboard_history.specs.Run.{after}
-use Rattle.dispatcher.specs.declared.LastServed.{LastServed}
 use Rattle.dispatcher.specs.declared.Places.{Places}
 use Rattle.dispatcher.specs.declared.Source.{Source}
 use Rattle.dispatcher.specs.Turns.{served}
@@ -22,13 +20,13 @@ use Rattle.dispatcher.specs.Runs as Runs
 
 -- Who was served last, the places in the three scripts, and the handler calls and takings made.
 pub record Told : Type 0 where
-  pub last : LastServed
+  pub last : Option Source
   pub places : Places
   pub calls : Past Call
 
 -- Before any step nobody was served, and the places are the starts of the scripts.
 abbrev pub nothing_told : Told
-nothing_told = record { last = LastServed.Nobody; places = record { first = 0; second = 0; mouse = 0 }; calls = nothing }
+nothing_told = record { last = None; places = record { first = 0; second = 0; mouse = 0 }; calls = nothing }
 
 -- The unused bytes of a source.
 abbrev pub bytes_told : Told → Scripts → Source → List ℕ
@@ -36,7 +34,7 @@ bytes_told t s source = unused (place_of source t.places) (script_of source s)
 
 -- A source was served, by a call that used so many bytes.
 abbrev pub served_told : Source → ℕ → Told → Past Call → Told
-served_told source used t calls = record { last = LastServed.One source; places = with_place source (place_of source t.places + used) t.places; calls = calls }
+served_told source used t calls = record { last = Some source; places = with_place source (place_of source t.places + used) t.places; calls = calls }
 
 module _ {A : Type 0} (table : Table) (lamps : Side → ℕ → Exchange (Answer A)) (id : MouseId) where
   -- Who waits: of a keyboard's waiting bytes the history rule says how many there are after these calls.
@@ -50,11 +48,11 @@ module _ {A : Type 0} (table : Table) (lamps : Side → ℕ → Exchange (Answer
 
   -- A step that serves a source makes a handler call on that side's unused bytes, or reads one packet.
   abbrev pub told_serving : Told → Scripts → List ℕ → Option Source → Told
-  told_serving t s log none = t
-  told_serving t s log (some (Source.Keyboard side)) =
+  told_serving t s log None = t
+  told_serving t s log (Some (Source.Keyboard side)) =
       let bytes = bytes_told t s (Source.Keyboard side) in
       served_told (Source.Keyboard side) (used_after t.calls side bytes log) t (t.calls ▸ handling side bytes log)
-  told_serving t s log (some Source.Mouse) = served_told Source.Mouse (packet_length id) t t.calls
+  told_serving t s log (Some Source.Mouse) = served_told Source.Mouse (packet_length id) t t.calls
 
   abbrev pub told_move : Told → Move → Told
   told_move t (stepping s log) = told_serving t s log (served (waits_told t s) t.last)

@@ -8,7 +8,8 @@ use native.Mathlib.Omega.{arith}
 use lib.ListN.{length, drop, set, take-append-drop}
 use lib.Seq.{take_at}
 use Rattle.ps2_bytes.specs.declared.response.MouseId.{MouseId}
-use Rattle.argument_words.specs.declared.FoundIdentity.{FoundIdentity}
+use Rattle.std.specs.Prelude.{Some, None}
+use Rattle.std.specs.Prelude as rust
 use Rattle.argument_words.specs.Arguments.{identity_at, said_identity}
 use Rattle.keyboard_record.specs.declared.Table.{Table}
 use Rattle.handler_words.specs.Layout.{words_length}
@@ -61,11 +62,11 @@ module _ (id : MouseId) (ws : List ℕ) (answer : ℕ) (us : List ℕ) where
 
 -- ---- by the identity that was found
 
-module _ {k p i : ℕ} {f : FoundIdentity} (q : said_identity f ≡ identity_at i) (ws : List ℕ) where
-  pub at_no_identity : f ≡ FoundIdentity.Nothing → MadeFresh ws k p i 255 ws
+module _ {k p i : ℕ} {f : rust.Option MouseId} (q : said_identity f ≡ identity_at i) (ws : List ℕ) where
+  pub at_no_identity : f ≡ None → MadeFresh ws k p i 255 ws
   at_no_identity e = record { is = rw (← q, e) (refl, refl) }
 
-  module _ {id : MouseId} (e : f ≡ FoundIdentity.Identity id) {answer : ℕ} {us : List ℕ} where
+  module _ {id : MouseId} (e : f ≡ Some id) {answer : ℕ} {us : List ℕ} where
     pub at_other_length : (length ws ≡ dispatcher_length → ⊥) → WordsFresh [] k p answer us → MadeFresh ws k p i answer (us ++ ws)
     at_other_length n w = record { is = rw (← q, e) (short id ws answer us n (table_at k p) w.is) }
 

@@ -2,7 +2,7 @@
 -- Assumes nothing.
 use mathlib.Core.Path.{◌≡◌, refl, sym, ap, ◌∙◌}
 use mathlib.Core.List.{List, ◌++◌}
-use mathlib.Core.Option.{Option, none, some}
+use Rattle.std.specs.Prelude.{Option, None, Some}
 use Prim.Native.Nat.{ℕ}
 use lib.ListN.{length, drop, length-set}
 use lib.Seq.{length_front}
@@ -42,10 +42,10 @@ long_call side bytes log ws =
     length_front ws (words_left side (handler_in ws) x) words_length (length_left side (handler_in ws) x)
 
 length_stepped : (o : Option Source) (x : Stepped) (s : Scripts) (log ws : List ℕ) → length (words_stepped o x s log ws) ≡ length ws
-length_stepped none x s log ws = refl
-length_stepped (some (Source.Keyboard side)) x s log ws =
+length_stepped None x s log ws = refl
+length_stepped (Some (Source.Keyboard side)) x s log ws =
     long_turn (Source.Keyboard side) _ (with_call side (bytes_of (dispatcher_of ws) s (Source.Keyboard side)) log ws) ∙ long_call side (bytes_of (dispatcher_of ws) s (Source.Keyboard side)) log ws
-length_stepped (some Source.Mouse) x s log ws = long_turn Source.Mouse _ ws
+length_stepped (Some Source.Mouse) x s log ws = long_turn Source.Mouse _ ws
 
 -- ---- the promises at the right length
 

@@ -2,19 +2,17 @@
 -- Assumes nothing.
 use mathlib.Core.Path.{◌≡◌, refl}
 use mathlib.Core.List.{List}
-use mathlib.Core.Option.{Option, none, some}
+use Rattle.std.specs.Prelude.{Option, None, Some}
 use Prim.Native.Nat.{ℕ}
 use lib.ListN.{get_or}
 use Rattle.keyboard_sides.specs.declared.Side.{Side}
 use Rattle.keyboard.specs.KeyboardLamps.{keyboard_lamps}
-use Rattle.dispatcher.specs.declared.LastServed.{LastServed}
 use Rattle.dispatcher.specs.declared.Source.{Source}
-use Rattle.dispatcher.specs.declared.Turn.{Turn}
 use Rattle.dispatcher.specs.declared.Waits.{Waits}
 use Rattle.dispatcher.specs.Turns.{served}
 use Rattle.dispatcher.specs.Sources.{Scripts, script_of, waits_now}
 use Rattle.dispatcher.specs.Step.{Stepped, serve_mouse, serve_keyboard, serve, step_of}
-use Rattle.dispatcher.specs.Said.{wait_in, said_turn}
+use Rattle.dispatcher.specs.Said.{wait_in}
 use Rattle.dispatcher.specs.Runs.{service_of}
 use Rattle.dispatcher.proofs.Serving.{step_served}
 use Rattle.dispatcher_words.specs.declared.StepWords.{StepWords}
@@ -24,34 +22,34 @@ use Rattle.dispatcher_words.specs.Steps.{no_call, words_stepped, Made, StepOn}
 use Rattle.dispatcher_words.specs.Parts.{SideServed, MouseServed}
 
 module _ (ws : List ℕ) (s : Scripts) (log : List ℕ) (w : Waits) (is : (source : Source) → wait_in w source ≡ waits_now (dispatcher_of ws) s source)
-    {last : LastServed} (l : last ≡ last_of (get_or ws last_at 0)) (t : Turn) (q : said_turn t ≡ served (wait_in w) last) where
+    {last : Option Source} (l : last ≡ last_of (get_or ws last_at 0)) {t : Option Source} (q : t ≡ served (wait_in w) last) where
   abbrev by : Option Source → Stepped
   by o = serve keyboard_lamps (dispatcher_of ws) s log o
 
-  whom : said_turn t ≡ served (wait_in w) (dispatcher_of ws).last
+  whom : t ≡ served (wait_in w) (dispatcher_of ws).last
   unfolding dispatcher_of
   whom = rw l at q
 
-  step_is : {o : Option Source} → said_turn t ≡ o → by o ≡ step_of keyboard_lamps (dispatcher_of ws) s log
-  step_is e = step_served keyboard_lamps (dispatcher_of ws) s log w is t whom e refl
+  step_is : {o : Option Source} → t ≡ o → by o ≡ step_of keyboard_lamps (dispatcher_of ws) s log
+  step_is e = step_served keyboard_lamps (dispatcher_of ws) s log w is whom e refl
 
   service_by : (o : Option Source) → service_of (by o).answer ≡ o
   unfolding serve_keyboard serve_mouse
-  service_by none = refl
-  service_by (some (Source.Keyboard side)) = refl
-  service_by (some Source.Mouse) = refl
+  service_by None = refl
+  service_by (Some (Source.Keyboard side)) = refl
+  service_by (Some Source.Mouse) = refl
 
   module _ {answer : StepWords} {ws' log' : List ℕ} where
-    made_by : {o : Option Source} → said_turn t ≡ o → Made (by o) (words_stepped o (by o) s log ws) answer ws' log' → StepOn ws s log answer ws' log'
+    made_by : {o : Option Source} → t ≡ o → Made (by o) (words_stepped o (by o) s log ws) answer ws' log' → StepOn ws s log answer ws' log'
     made_by {o} e m = rw (← step_is e, service_by o) m
 
-    pub side_step : (side : Side) → said_turn t ≡ some (Source.Keyboard side) → SideServed side ws (script_of (Source.Keyboard side) s) log answer ws' log' → StepOn ws s log answer ws' log'
+    pub side_step : (side : Side) → t ≡ Some (Source.Keyboard side) → SideServed side ws (script_of (Source.Keyboard side) s) log answer ws' log' → StepOn ws s log answer ws' log'
     unfolding dispatcher_of
     side_step Side.First e m = made_by e m
     side_step Side.Second e m = made_by e m
 
-    pub mouse_step : said_turn t ≡ some Source.Mouse → MouseServed ws s.mouse log answer ws' log' → StepOn ws s log answer ws' log'
+    pub mouse_step : t ≡ Some Source.Mouse → MouseServed ws s.mouse log answer ws' log' → StepOn ws s log answer ws' log'
     mouse_step e m = made_by e m
 
-  pub idle_step : said_turn t ≡ none → {answer : StepWords} → answer ≡ no_call 0 → StepOn ws s log answer ws log
+  pub idle_step : t ≡ None → {answer : StepWords} → answer ≡ no_call 0 → StepOn ws s log answer ws log
   idle_step e a = made_by e (record { answered = a; leaves = refl; writes = refl; logged = refl })

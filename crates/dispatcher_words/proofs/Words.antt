@@ -15,7 +15,7 @@ use Rattle.handler_words.specs.Layout.{words_length}
 use Rattle.handler_words.specs.Words.{record_of, word_of, words_of}
 use Rattle.handler_words.proofs.Words.{record_words}
 use Rattle.dispatcher.specs.declared.Dispatcher.{Dispatcher}
-use Rattle.dispatcher.specs.declared.LastServed.{LastServed}
+use Rattle.std.specs.Prelude.{Option, None, Some}
 use Rattle.dispatcher.specs.declared.Places.{Places}
 use Rattle.dispatcher.specs.declared.Source.{Source}
 use Rattle.dispatcher.specs.Sources.{with_place}
@@ -29,16 +29,16 @@ identity_back MouseId.Zero = refl
 identity_back MouseId.Three = refl
 identity_back MouseId.Four = refl
 
-pub served_back : (source : Source) → last_of (source_number source) ≡ LastServed.One source
+pub served_back : (source : Source) → last_of (source_number source) ≡ Some source
 served_back (Source.Keyboard Side.First) = refl
 served_back (Source.Keyboard Side.Second) = refl
 served_back Source.Mouse = refl
 
-last_back : (last : LastServed) → last_of (last_number last) ≡ last
-last_back LastServed.Nobody = refl
-last_back (LastServed.One source) = served_back source
+last_back : (last : Option Source) → last_of (last_number last) ≡ last
+last_back None = refl
+last_back (Some source) = served_back source
 
-pub same_dispatcher : {h k : KeyboardHandler} {i j : MouseId} {p q : Places} {l m : LastServed} → h ≡ k → i ≡ j → p ≡ q → l ≡ m
+pub same_dispatcher : {h k : KeyboardHandler} {i j : MouseId} {p q : Places} {l m : Option Source} → h ≡ k → i ≡ j → p ≡ q → l ≡ m
     → ◌≡◌ {A = Dispatcher} (record { handler = h; mouse = record { id = i }; places = p; last = l }) (record { handler = k; mouse = record { id = j }; places = q; last = m })
 same_dispatcher h i p l = cc
 
@@ -108,7 +108,7 @@ module _ (us : List ℕ) (h : length us ≡ words_length) where
         handler = record_of us;
         mouse = record { id = identity_of a };
         places = with_place source place (record { first = b; second = c; mouse = d });
-        last = LastServed.One source;
+        last = Some source;
       }
   turned (Source.Keyboard Side.First) place a b c d e = ap dispatcher_of (turn_set us h (a ∷ b ∷ c ∷ d ∷ e ∷ []) 1 place 4 1) ∙ stands us h _
   turned (Source.Keyboard Side.Second) place a b c d e = ap dispatcher_of (turn_set us h (a ∷ b ∷ c ∷ d ∷ e ∷ []) 2 place 4 2) ∙ stands us h _

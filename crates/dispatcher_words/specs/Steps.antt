@@ -1,7 +1,6 @@
 -- What a step of a lent dispatcher means: the answer as numbers, the numbers left, and the state that they stand for.
 -- Assumes nothing.
-use Rattle.std.specs.Prelude.{List, ◌++◌, ◌≡◌, ℕ, length, drop, set}
-use Rattle.std.proofs.Math.Option.{Option, none, some}
+use Rattle.std.specs.Prelude.{List, ◌++◌, ◌≡◌, ℕ, length, drop, set, Option, None, Some}
 use Rattle.exchange.specs.Answer.{number_answered, number_ended}
 use Rattle.port_words.specs.Told.{port_lacked}
 use Rattle.port_words.specs.ToldPacket.{told_packet, refusing_packet}
@@ -56,11 +55,11 @@ with_call side bytes log ws = words_left side (handler_in ws) (effects keyboard_
 
 -- The numbers that a step leaves, by whom it served: those of its handler call, the place in that source's script, and who was served last. Every other number stays.
 abbrev pub words_stepped : Option Source → Stepped → Scripts → List ℕ → List ℕ → List ℕ
-words_stepped none x s log ws = ws
-words_stepped (some (Source.Keyboard side)) x s log ws =
+words_stepped None x s log ws = ws
+words_stepped (Some (Source.Keyboard side)) x s log ws =
     let source = Source.Keyboard side in
     with_turn source (place_of source x.state.places) (with_call side (bytes_of (dispatcher_of ws) s source) log ws)
-words_stepped (some Source.Mouse) x s log ws = with_turn Source.Mouse (place_of Source.Mouse x.state.places) ws
+words_stepped (Some Source.Mouse) x s log ws = with_turn Source.Mouse (place_of Source.Mouse x.state.places) ws
 
 -- ---- the step
 

@@ -1,6 +1,6 @@
 -- The dispatcher as 149 numbers of 64 bits: the state that they stand for, and the numbers of a state.
 -- Assumes nothing.
-use Rattle.std.specs.Prelude.{cond, List, [], ◌∷◌, ◌++◌, ◌≡◌, ℕ, eqb, length, get_or, take}
+use Rattle.std.specs.Prelude.{cond, List, [], ◌∷◌, ◌++◌, ◌≡◌, ℕ, eqb, length, get_or, take, Option, Some, None}
 use Rattle.ps2_bytes.specs.Responses.{mouse_id_byte}
 use Rattle.ps2_bytes.specs.declared.response.MouseId.{MouseId}
 use Rattle.keyboard_sides.specs.declared.Side.{Side}
@@ -9,7 +9,6 @@ use Rattle.handler_words.specs.Arguments.{side_number}
 use Rattle.handler_words.specs.Layout.{words_length}
 use Rattle.handler_words.specs.Words.{record_of, words_of, Fits}
 use Rattle.dispatcher.specs.declared.Dispatcher.{Dispatcher}
-use Rattle.dispatcher.specs.declared.LastServed.{LastServed}
 use Rattle.dispatcher.specs.declared.Source.{Source}
 use Rattle.dispatcher_words.specs.Layout.{mouse_at, place_at, last_at}
 
@@ -26,14 +25,14 @@ source_number (Source.Keyboard side) = side_number side
 source_number Source.Mouse = 3
 
 -- Who was served last: 0, and any number that is no source's, stands for nobody.
-abbrev pub last_of : ℕ → LastServed
+abbrev pub last_of : ℕ → Option Source
 last_of n =
-    cond (eqb n 1) (LastServed.One (Source.Keyboard Side.First))
-    (cond (eqb n 2) (LastServed.One (Source.Keyboard Side.Second)) (cond (eqb n 3) (LastServed.One Source.Mouse) LastServed.Nobody))
+    cond (eqb n 1) (Some (Source.Keyboard Side.First))
+    (cond (eqb n 2) (Some (Source.Keyboard Side.Second)) (cond (eqb n 3) (Some Source.Mouse) None))
 
-abbrev pub last_number : LastServed → ℕ
-last_number LastServed.Nobody = 0
-last_number (LastServed.One source) = source_number source
+abbrev pub last_number : Option Source → ℕ
+last_number None = 0
+last_number (Some source) = source_number source
 
 -- ---- the state that the numbers stand for
 

@@ -11,13 +11,12 @@ ghost use Rattle.dispatcher_words.specs.Steps.{no_call, with_turn, StepMade};
 ghost use Rattle.dispatcher_words.specs.Fresh.{MadeFresh};
 ghost use Rattle.dispatcher_words.specs.Parts.{unserved, SideServed, MouseServed};
 
-use argument_words::{FoundIdentity, MEANS_NOTHING, identity_of};
-use dispatcher::{LastServed, Source, Turn, Waits};
+use argument_words::{MEANS_NOTHING, identity_of};
+use dispatcher::{Source, Waits, keyboard_waits, mouse_waits, start};
 use handler_words::{HANDLER_WORDS, HandledWords, fresh_words, handle_at};
 use keyboard_sides::Side;
 use port_words::{PacketWords, packet_words, refusing_packet_words};
 use ps2_bytes::MouseId;
-use ps2_packet::packet_length;
 use ps2_packet_reading::read_signed_packet;
 
 // How many bytes of either side wait, in the handler's record.
@@ -49,18 +48,12 @@ pub struct StepWords {
     pub packet: PacketWords,
 }
 
-fn wide(x: u8) -> u64
-    ensures { result ≡ x }
-{
-    x as u64
-}
-
 // Stores what stands behind the handler's record where nobody was served yet.
 fn put_unserved(words: &mut [u64], id: MouseId)
     requires { length words.old ≡ dispatcher_length }
     ensures { words.new ≡ handler_in words.old ++ unserved id }
 {
-    words[MOUSE_AT] = wide(id.to_byte());
+    words[MOUSE_AT] = u64::from(u8::from(id));
     words[FIRST_PLACE_AT] = 0;
     words[SECOND_PLACE_AT] = 0;
     words[MOUSE_PLACE_AT] = 0;
@@ -73,7 +66,7 @@ pub fn dispatcher_fresh(words: &mut [u64], keyboards: u32, profile: u32, identit
 {
     let found = identity_of(identity);
     match found {
-        FoundIdentity::Identity(id) => {
+        Some(id) => {
             // a record of no numbers is refused as this one is: the table is asked, and then 21 answered
             if words.len() != DISPATCHER_WORDS {
                 return fresh_words(&mut words[..0], keyboards, profile);
@@ -85,7 +78,7 @@ pub fn dispatcher_fresh(words: &mut [u64], keyboards: u32, profile: u32, identit
             put_unserved(words, id);
             0
         }
-        FoundIdentity::Nothing => MEANS_NOTHING,
+        None => MEANS_NOTHING,
     }
 }
 
@@ -93,39 +86,31 @@ pub fn dispatcher_fresh(words: &mut [u64], keyboards: u32, profile: u32, identit
 fn identity_in(word: u64) -> MouseId
     ensures { result ≡ identity_of word }
 {
-    if word == 3 {
-        return MouseId::Three;
+    match word {
+        3 => MouseId::Three,
+        4 => MouseId::Four,
+        _ => MouseId::Zero,
     }
-    if word == 4 {
-        return MouseId::Four;
-    }
-    MouseId::Zero
 }
 
 // Who a dispatcher's number says was served last.
-fn last_in(word: u64) -> LastServed
+fn last_in(word: u64) -> Option<Source>
     ensures { result ≡ last_of word }
 {
-    if word == 1 {
-        return LastServed::One(Source::Keyboard(Side::First));
+    match word {
+        1 => Some(Source::Keyboard(Side::First)),
+        2 => Some(Source::Keyboard(Side::Second)),
+        3 => Some(Source::Mouse),
+        _ => None,
     }
-    if word == 2 {
-        return LastServed::One(Source::Keyboard(Side::Second));
-    }
-    if word == 3 {
-        return LastServed::One(Source::Mouse);
-    }
-    LastServed::Nobody
 }
 
 fn source_number(source: Source) -> u32
     ensures { result ≡ source_number source }
 {
     match source {
-        Source::Keyboard(side) => match side {
-            Side::First => 1,
-            Side::Second => 2,
-        },
+        Source::Keyboard(Side::First) => 1,
+        Source::Keyboard(Side::Second) => 2,
         Source::Mouse => 3,
     }
 }
@@ -135,10 +120,8 @@ fn place_at(source: Source) -> usize
     ensures { (result ≡ place_at source) × (result < dispatcher_length) }
 {
     match source {
-        Source::Keyboard(side) => match side {
-            Side::First => FIRST_PLACE_AT,
-            Side::Second => SECOND_PLACE_AT,
-        },
+        Source::Keyboard(Side::First) => FIRST_PLACE_AT,
+        Source::Keyboard(Side::Second) => SECOND_PLACE_AT,
         Source::Mouse => MOUSE_PLACE_AT,
     }
 }
@@ -148,35 +131,6 @@ fn place_in(words: &[u64], source: Source) -> usize
     ensures { result ≡ place_in source words.now }
 {
     words[place_at(source)] as usize
-}
-
-// The place, or the script's end where it is past it.
-fn start(place: usize, script: &[u8]) -> usize
-    ensures { (result ≤ length script.now) × (unused result script.now ≡ unused place script.now) }
-{
-    if place < script.len() {
-        place
-    } else {
-        script.len()
-    }
-}
-
-// Whether a keyboard waits, by its number of waiting bytes: it has an unused script byte or a waiting byte.
-fn keyboard_waits(place: usize, script: &[u8], waiting: u64) -> bool
-    ensures { result ≡ keyboard_waits (unused place script.now) (waiting % 256) }
-{
-    if place < script.len() {
-        return true;
-    }
-    0 < waiting % 256
-}
-
-// Whether the mouse waits: a whole packet is unread.
-fn mouse_waits(place: usize, script: &[u8], id: MouseId) -> bool
-    ensures { result ≡ mouse_waits (unused place script.now) id }
-{
-    let unread = script.len() - start(place, script);
-    packet_length(id) <= unread
 }
 
 // Which sources wait.
@@ -189,8 +143,8 @@ fn waits_in(words: &[u64], first: &[u8], second: &[u8], third: &[u8]) -> Waits
     let three = place_in(words, Source::Mouse);
     let id = identity_in(words[MOUSE_AT]);
     Waits {
-        first: keyboard_waits(one, first, words[FIRST_WAITING_AT]),
-        second: keyboard_waits(two, second, words[SECOND_WAITING_AT]),
+        first: keyboard_waits(one, first, (words[FIRST_WAITING_AT] % 256) as u8),
+        second: keyboard_waits(two, second, (words[SECOND_WAITING_AT] % 256) as u8),
         mouse: mouse_waits(three, third, id),
     }
 }
@@ -201,7 +155,7 @@ fn put_turn(words: &mut [u64], source: Source, place: usize)
     ensures { words.new ≡ with_turn source place words.old }
 {
     words[place_at(source)] = place as u64;
-    words[LAST_AT] = source_number(source) as u64;
+    words[LAST_AT] = u64::from(source_number(source));
 }
 
 // A side's turn: one handler call on its unused bytes, on the handler's numbers. A refused call uses the turn too.
@@ -281,16 +235,10 @@ pub fn dispatcher_step(
         return no_call(21);
     }
     let waits = waits_in(words, first, second, third);
-    let last = last_in(words[LAST_AT]);
-    let turn = waits.serves(last);
-    match turn {
-        Turn::Serves(source) => match source {
-            Source::Keyboard(side) => match side {
-                Side::First => serve_keyboard(words, Side::First, first, log),
-                Side::Second => serve_keyboard(words, Side::Second, second, log),
-            },
-            Source::Mouse => serve_mouse(words, third),
-        },
-        Turn::Idle => no_call(0),
+    match waits.serves(last_in(words[LAST_AT])) {
+        Some(Source::Keyboard(Side::First)) => serve_keyboard(words, Side::First, first, log),
+        Some(Source::Keyboard(Side::Second)) => serve_keyboard(words, Side::Second, second, log),
+        Some(Source::Mouse) => serve_mouse(words, third),
+        None => no_call(0),
     }
 }

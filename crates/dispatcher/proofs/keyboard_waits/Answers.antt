@@ -1,10 +1,7 @@
 -- `dispatcher::keyboard_waits` meets its contract.
 -- Assumes nothing.
-use Rattle.dispatcher.proofs.Serving.{bytes_wait, no_bytes_wait}
+use Rattle.dispatcher.proofs.Serving.{no_bytes_wait}
 use Rattle.dispatcher.proofs.keyboard_waits.Goals as goal
 
-pub returns-then-place-script : goal.returns-then-place-script
-returns-then-place-script c = bytes_wait c.args.place c.args.script.now c.args.keyboard.waiting.count c.if-place-script.true
-
-pub returns : goal.returns
-returns c = no_bytes_wait c.args.place c.args.script.now c.args.keyboard.waiting.count c.if-place-script.false
+pub returns-else-place-bytes : goal.returns-else-place-bytes
+returns-else-place-bytes c = no_bytes_wait c.args.place c.args.bytes.now c.args.waiting c.if-place-bytes.false

@@ -10,4 +10,4 @@ use Rattle.dispatcher.proofs.mouse_waits.Goals as goal
 pub returns : goal.returns
 returns c =
     let s = c.start in
-    ap₂ leb c.packet_length.ensures (sym (length-drop s.result c.args.script.now) ∙ ap (λ (l : List ℕ). length l) s.ensures.1)
+    ap₂ leb c.packet_length.ensures (sym (length-drop s.result c.args.bytes.now) ∙ ap (λ (l : List ℕ). length l) s.ensures.rest)

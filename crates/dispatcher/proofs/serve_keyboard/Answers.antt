@@ -7,8 +7,8 @@ use Rattle.dispatcher.proofs.serve_keyboard.Goals as goal
 
 pub overflow_add-place : goal.overflow_add-place
 overflow_add-place c =
-    omega (arith, keyboard_used_le keyboard_lamps c.args.side c.args.state c.args.script.now _ c.at-place.result c.start-from.result c.at-place.ensures c.start-from.ensures.1 c.handle-call.ensures.0, c.well_formed)
+    omega (arith, keyboard_used_le keyboard_lamps c.args.side c.args.state c.args.script.now _ c.at-place.result c.start.result c.at-place.ensures c.start.ensures.rest c.handle-call.ensures.0, c.well_formed)
 
 pub returns : goal.returns
 returns c =
-    keyboard_served keyboard_lamps c.args.side c.args.state c.args.script.now _ c.at-place.result c.start-from.result c.at-place.ensures c.start-from.ensures.1 c.handle-call.ensures c.with_place.ensures c.turn_over.ensures
+    keyboard_served keyboard_lamps c.args.side c.args.state c.args.script.now _ c.at-place.result c.start.result c.at-place.ensures c.start.ensures.rest c.handle-call.ensures c.with_place.ensures c.turn_over.ensures

@@ -3,4 +3,4 @@
 use Rattle.dispatcher_words.proofs.put_turn.Goals as goal
 
 pub returns : goal.returns
-returns c = rw (c.place_at.ensures.0, c.source_number.ensures)
+returns c = rw (c.place_at.ensures.0, c.from.ensures, c.source_number.ensures)

@@ -10,4 +10,4 @@ bounds-words-148 c = simp length-set (omega (arith, c.requires))
 
 pub returns : goal.returns
 returns c =
-    rw (c.wide.ensures, c.to_byte.ensures) (unserved_stored c.args.words.now c.requires _)
+    rw (c.from-2.ensures, c.from.ensures) (unserved_stored c.args.words.now c.requires _)

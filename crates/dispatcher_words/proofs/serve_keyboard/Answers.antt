@@ -12,8 +12,8 @@ slice_bounds-handle_at-end-2 c =
 
 pub overflow_add-place : goal.overflow_add-place
 overflow_add-place c =
-    omega (arith, keyboard_used c.args.side c.args.words.now c.args.script.now c.args.log.now c.requires c.place_in-place.result c.start-from.result c.place_in-place.ensures c.start-from.ensures.1 c.source_number-number.ensures c.handle_at-call.ensures, c.well_formed)
+    omega (arith, keyboard_used c.args.side c.args.words.now c.args.script.now c.args.log.now c.requires c.place_in-place.result c.start-from.result c.place_in-place.ensures c.start-from.ensures.rest c.source_number-number.ensures c.handle_at-call.ensures, c.well_formed)
 
 pub returns : goal.returns
 returns c =
-    keyboard_turn c.args.side c.args.words.now c.args.script.now c.args.log.now c.requires c.place_in-place.result c.start-from.result c.place_in-place.ensures c.start-from.ensures.1 c.source_number-number.ensures c.handle_at-call.ensures c.handle_at-call.auto.words c.refusing_packet_words.ensures c.put_turn.ensures
+    keyboard_turn c.args.side c.args.words.now c.args.script.now c.args.log.now c.requires c.place_in-place.result c.start-from.result c.place_in-place.ensures c.start-from.ensures.rest c.source_number-number.ensures c.handle_at-call.ensures c.handle_at-call.auto.words c.refusing_packet_words.ensures c.put_turn.ensures
