@@ -1,11 +1,11 @@
 -- What the number of an argument stands for, if anything.
 -- Assumes nothing.
 use Rattle.std.proofs.Math.Option.{Option, none, some}
-use Rattle.std.specs.Prelude.{ℕ}
+use Rattle.std.specs.Prelude.{ℕ, Some, None}
+use Rattle.std.specs.Prelude as rust
 use Rattle.bits.specs.Table.{decode}
 use Rattle.ps2_bytes.specs.Responses.{mouse_ids}
 use Rattle.ps2_bytes.specs.declared.response.MouseId.{MouseId}
-use Rattle.argument_words.specs.declared.FoundIdentity.{FoundIdentity}
 
 -- What is answered where an argument stands for nothing. It is no number of documents 01 and 02.
 abbrev pub means_nothing : ℕ
@@ -15,7 +15,7 @@ means_nothing = 255
 abbrev pub identity_at : ℕ → Option MouseId
 identity_at n = decode some none mouse_ids n
 
--- The identity that was found.
-abbrev pub said_identity : FoundIdentity → Option MouseId
-said_identity (FoundIdentity.Identity id) = some id
-said_identity FoundIdentity.Nothing = none
+-- The identity that was found, in the option of the definitions.
+abbrev pub said_identity : rust.Option MouseId → Option MouseId
+said_identity (Some id) = some id
+said_identity None = none

@@ -1,5 +1,5 @@
 // Numbers that are passed for what a program in another language has no type for: what each stands for, if anything.
-#![tactic(auto)]
+#![tactic(auto, unfolding(bits::specs::Table::decode))]
 
 ghost use Rattle.std.specs.Prelude.{◌≡◌};
 ghost use Rattle.argument_words.specs.Arguments.{identity_at, said_identity};
@@ -10,20 +10,9 @@ use ps2_bytes::MouseId;
 pub const MEANS_NOTHING: u32 = 255;
 
 // The mouse's identity that a number stands for, if any.
-#[derive(Clone, Copy)]
-pub enum FoundIdentity {
-    Identity(MouseId),
-    Nothing,
-}
-
-// The mouse's identity that a number stands for.
-pub fn identity_of(identity: u32) -> FoundIdentity
+pub fn identity_of(identity: u32) -> Option<MouseId>
     ensures { said_identity result ≡ identity_at identity }
 {
-    match identity {
-        0 => FoundIdentity::Identity(MouseId::Zero),
-        3 => FoundIdentity::Identity(MouseId::Three),
-        4 => FoundIdentity::Identity(MouseId::Four),
-        _ => FoundIdentity::Nothing,
-    }
+    let byte = u8::try_from(identity).ok()?;
+    MouseId::try_from(byte).ok()
 }

@@ -8,10 +8,7 @@ use lib.Dec.{T, ltb, ltb→lt}
 use Rattle.bits.specs.Bits.{bit}
 use Rattle.keyboard_modifiers.specs.declared.KeyboardModifiers.{KeyboardModifiers}
 use Rattle.keyboard_modifiers.specs.Flags.{shift_left, shift_right, caps_lock}
-use Rattle.keycodes_ascii.specs.declared.Character.{Character}
-use Rattle.keycodes_ascii.specs.declared.Character.TheVariants.{Ascii, Absent}
-use Rattle.keycodes_ascii.specs.declared.FoundKeycode.{FoundKeycode}
-use Rattle.keycodes_ascii.specs.declared.FoundKeycode.TheVariants.{Found, Unknown}
+use Rattle.std.specs.Prelude.{Option, Some, None}
 use Rattle.keycodes_ascii.specs.declared.KeyAction.{KeyAction}
 use Rattle.keycodes_ascii.specs.declared.Keycode.{Keycode}
 use Rattle.keycodes_ascii.specs.Characters.{writes, character, character_of}
@@ -25,11 +22,11 @@ number_in : (k : Keycode) → number_of k < 256
 unfolding keycodes
 number_in k = ltb→lt (number_of k) 256 (every_keycode (λ j. ltb (number_of j) 256) tt tt k)
 
-above : (n : ℕ) (f : FoundKeycode) → 256 ≤ n → Has n f → Unknown ≡ f
-above n (Found k) h e = absurd (omega (arith, number_in k, e))
-above n Unknown h e = refl
+above : (n : ℕ) (f : Option Keycode) → 256 ≤ n → Has n f → None ≡ f
+above n (Some k) h e = absurd (omega (arith, number_in k, e))
+above n None h e = refl
 
-pub keycode_above : (n : ℕ) → 256 ≤ n → Unknown ≡ keycode_of n
+pub keycode_above : (n : ℕ) → 256 ≤ n → None ≡ keycode_of n
 keycode_above n h = above n (keycode_of n) h (keycode_has n)
 
 -- ---- characters are ASCII, so that 255 is none of them
@@ -50,11 +47,11 @@ character_ascii k m = ltb→lt _ 128 (is_ascii k (bit shift_left m.bits || bit s
 
 -- ---- and no key writes the character 0, so that it says that there is none
 
-absent : (x : Character) → (x ≡ Ascii 0 → ⊥) → character_number x ≡ 0 → x ≡ Absent
-absent (Ascii n) h e = absurd (h (ap Ascii e))
-absent Absent h e = refl
+absent : (x : Option ℕ) → (x ≡ Some 0 → ⊥) → character_number x ≡ 0 → x ≡ None
+absent (Some n) h e = absurd (h (ap Some e))
+absent None h e = refl
 
-pub character_absent : (k : Keycode) (m : KeyboardModifiers) → character_number (character_of k m) ≡ 0 → character_of k m ≡ Absent
+pub character_absent : (k : Keycode) (m : KeyboardModifiers) → character_number (character_of k m) ≡ 0 → character_of k m ≡ None
 unfolding character_of
 character_absent k m =
     absent (character_of k m) (nul_free k (bit shift_left m.bits || bit shift_right m.bits) (bit caps_lock m.bits))

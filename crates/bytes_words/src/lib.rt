@@ -6,12 +6,12 @@ ghost use Rattle.argument_words.specs.Arguments.{identity_at};
 ghost use Rattle.keycodes_ascii.specs.Keycode.{keycode_of};
 ghost use Rattle.report_totals.specs.Events.{code_of};
 ghost use Rattle.bytes_words.specs.Keys.{flags_at, action_at, character_number, character_at, event_code_at};
-ghost use Rattle.bytes_words.specs.Parts.{said_flags, said_action, is_found};
+ghost use Rattle.bytes_words.specs.Parts.{is_found};
 ghost use Rattle.bytes_words.specs.Outputs.{StreamConverted, TextTyped, RecordingSalvaged};
 
-use argument_words::{FoundIdentity, MEANS_NOTHING, identity_of};
+use argument_words::{MEANS_NOTHING, identity_of};
 use keyboard_modifiers::KeyboardModifiers;
-use keycodes_ascii::{Character, FoundKeycode, KeyAction, Keycode};
+use keycodes_ascii::{KeyAction, Keycode};
 
 // What a conversion answers: the refusal's number, 0 where there is none; bytes of the stream used, bytes of the output written.
 #[repr(C)]
@@ -40,79 +40,48 @@ pub struct SalvagedWords {
     pub dropped: usize,
 }
 
-// The flags and the action that a number stands for, if any.
-#[derive(Clone, Copy)]
-enum FoundFlags {
-    Flags(KeyboardModifiers),
-    Nothing,
-}
-
-#[derive(Clone, Copy)]
-enum FoundAction {
-    Action(KeyAction),
-    Nothing,
-}
-
-fn wide(x: u8) -> u32
-    ensures { result ≡ x }
-{
-    x as u32
-}
-
-// Whether a number is a keycode's: those of events, up to 5D, and the release codes of the modifier keys.
+// Whether a number is a keycode's: those of events, and the release codes of the modifier keys.
 fn is_keycode(keycode: u32) -> bool
     ensures { result ≡ is_found (keycode_of keycode) }
 {
-    if keycode <= 0x5D {
-        return true;
-    }
-    match keycode {
-        0x9D => true,
-        0xAA => true,
-        0xB6 => true,
-        0xB8 => true,
-        0xDB => true,
-        0xDC => true,
-        _ => false,
-    }
+    keycode_of(keycode).is_some()
 }
 
-fn flags_of(flags: u32) -> FoundFlags
-    ensures { said_flags result ≡ flags_at flags }
+// The flags that a number stands for, if any. Kept, C interface, as the next: C passes numbers for what it has no type for.
+fn flags_of(flags: u32) -> Option<KeyboardModifiers>
+    ensures { result ≡ flags_at flags }
 {
-    if flags < 65536 {
-        let bits = flags as u16;
-        return FoundFlags::Flags(KeyboardModifiers { bits });
-    }
-    FoundFlags::Nothing
+    let bits = u16::try_from(flags).ok()?;
+    Some(KeyboardModifiers { bits })
 }
 
-fn action_of(action: u32) -> FoundAction
-    ensures { said_action result ≡ action_at action }
+// The action that a number stands for, if any.
+fn action_of(action: u32) -> Option<KeyAction>
+    ensures { result ≡ action_at action }
 {
     match action {
-        0 => FoundAction::Action(KeyAction::Pressed),
-        1 => FoundAction::Action(KeyAction::Released),
-        _ => FoundAction::Nothing,
+        0 => Some(KeyAction::Pressed),
+        1 => Some(KeyAction::Released),
+        _ => None,
     }
 }
 
 // The keycode that has this number.
-fn keycode_of(keycode: u32) -> FoundKeycode
+fn keycode_of(keycode: u32) -> Option<Keycode>
     ensures { result ≡ keycode_of keycode }
 {
     if keycode < 256 {
-        return Keycode::from_byte(keycode as u8);
+        return Keycode::try_from(keycode as u8).ok();
     }
-    FoundKeycode::Unknown
+    None
 }
 
-fn character_number(found: Character) -> u32
+fn character_number(found: Option<u8>) -> u32
     ensures { result ≡ character_number found }
 {
     match found {
-        Character::Ascii(ascii) => wide(ascii),
-        Character::Absent => 0,
+        Some(ascii) => u32::from(ascii),
+        None => 0,
     }
 }
 
@@ -120,14 +89,9 @@ fn character_number(found: Character) -> u32
 pub fn character(keycode: u32, flags: u32) -> u32
     ensures { result ≡ character_at (keycode_of keycode) (flags_at flags) }
 {
-    let found = keycode_of(keycode);
-    let held = flags_of(flags);
-    match found {
-        FoundKeycode::Found(key) => match held {
-            FoundFlags::Flags(modifiers) => character_number(key.to_ascii(modifiers)),
-            FoundFlags::Nothing => MEANS_NOTHING,
-        },
-        FoundKeycode::Unknown => MEANS_NOTHING,
+    match (keycode_of(keycode), flags_of(flags)) {
+        (Some(key), Some(held)) => character_number(key.to_ascii(held)),
+        _ => MEANS_NOTHING,
     }
 }
 
@@ -145,13 +109,9 @@ fn code_of(action: KeyAction, number: u32) -> u32
 pub fn event_code(keycode: u32, action: u32) -> u32
     ensures { result ≡ event_code_at (keycode_of keycode) (action_at action) }
 {
-    if !is_keycode(keycode) {
-        return MEANS_NOTHING;
-    }
-    let done = action_of(action);
-    match done {
-        FoundAction::Action(act) => code_of(act, keycode),
-        FoundAction::Nothing => MEANS_NOTHING,
+    match action_of(action) {
+        Some(done) if is_keycode(keycode) => code_of(done, keycode),
+        _ => MEANS_NOTHING,
     }
 }
 
@@ -160,9 +120,11 @@ pub fn convert_set2(stream: &[u8], out: &mut [u8]) -> ConvertedWords
     ensures { StreamConverted stream.now out.old result out.new }
 {
     let converted = scancode_set2::convert(stream, out);
-    let answer = converted.answer;
     ConvertedWords {
-        refusal: wide(answer.number()),
+        refusal: match converted.answer {
+            Ok(()) => 0,
+            Err(refusal) => u32::from(refusal.number()),
+        },
         used: converted.used,
         written: converted.written,
     }
@@ -172,11 +134,15 @@ pub fn convert_set2(stream: &[u8], out: &mut [u8]) -> ConvertedWords
 pub fn type_text(text: &[u8], out: &mut [u8]) -> WrittenWords
     ensures { TextTyped text.now out.old result out.new }
 {
-    let typed = typing::type_text(text, out);
-    let answer = typed.answer;
-    WrittenWords {
-        refusal: wide(answer.number()),
-        written: typed.written,
+    match typing::type_text(text, out) {
+        Ok(written) => WrittenWords {
+            refusal: 0,
+            written,
+        },
+        Err(refusal) => WrittenWords {
+            refusal: u32::from(refusal.number()),
+            written: 0,
+        },
     }
 }
 
@@ -189,19 +155,20 @@ pub fn salvage(
 ) -> SalvagedWords
     ensures { RecordingSalvaged (identity_at identity) bytes.now packets.old positions.old result packets.new positions.new }
 {
-    let found = identity_of(identity);
-    match found {
-        FoundIdentity::Identity(id) => {
+    match identity_of(identity) {
+        Some(id) => {
             let salvaged = ps2_salvage::salvage(id, bytes, packets, positions);
-            let answer = salvaged.answer;
             SalvagedWords {
-                refusal: wide(answer.number()),
+                refusal: match salvaged.answer {
+                    Ok(()) => 0,
+                    Err(refusal) => u32::from(refusal.number()),
+                },
                 used: salvaged.used,
                 packet_bytes: salvaged.packet_bytes,
                 dropped: salvaged.dropped,
             }
         }
-        FoundIdentity::Nothing => SalvagedWords {
+        None => SalvagedWords {
             refusal: MEANS_NOTHING,
             used: 0,
             packet_bytes: 0,

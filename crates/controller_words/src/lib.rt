@@ -2,14 +2,11 @@
 #![tactic(auto)]
 
 ghost use Rattle.std.specs.Prelude.{not, ◌≡◌, eqb};
-ghost use Rattle.bits.specs.Bits.{weigh};
-ghost use Rattle.ps2_answers.specs.Refusals.{said_done};
 ghost use Rattle.ps2_init.specs.Init.{initialize};
 ghost use Rattle.port_words.specs.Tells.{Tells};
-ghost use Rattle.controller_words.specs.Controller.{controller_of, controller_numbers, init_numbers, told_init};
+ghost use Rattle.controller_words.specs.Controller.{controller_of, told_init};
 
-use port_words::completed_words;
-use ps2_answers::Completed;
+use port_words::answer_words;
 use ps2_init::{Initialized, PS2Controller, init};
 
 // What is known of the controller: whether it was initialised, and whether the keyboard and the mouse passed their resets then. Any number but 0 says yes; 1 does where the library writes it.
@@ -21,7 +18,7 @@ pub struct ControllerWords {
     pub mouse: u32,
 }
 
-// What initialisation answers: the refusal, 0 where there is none; the port of the read that the script was too short for, or 0; script bytes used and pairs written; and the controller as it is left.
+// Kept with its counts as fields: C gets it so. What initialisation answers: the refusal, 0 where there is none; the port of the read that the script was too short for, or 0; script bytes used and pairs written; and the controller as it is left.
 #[repr(C)]
 #[derive(Clone, Copy)]
 pub struct InitializedWords {
@@ -32,62 +29,61 @@ pub struct InitializedWords {
     pub controller: ControllerWords,
 }
 
+// Any number but 0 says yes.
 fn is_set(word: u32) -> bool
     ensures { result ≡ not (eqb word 0) }
 {
     word != 0
 }
 
-fn bit_word(bit: bool) -> u32
-    ensures { result ≡ weigh bit }
-{
-    if bit { 1 } else { 0 }
-}
-
 // The record that the numbers stand for, and the numbers of a record.
-fn controller_of(words: ControllerWords) -> PS2Controller
-    ensures { result ≡ controller_of words }
-{
-    PS2Controller {
-        initialized: is_set(words.initialized),
-        keyboard_attached: is_set(words.keyboard),
-        mouse_attached: is_set(words.mouse),
+impl From<ControllerWords> for PS2Controller {
+    ghost use Rattle.controller_words.specs.Controller.{controller_of};
+
+    ghost from_gives = { λ words controller. controller ≡ controller_of words };
+
+    fn from(words: ControllerWords) -> PS2Controller {
+        PS2Controller {
+            initialized: is_set(words.initialized),
+            keyboard_attached: is_set(words.keyboard),
+            mouse_attached: is_set(words.mouse),
+        }
     }
 }
 
-fn controller_words(controller: PS2Controller) -> ControllerWords
-    ensures { result ≡ controller_numbers controller }
-{
-    ControllerWords {
-        initialized: bit_word(controller.initialized),
-        keyboard: bit_word(controller.keyboard_attached),
-        mouse: bit_word(controller.mouse_attached),
+impl From<PS2Controller> for ControllerWords {
+    ghost use Rattle.controller_words.specs.Controller.{controller_numbers};
+
+    ghost from_gives = { λ controller words. words ≡ controller_numbers controller };
+
+    fn from(controller: PS2Controller) -> ControllerWords {
+        ControllerWords {
+            initialized: u32::from(controller.initialized),
+            keyboard: u32::from(controller.keyboard_attached),
+            mouse: u32::from(controller.mouse_attached),
+        }
     }
 }
 
-fn initialized_words(initialized: Initialized) -> InitializedWords
-    ensures { result ≡ init_numbers (said_done initialized.answer) initialized.used initialized.pairs initialized.controller }
-{
-    let used = initialized.used;
-    let pairs = initialized.pairs;
-    let answer = initialized.answer;
-    let left = initialized.controller;
-    let told = completed_words(Completed {
-        answer,
-        used,
-        pairs,
-    });
-    let controller = controller_words(left);
-    InitializedWords {
-        refusal: told.refusal,
-        port: told.port,
-        used,
-        pairs,
-        controller,
+impl From<Initialized> for InitializedWords {
+    ghost use Rattle.ps2_answers.specs.Answers.{ended, used_of, pairs_of};
+    ghost use Rattle.controller_words.specs.Controller.{init_numbers};
+
+    ghost from_gives = { λ initialized words. words ≡ init_numbers (ended initialized.answer) (used_of initialized.answer) (pairs_of initialized.answer) initialized.controller };
+
+    fn from(initialized: Initialized) -> InitializedWords {
+        let told = answer_words(initialized.answer);
+        InitializedWords {
+            refusal: told.refusal,
+            port: told.port,
+            used: told.used,
+            pairs: told.pairs,
+            controller: ControllerWords::from(initialized.controller),
+        }
     }
 }
 
-// Initialises the controller, unless it was before. It becomes initialised only where all steps were done.
+// Initialises the controller, unless it was before. It becomes initialised only where all steps were done. Kept as two slices: document 01 has each call take a script and a log.
 pub fn controller_init(
     controller: ControllerWords,
     script: &[u8],
@@ -95,5 +91,5 @@ pub fn controller_init(
 ) -> InitializedWords
     ensures { Tells (told_init (controller_of controller)) (initialize (controller_of controller)) script.now log.old result log.new }
 {
-    initialized_words(init(controller_of(controller), script, log))
+    InitializedWords::from(init(PS2Controller::from(controller), script, log))
 }

@@ -4,12 +4,13 @@ use mathlib.Core.Path.{◌≡◌, refl, sym, ap, ◌∙◌}
 use Prim.Native.Nat.{ℕ, ◌+◌, ◌*◌, ◌/◌, ◌%◌, ◌<◌}
 use native.Mathlib.Omega.{arith}
 use lib.Dec.{ltb, ltb→lt}
-use Rattle.keycodes_ascii.specs.declared.FoundKeycode.{FoundKeycode}
+use Rattle.std.specs.Prelude.{Option, Result, Ok, Err}
 use Rattle.keycodes_ascii.specs.declared.Keycode.{Keycode}
 use Rattle.keycodes_ascii.specs.declared.KeyAction.{KeyAction}
 use Rattle.keycodes_ascii.specs.declared.KeyEvent.{KeyEvent}
-use Rattle.keycodes_ascii.specs.Keycode.{number_of, keycodes, keycode_of}
-use Rattle.keycodes_ascii.proofs.Codes.{every_keycode, keycode_number}
+use Rattle.keycodes_ascii.specs.declared.NoKeycode.{NoKeycode}
+use Rattle.keycodes_ascii.specs.Keycode.{number_of, keycodes, keycode_of, keycode_read}
+use Rattle.keycodes_ascii.proofs.Codes.{every_keycode, keycode_number, read_ok, read_err}
 use Rattle.keyboard_scancodes.specs.Events.{the_keycode, keycode_at}
 use Rattle.handler_words.specs.Words.{flags_limit, action_of, action_number, event_at, word_of}
 
@@ -43,11 +44,11 @@ event_at_lem v h =
 
 -- ---- a keycode by its number
 
-module _ (w : ℕ) {f : FoundKeycode} {b : ℕ} (q : f ≡ keycode_of b) (r : b ≡ w % 256) where
-  pub found_in : {k : Keycode} → f ≡ FoundKeycode.Found k → k ≡ (event_at w).keycode
+module _ (w : ℕ) {f : Result Keycode NoKeycode} {b : ℕ} (q : f ≡ keycode_read b) (r : b ≡ w % 256) where
+  pub found_in : {k : Keycode} → f ≡ Ok k → k ≡ (event_at w).keycode
   unfolding event_at keycode_at
-  found_in e = ap the_keycode (sym e ∙ q ∙ ap keycode_of r)
+  found_in e = ap the_keycode (read_ok b q e ∙ ap keycode_of r)
 
-  pub none_in : f ≡ FoundKeycode.Unknown → 0 ≡ number_of (event_at w).keycode
+  pub none_in : {x : NoKeycode} → f ≡ Err x → 0 ≡ number_of (event_at w).keycode
   unfolding event_at keycode_at
-  none_in e = ap (λ (g : FoundKeycode). number_of (the_keycode g)) (sym e ∙ q ∙ ap keycode_of r)
+  none_in e = ap (λ (g : Option Keycode). number_of (the_keycode g)) (read_err b q e ∙ ap keycode_of r)

@@ -1,7 +1,7 @@
 -- What the parts of the code that have contracts of their own promise.
 -- Assumes nothing.
 use Rattle.std.proofs.Math.Option.{Option, none, some}
-use Rattle.std.specs.Prelude.{◌≡◌, ℕ, ◌<◌, ◌≤◌, Bool, true, false, ◌||◌, List, [], eqb, length, get_or}
+use Rattle.std.specs.Prelude.{◌≡◌, ℕ, ◌<◌, ◌≤◌, Bool, true, false, ◌||◌, List, [], eqb, length, get_or, Option as Maybe, Some}
 use Rattle.exchange.specs.Answer.{number_answered}
 use Rattle.keycodes_ascii.specs.declared.KeyEvent.{KeyEvent}
 use Rattle.keyboard_scancodes.specs.declared.KeyboardState.{KeyboardState}
@@ -16,7 +16,6 @@ use Rattle.keyboard_record.specs.declared.Table.{Table}
 use Rattle.keyboard_record.specs.declared.HandlerState.{HandlerState}
 use Rattle.keyboard_record.specs.Limits.{queue_length}
 use Rattle.keyboard_record.specs.Record.{keyboard_at, is_ready}
-use Rattle.keyboard.specs.declared.NewEvent.{NewEvent}
 use Rattle.keyboard.specs.Handler.{Outcome}
 use Rattle.handler_words.specs.declared.FoundTable.{FoundTable}
 use Rattle.handler_words.specs.declared.HandledWords.{HandledWords}
@@ -37,8 +36,8 @@ pub record Narrow (k : KeyboardState) : Type 0 where
   pub high_is : bytes_in 8 (high_bytes k) ≡ bytes_from k.waiting.bytes 8 8
 
 -- Where there is a new event, there is a place for it.
-pub record Placed (start count : ℕ) (n : NewEvent) : Type 0 where
-  pub at : (e : KeyEvent) → n ≡ NewEvent.Event e → (start < queue_length) × (count ≤ queue_length)
+pub record Placed (start count : ℕ) (n : Maybe KeyEvent) : Type 0 where
+  pub at : (e : KeyEvent) → n ≡ Some e → (start < queue_length) × (count ≤ queue_length)
 
 -- The event that the number of an event stands for, if there is one.
 abbrev pub reread : Option KeyEvent → Option KeyEvent

@@ -24,14 +24,14 @@ ghost use Rattle.handler_words.specs.Calls.{refusing, with_keyboard_at, with_sid
 ghost use Rattle.handler_words.specs.Parts.{said_table, Narrow, Placed, reread, Says, FromScript, KeyAlone, followed_by, byte_used, PlainKey, KeyQueued, KeyHandled};
 
 use argument_words::MEANS_NOTHING;
-use keyboard::{HandlerAnswer, NewEvent, effect_of};
+use keyboard::{HandlerAnswer, HandlerRefusal, effect_of, number_of};
 use keyboard_modifiers::KeyboardModifiers;
-use keyboard_record::{HandlerState, Keyboards, QUEUE_LENGTH, Room, Table};
+use keyboard_record::{HandlerState, Keyboards, NoRoom, QUEUE_LENGTH, Table};
 use keyboard_scancodes::{
     KeyboardState, Profile, WaitingBytes, is_lock_press, is_plain, is_silent, modifiers_after,
 };
 use keyboard_sides::{Side, Sides};
-use keycodes_ascii::{FoundKeycode, KeyAction, KeyEvent, Keycode};
+use keycodes_ascii::{KeyAction, KeyEvent, Keycode};
 use ps2_answers::Lack;
 use ps2_kept::KEPT_LIMIT;
 
@@ -277,7 +277,7 @@ fn event_word(event: KeyEvent) -> u64
     let keycode = event.keycode;
     let action = event.action;
     let modifiers = event.modifiers;
-    let key = wide_byte(keycode.to_byte());
+    let key = wide_byte(u8::from(keycode));
     let act = action_word(action);
     let flags = wide_flags(modifiers.bits);
     key + 256 * act + 65536 * flags
@@ -328,11 +328,17 @@ fn put_event(words: &mut [u64], place: usize, left: HandlerState, event: KeyEven
 }
 
 // Stores the new event, if there is one, in the first place behind those that waited.
-fn put_new(words: &mut [u64], start: usize, count: usize, left: HandlerState, event: NewEvent)
+fn put_new(
+    words: &mut [u64],
+    start: usize,
+    count: usize,
+    left: HandlerState,
+    event: Option<KeyEvent>,
+)
     requires { (length words.old ≡ words_length) × Placed start count event }
     ensures { (words.new ≡ with_event ((start + count) % 128) left (said_event event) words.old) × (reread (said_event event) ≡ said_event event) }
 {
-    if let NewEvent::Event(new) = event {
+    if let Some(new) = event {
         let place = (start + count) % QUEUE_LENGTH;
         put_event(words, place, left, new);
     }
@@ -363,16 +369,8 @@ fn port_lacked(answer: HandlerAnswer) -> u32
     ensures { result ≡ port_lacked (said_call answer) }
 {
     match answer {
-        HandlerAnswer::Lacking(lack) => match lack {
-            Lack::Script(port) => wide_number(port.number()),
-            Lack::Log => 0,
-        },
-        HandlerAnswer::Done => 0,
-        HandlerAnswer::UnknownScancode => 0,
-        HandlerAnswer::QueueFull => 0,
-        HandlerAnswer::MalformedRecord => 0,
-        HandlerAnswer::SideFull => 0,
-        HandlerAnswer::OutsideProfile => 0,
+        Err(HandlerRefusal::Lacking(Lack::Script(port))) => wide_number(port.number()),
+        _ => 0,
     }
 }
 
@@ -400,9 +398,8 @@ fn queue_key(
     if LAST_KEYCODE < scan_code % 128 {
         return 19;
     }
-    let room = left.room_of(side);
-    match room {
-        Room::Free => {
+    match left.room_of(side) {
+        Ok(()) => {
             let count = left.count;
             let place = (left.start + count) % QUEUE_LENGTH;
             let sides = left.sides;
@@ -410,9 +407,9 @@ fn queue_key(
             put_place(words, place, word, count + 1, sides.with_side(side, count));
             0
         }
-        Room::OutsideProfile => 33,
-        Room::SideFull => 31,
-        Room::QueueFull => 20,
+        Err(NoRoom::OutsideProfile) => 33,
+        Err(NoRoom::SideFull) => 31,
+        Err(NoRoom::QueueFull) => 20,
     }
 }
 
@@ -505,7 +502,7 @@ fn handle_side(words: &mut [u64], side: Side, script: &[u8], log: &mut [u8]) -> 
     let answer = effect.answer;
     let left = effect.state;
     let event = effect.event;
-    let refusal = wide_number(answer.number());
+    let refusal = wide_number(number_of(answer));
     let lamps = lamps_number(effect.lamps_failed);
     let port = port_lacked(answer);
     let handled = HandledWords {
@@ -641,10 +638,10 @@ fn side_number(side: Side) -> u32
 fn keycode_in(word: u64) -> u32
     ensures { result ≡ number_of (event_at word).keycode }
 {
-    let found = Keycode::from_byte(low_byte(word));
+    let found = Keycode::try_from(low_byte(word));
     match found {
-        FoundKeycode::Found(keycode) => wide_number(keycode.to_byte()),
-        FoundKeycode::Unknown => 0,
+        Ok(keycode) => wide_number(u8::from(keycode)),
+        Err(_) => 0,
     }
 }
 

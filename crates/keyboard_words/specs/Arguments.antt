@@ -1,6 +1,7 @@
 -- What the numbers of an argument stand for.
 -- Assumes nothing.
-use Rattle.std.specs.Prelude.{cond, List, [], ◌∷◌, ℕ, ltb}
+use Rattle.std.specs.Prelude.{cond, List, [], ◌∷◌, ℕ, ltb, Some, None}
+use Rattle.std.specs.Prelude as rust
 use Rattle.std.proofs.Math.Option.{Option, none, some}
 use Rattle.bits.specs.Table.{rows, decode}
 use Rattle.ps2_layouts.specs.declared.leds.LEDState.{LEDState}
@@ -10,8 +11,6 @@ use Rattle.ps2_bytes.specs.declared.data.ScancodeSet.{ScancodeSet}
 use Rattle.ps2_bytes.specs.declared.data.ScancodeSet.TheVariants.{Set1, Set2, Set3}
 use Rattle.ps2_bytes.specs.Commands.{keyboard_byte}
 use Rattle.ps2_bytes.specs.Data.{scancode_set_byte}
-use Rattle.keyboard_words.specs.declared.FoundCommand.{FoundCommand}
-use Rattle.keyboard_words.specs.declared.FoundSet.{FoundSet}
 
 -- A command to the keyboard, by its byte.
 abbrev pub commands : List (ℕ × HostToKeyboardCommand)
@@ -43,12 +42,8 @@ byte_limit = 256
 abbrev pub byte_at : ℕ → Option ℕ
 byte_at n = cond (ltb n byte_limit) (some n) none
 
--- ---- what the code found
+-- ---- what the code found, in the option of the definitions
 
-abbrev pub said_command : FoundCommand → Option HostToKeyboardCommand
-said_command (FoundCommand.Command c) = some c
-said_command FoundCommand.Nothing = none
-
-abbrev pub said_set_found : FoundSet → Option ScancodeSet
-said_set_found (FoundSet.Set s) = some s
-said_set_found FoundSet.Nothing = none
+abbrev pub said_found : {X : Type 0} → rust.Option X → Option X
+said_found (Some x) = some x
+said_found None = none

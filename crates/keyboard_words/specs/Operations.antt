@@ -6,8 +6,6 @@ use Rattle.exchange.specs.Answer.{Answer}
 use Rattle.exchange.specs.Keeping.{Kept}
 use Rattle.ps2_layouts.specs.declared.leds.LEDState.{LEDState}
 use Rattle.ps2_bytes.specs.declared.command.HostToKeyboardCommand.{HostToKeyboardCommand}
-use Rattle.ps2_bytes.specs.declared.response.KeyboardType.{KeyboardType}
-use Rattle.ps2_bytes.specs.declared.response.KeyboardType.TheVariants.{MF2Keyboard, MF2KeyboardWithPSControllerTranslator, AncientATKeyboard}
 use Rattle.ps2_answers.specs.Refusals.{Success}
 use Rattle.ps2_kept.specs.declared.KeptBytes.{KeptBytes}
 use Rattle.ps2_kept.specs.Kept.{keeping_thrown}
@@ -22,12 +20,6 @@ use Rattle.port_words.specs.Tells.{Tells, AtArgument}
 use Rattle.handler_words.specs.Layout.{words_length}
 use Rattle.handler_words.specs.Words.{record_of, words_of}
 use Rattle.handler_words.specs.Arguments.{table_at}
-
--- The types of a keyboard, numbered as the Rust lists them.
-abbrev pub type_number : KeyboardType → ℕ
-type_number MF2Keyboard = 1
-type_number MF2KeyboardWithPSControllerTranslator = 2
-type_number AncientATKeyboard = 3
 
 -- A command, and a lamp exchange, that hand back the bytes that they threw away.
 abbrev pub sending_command : HostToKeyboardCommand → Exchange (Kept KeptBytes (Answer Success))

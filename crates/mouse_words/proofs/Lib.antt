@@ -1,3 +1,2 @@
 -- The laws of the mouse's operations by numbers.
 pub mod Arguments
-pub mod Left

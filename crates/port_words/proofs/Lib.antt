@@ -1,3 +1,2 @@
 -- The laws of answers as numbers.
-pub mod Numbers
 pub mod Tells

@@ -3,6 +3,8 @@
 use Rattle.std.specs.Prelude.{ℕ}
 use Rattle.exchange.specs.Exchange.{Lack, no_script, no_log, End, yields, lacks, number}
 use Rattle.exchange.specs.Answer.{Answer, gives, refuses, number_ended}
+use Rattle.ps2_bytes.specs.declared.response.KeyboardType.{KeyboardType}
+use Rattle.ps2_bytes.specs.declared.response.KeyboardType.TheVariants.{MF2Keyboard, MF2KeyboardWithPSControllerTranslator, AncientATKeyboard}
 use Rattle.ps2_answers.specs.declared.Refusal.{Refusal}
 use Rattle.ps2_answers.specs.Refusals.{Success, lack_of}
 use Rattle.port_words.specs.declared.PortWords.{PortWords}
@@ -43,3 +45,9 @@ no_value s = 0
 -- A byte is its own number.
 abbrev pub byte_value : ℕ → ℕ
 byte_value b = b
+
+-- The types of a keyboard, numbered as the Rust lists them.
+abbrev pub type_number : KeyboardType → ℕ
+type_number MF2Keyboard = 1
+type_number MF2KeyboardWithPSControllerTranslator = 2
+type_number AncientATKeyboard = 3

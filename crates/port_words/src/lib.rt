@@ -1,23 +1,21 @@
 // What port operations answer, as numbers that cross to C: the refusal, the port of a lack, the counts, and what the operation gives.
 #![tactic(auto)]
 
-ghost use Rattle.std.specs.Prelude.{◌≡◌, ◌≤◌};
+ghost use Rattle.std.specs.Prelude.{◌≡◌, ℕ};
 ghost use Rattle.bits.specs.Bits.{weigh};
-ghost use Rattle.exchange.specs.Exchange.{yields};
-ghost use Rattle.exchange.specs.Answer.{gives, number_ended};
-ghost use Rattle.ps2_answers.specs.Refusals.{refused, said_done};
-ghost use Rattle.ps2_answers.specs.Answers.{said_byte, said_full};
-ghost use Rattle.ps2_packet_reading.specs.Reading.{said_signed};
-ghost use Rattle.port_words.specs.Told.{port_lacked, port_of_refusal, refusing, no_value, byte_value, told};
+ghost use Rattle.ps2_bytes.specs.Data.{scancode_set_byte};
+ghost use Rattle.ps2_bytes.specs.Responses.{mouse_id_byte};
+ghost use Rattle.ps2_answers.specs.Answers.{ended, used_of, pairs_of};
+ghost use Rattle.port_words.specs.Told.{port_of_refusal, refusing, no_value, byte_value, type_number, told};
 ghost use Rattle.port_words.specs.ToldKept.{refusing_kept, kept_numbers};
 ghost use Rattle.port_words.specs.ToldPacket.{buttons_of, refusing_packet, told_packet};
 
-use ps2_answers::{
-    ByteAnswer, ByteRead, Completed, Completion, FullAnswer, FullRead, Lack, Refusal,
-};
+use ps2_answers::{Answer, Lack, Refusal};
+use ps2_bytes::{KeyboardType, MouseId, ScancodeSet};
 use ps2_command::Commanded;
-use ps2_packet::MousePacket;
-use ps2_packet_reading::{SignedAnswer, SignedRead};
+use ps2_packet::{MousePacket, SignedPacket};
+
+// The three structs have their counts and 0s beside the refusal, and no `Result`: C reads them.
 
 // What a port operation answers: the refusal, 0 where there is none; the port of the read that the script was too short for, or 0; script bytes used and pairs written; and what the operation gives, 0 where it gives nothing.
 #[repr(C)]
@@ -56,23 +54,68 @@ pub struct PacketWords {
     pub wheel: i32,
 }
 
-fn wide(x: u8) -> u32
-    ensures { result ≡ x }
-{
-    x as u32
+// ---- the numbers of values
+
+// A value that an operation gives, as a number. Two bodies stand twice below: an impl is of one type, and one for whatever has a byte would be one of `()` too.
+pub trait Value: Copy {
+    ghost worth: { Self → ℕ };
+
+    fn number(self) -> u64
+        ensures { result ≡ worth self };
 }
 
-fn wider(x: u8) -> u64
-    ensures { result ≡ x }
-{
-    x as u64
+// Success is no value.
+impl Value for () {
+    ghost worth = { no_value };
+
+    fn number(self) -> u64 {
+        0
+    }
+}
+
+impl Value for u8 {
+    ghost worth = { byte_value };
+
+    fn number(self) -> u64 {
+        u64::from(self)
+    }
 }
 
 // 1 where it is so.
-fn weight(bit: bool) -> u64
-    ensures { result ≡ weigh bit }
-{
-    if bit { 1 } else { 0 }
+impl Value for bool {
+    ghost worth = { weigh };
+
+    fn number(self) -> u64 {
+        u64::from(self)
+    }
+}
+
+impl Value for ScancodeSet {
+    ghost worth = { scancode_set_byte };
+
+    fn number(self) -> u64 {
+        u64::from(u8::from(self))
+    }
+}
+
+impl Value for MouseId {
+    ghost worth = { mouse_id_byte };
+
+    fn number(self) -> u64 {
+        u64::from(u8::from(self))
+    }
+}
+
+impl Value for KeyboardType {
+    ghost worth = { type_number };
+
+    fn number(self) -> u64 {
+        match self {
+            KeyboardType::MF2Keyboard => 1,
+            KeyboardType::MF2KeyboardWithPSControllerTranslator => 2,
+            KeyboardType::AncientATKeyboard => 3,
+        }
+    }
 }
 
 // ---- an answer and a number
@@ -95,73 +138,29 @@ fn port_lacked(refusal: Refusal) -> u32
     ensures { result ≡ port_of_refusal refusal }
 {
     match refusal {
-        Refusal::Lacking(lack) => match lack {
-            Lack::Script(port) => wide(port.number()),
-            Lack::Log => 0,
+        Refusal::Lacking(Lack::Script(port)) => u32::from(port.number()),
+        Refusal::Lacking(Lack::Log) | Refusal::Failed(_) => 0,
+    }
+}
+
+// An answer, and its value's number.
+pub fn answer_words<V: Value>(answer: Answer<V>) -> PortWords
+    ensures { result ≡ told V.worth (ended answer) (used_of answer) (pairs_of answer) }
+{
+    match answer {
+        Ok(given) => PortWords {
+            refusal: 0,
+            port: 0,
+            used: given.used,
+            pairs: given.pairs,
+            value: given.value.number(),
         },
-        Refusal::Failed(_) => 0,
-    }
-}
-
-// A value, and a refusal, with their counts.
-pub fn value_words(value: u64, used: usize, pairs: usize) -> PortWords
-    ensures { result ≡ told byte_value (yields (gives value)) used pairs }
-{
-    PortWords {
-        refusal: 0,
-        port: 0,
-        used,
-        pairs,
-        value,
-    }
-}
-
-pub fn refused_words(refusal: Refusal, used: usize, pairs: usize) -> PortWords
-    ensures { result ≡ told no_value (refused refusal) used pairs }
-{
-    PortWords {
-        refusal: wide(refusal.number()),
-        port: port_lacked(refusal),
-        used,
-        pairs,
-        value: 0,
-    }
-}
-
-// Success, a byte, or whether a byte waits: 1 where it does.
-pub fn completed_words(completed: Completed) -> PortWords
-    ensures { result ≡ told no_value (said_done completed.answer) completed.used completed.pairs }
-{
-    let used = completed.used;
-    let pairs = completed.pairs;
-    let answer = completed.answer;
-    match answer {
-        Completion::Done => value_words(0, used, pairs),
-        Completion::Refused(refusal) => refused_words(refusal, used, pairs),
-    }
-}
-
-pub fn byte_words(read: ByteRead) -> PortWords
-    ensures { result ≡ told byte_value (said_byte read.answer) read.used read.pairs }
-{
-    let used = read.used;
-    let pairs = read.pairs;
-    let answer = read.answer;
-    match answer {
-        ByteAnswer::Byte(byte) => value_words(wider(byte), used, pairs),
-        ByteAnswer::Refused(refusal) => refused_words(refusal, used, pairs),
-    }
-}
-
-pub fn full_words(read: FullRead) -> PortWords
-    ensures { result ≡ told weigh (said_full read.answer) read.used read.pairs }
-{
-    let used = read.used;
-    let pairs = read.pairs;
-    let answer = read.answer;
-    match answer {
-        FullAnswer::Full(full) => value_words(weight(full), used, pairs),
-        FullAnswer::Refused(refusal) => refused_words(refusal, used, pairs),
+        Err(refused) => PortWords {
+            port: port_lacked(refused.value),
+            used: refused.used,
+            pairs: refused.pairs,
+            ..refusing_words(u32::from(refused.value.number()))
+        },
     }
 }
 
@@ -181,37 +180,19 @@ pub fn refusing_kept_words(refusal: u32) -> KeptWords
     }
 }
 
-// The number of a completion, 0 where nothing was refused, and the port of its lack.
-fn completion_number(answer: Completion) -> u32
-    ensures { result ≡ number_ended (said_done answer) }
-{
-    match answer {
-        Completion::Done => 0,
-        Completion::Refused(refusal) => wide(refusal.number()),
-    }
-}
-
-fn completion_port(answer: Completion) -> u32
-    ensures { result ≡ port_lacked (said_done answer) }
-{
-    match answer {
-        Completion::Done => 0,
-        Completion::Refused(refusal) => port_lacked(refusal),
-    }
-}
-
 pub fn commanded_words(commanded: Commanded) -> KeptWords
-    ensures { result ≡ kept_numbers (said_done commanded.answer) commanded.used commanded.pairs commanded.kept }
+    ensures { result ≡ kept_numbers (ended commanded.answer) (used_of commanded.answer) (pairs_of commanded.answer) commanded.kept }
 {
-    let answer = commanded.answer;
+    let answer = answer_words(commanded.answer);
+    // Kept as a variable: the borrow checker takes no array straight from a field into a literal.
     let kept = commanded.kept;
     let bytes = kept.bytes;
     KeptWords {
-        refusal: completion_number(answer),
-        port: completion_port(answer),
-        used: commanded.used,
-        pairs: commanded.pairs,
-        count: wide(kept.count),
+        refusal: answer.refusal,
+        port: answer.port,
+        used: answer.used,
+        pairs: answer.pairs,
+        count: u32::from(kept.count),
         others: kept.others,
         bytes,
     }
@@ -233,63 +214,35 @@ pub fn refusing_packet_words(refusal: u32) -> PacketWords
     }
 }
 
-fn bit_word(bit: bool) -> u32
-    ensures { (result ≡ weigh bit) × (result ≤ 1) }
-{
-    if bit { 1 } else { 0 }
-}
-
 // The buttons that are pressed, a bit each.
 fn buttons(packet: MousePacket) -> u32
     ensures { result ≡ buttons_of packet }
 {
-    let left = bit_word(packet.button_left());
-    let right = bit_word(packet.button_right());
-    let middle = bit_word(packet.button_middle());
-    let fourth = bit_word(packet.button_4());
-    let fifth = bit_word(packet.button_5());
+    let left = u32::from(packet.button_left());
+    let right = u32::from(packet.button_right());
+    let middle = u32::from(packet.button_middle());
+    let fourth = u32::from(packet.button_4());
+    let fifth = u32::from(packet.button_5());
     left + 2 * right + 4 * middle + 8 * fourth + 16 * fifth
 }
 
-// Movements and wheels in 32 bits.
-fn wide_movement(movement: i16) -> i32
-    ensures { result ≡ movement }
+pub fn packet_words(read: Answer<SignedPacket>) -> PacketWords
+    ensures { result ≡ told_packet (ended read) (used_of read) (pairs_of read) }
 {
-    movement as i32
-}
-
-fn wide_wheel(wheel: i8) -> i32
-    ensures { result ≡ wheel }
-{
-    wheel as i32
-}
-
-pub fn packet_words(read: SignedRead) -> PacketWords
-    ensures { result ≡ told_packet (said_signed read.answer) read.used read.pairs }
-{
-    let used = read.used;
-    let answer = read.answer;
-    match answer {
-        SignedAnswer::Packet(signed) => {
-            let packet = signed.packet;
-            PacketWords {
-                refusal: 0,
-                port: 0,
-                used,
-                buttons: buttons(packet),
-                x: wide_movement(packet.x_movement()),
-                y: wide_movement(packet.y_movement()),
-                wheel: wide_wheel(signed.scroll_movement()),
-            }
-        }
-        SignedAnswer::Refused(refusal) => PacketWords {
-            refusal: wide(refusal.number()),
-            port: port_lacked(refusal),
-            used,
-            buttons: 0,
-            x: 0,
-            y: 0,
-            wheel: 0,
+    match read {
+        Ok(packet) => PacketWords {
+            refusal: 0,
+            port: 0,
+            used: packet.used,
+            buttons: buttons(packet.value.packet),
+            x: i32::from(packet.value.packet.x_movement()),
+            y: i32::from(packet.value.packet.y_movement()),
+            wheel: i32::from(packet.value.scroll_movement()),
+        },
+        Err(refused) => PacketWords {
+            port: port_lacked(refused.value),
+            used: refused.used,
+            ..refusing_packet_words(u32::from(refused.value.number()))
         },
     }
 }

@@ -6,6 +6,7 @@ use mathlib.Core.Option.{none, some}
 use mathlib.Core.Path.{◌≡◌, refl, ap, ◌∙◌}
 use Prim.Native.Nat.{ℕ, zero, suc, ◌<◌}
 use native.Mathlib.Omega.{arith}
+use Rattle.std.specs.Prelude.{Some}
 use borrow.Author.Tests.{lt-ltb}
 use lib.Dec.{eqb}
 use lib.ListN.{length, get_or, drop}
@@ -28,7 +29,7 @@ use Rattle.vurdellow.specs.Events.{GivenOn}
 
 -- an event whose flags have 16 bits is found again
 
-action_back : (a : KeyAction) → action_at (action_number a) ≡ some a
+action_back : (a : KeyAction) → action_at (action_number a) ≡ Some a
 action_back KeyAction.Pressed = refl
 action_back KeyAction.Released = refl
 

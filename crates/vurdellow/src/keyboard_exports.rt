@@ -5,11 +5,11 @@ ghost use Rattle.ps2_keyboard.specs.Keyboard.{reset_keyboard, set_scancode_set, 
 ghost use Rattle.ps2_detect.specs.Detection.{keyboard_detect};
 ghost use Rattle.preferences_application.specs.Application.{set_keyboard_repeat};
 ghost use Rattle.argument_words.specs.Arguments.{means_nothing};
-ghost use Rattle.port_words.specs.Told.{refusing, no_value, byte_value, told};
+ghost use Rattle.port_words.specs.Told.{refusing, no_value, byte_value, type_number, told};
 ghost use Rattle.port_words.specs.ToldKept.{refusing_kept, told_kept};
 ghost use Rattle.port_words.specs.Tells.{Tells, TellsReading, TellsAt};
 ghost use Rattle.keyboard_words.specs.Arguments.{command_at, lamps_at, scancode_set_at, byte_at};
-ghost use Rattle.keyboard_words.specs.Operations.{type_number, sending_command, setting_lamps, KeyboardInitialized};
+ghost use Rattle.keyboard_words.specs.Operations.{sending_command, setting_lamps, KeyboardInitialized};
 
 use keyboard_words::{
     keyboard_command, keyboard_detect, keyboard_init, keyboard_lamps, keyboard_read_scancode,

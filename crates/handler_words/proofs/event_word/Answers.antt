@@ -11,7 +11,7 @@ use Rattle.handler_words.proofs.event_word.Goals.{After-wide_flags-flags}
 
 -- the keycode's number, which is below 256
 key_is : (c : After-wide_flags-flags) → c.wide_byte-key.result ≡ number_of c.args.event.keycode
-key_is c = c.wide_byte-key.ensures ∙ c.to_byte.ensures
+key_is c = c.wide_byte-key.ensures ∙ c.from.ensures
 
 pub overflow_mul-result : goal.overflow_mul-result
 overflow_mul-result c = rw c.action_word-act.ensures (record { fits = omega (arith, action_in c.args.event.action) })

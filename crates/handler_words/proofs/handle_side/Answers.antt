@@ -15,7 +15,7 @@ returns-then-is_key_alone c = c.handle_key.ensures.with_any _
 pub returns-then-is_as_passed : goal.returns-then-is_as_passed
 returns-then-is_as_passed c =
     let a = c.args in
-    left_alone a.side a.words.now a.script.now a.log.now c.effect_of-effect.result c.state_in-state.ensures c.effect_of-effect.ensures (c.wide_number-refusal.ensures ∙ c.number.ensures) c.lamps_number-lamps.ensures c.port_lacked-port.ensures
+    left_alone a.side a.words.now a.script.now a.log.now c.effect_of-effect.result c.state_in-state.ensures c.effect_of-effect.ensures (c.wide_number-refusal.ensures ∙ c.number_of.ensures) c.lamps_number-lamps.ensures c.port_lacked-port.ensures
     (sym c.is_as_passed.ensures ∙ c.if-is_as_passed.true)
 
 pub put_keyboard-requires : goal.put_keyboard-requires
@@ -29,5 +29,5 @@ put_new-requires c =
 pub returns : goal.returns
 returns c =
     let a = c.args in
-    written a.side a.words.now a.script.now a.log.now c.effect_of-effect.result c.state_in-state.ensures c.effect_of-effect.ensures (c.wide_number-refusal.ensures ∙ c.number.ensures) c.lamps_number-lamps.ensures c.port_lacked-port.ensures c.requires
+    written a.side a.words.now a.script.now a.log.now c.effect_of-effect.result c.state_in-state.ensures c.effect_of-effect.ensures (c.wide_number-refusal.ensures ∙ c.number_of.ensures) c.lamps_number-lamps.ensures c.port_lacked-port.ensures c.requires
     (sym c.is_as_passed.ensures ∙ c.if-is_as_passed.false) c.keyboard_at.ensures.0 c.keyboard_at-2.ensures c.put_keyboard.ensures c.put_new.ensures

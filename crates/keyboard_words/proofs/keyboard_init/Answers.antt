@@ -8,4 +8,4 @@ pub returns-then-refusal-ne0 : goal.returns-then-refusal-ne0
 returns-then-refusal-ne0 c = init_refused c.fresh_words-refusal.ensures c.if-refusal-ne0.true c.refusing_words.ensures
 
 pub returns : goal.returns
-returns c = init_done c.fresh_words-refusal.ensures c.if-refusal-ne0.false (tells_played c.init_exchange.ensures c.completed_words.ensures)
+returns c = init_done c.fresh_words-refusal.ensures c.if-refusal-ne0.false (tells_played c.keyboard_init.ensures.0 c.answer_words.ensures)

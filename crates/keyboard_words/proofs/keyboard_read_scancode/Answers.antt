@@ -4,4 +4,4 @@ use Rattle.port_words.proofs.Tells.{tells_read}
 use Rattle.keyboard_words.proofs.keyboard_read_scancode.Goals as goal
 
 pub returns : goal.returns
-returns c = tells_read c.read_scancode.ensures c.byte_words.ensures
+returns c = tells_read c.read_scancode.ensures c.answer_words.ensures

@@ -9,7 +9,7 @@ use Rattle.keyboard_words.proofs.keyboard_repeat.Goals as goal
 
 pub returns-then-byte-lt256 : goal.returns-then-byte-lt256
 returns-then-byte-lt256 c = at_some c.byte_of.result (below 256 c.args.byte _ (omega arith) ∙ ap some (sym c.byte_of.ensures))
-    (tells_played c.set_keyboard_repeat.ensures c.completed_words.ensures)
+    (tells_played c.set_keyboard_repeat.ensures c.answer_words.ensures)
 
 pub returns : goal.returns
 returns c = at_none (not_below 256 _ _ c.if-byte-lt256.false) (c.refusing_words.ensures, refl)

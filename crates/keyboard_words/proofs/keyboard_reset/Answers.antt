@@ -4,4 +4,4 @@ use Rattle.port_words.proofs.Tells.{tells_played}
 use Rattle.keyboard_words.proofs.keyboard_reset.Goals as goal
 
 pub returns : goal.returns
-returns c = tells_played c.reset_keyboard.ensures c.completed_words.ensures
+returns c = tells_played c.reset_keyboard.ensures c.answer_words.ensures

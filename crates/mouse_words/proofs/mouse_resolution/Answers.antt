@@ -1,12 +1,11 @@
--- `mouse_words::mouse_resolution` meets its contract.
--- Assumes nothing.
-use Rattle.mouse_words.specs.Parts.{said_resolution}
-use Rattle.port_words.proofs.Tells.{tells_played, at_some, at_none}
+-- `mouse_resolution` meets its contract. Assumes nothing.
 use mathlib.Core.Path.{refl, sym, ap, ◌∙◌}
+use Rattle.mouse_words.specs.Parts.{found}
+use Rattle.port_words.proofs.Tells.{tells_played, at_some, at_none}
 use Rattle.mouse_words.proofs.mouse_resolution.Goals as goal
 
-pub returns-in-Resolution : goal.returns-in-Resolution
-returns-in-Resolution c = at_some _ (sym c.resolution_of-found.ensures ∙ ap said_resolution c.in-Resolution.is) (tells_played c.mouse_resolution.ensures c.completed_words.ensures)
+pub returns-in-Some : goal.returns-in-Some
+returns-in-Some c = at_some _ (sym c.resolution_of.ensures ∙ ap (λ r. found r) c.in-Some.is) (tells_played c.mouse_resolution.ensures c.answer_words.ensures)
 
-pub returns-in-Nothing : goal.returns-in-Nothing
-returns-in-Nothing c = at_none (sym c.resolution_of-found.ensures ∙ ap said_resolution c.in-Nothing.is) (c.refusing_words.ensures, refl)
+pub returns-in-None : goal.returns-in-None
+returns-in-None c = at_none (sym c.resolution_of.ensures ∙ ap (λ r. found r) c.in-None.is) (c.refusing_words.ensures, refl)

@@ -1,27 +1,32 @@
--- `port_words::packet_words` meets its contract: by the answer.
+-- `port_words::packet_words` meets its contract: by the answer. Each movement is read back from the bits that it was returned in.
 -- Assumes nothing.
-use mir.Syntax.{w8, w16, w32}
-use Rattle.port_words.proofs.Numbers.{refused_packet, returned}
+use Prim.Native.Nat.{◌<◌, ◌^◌}
+use mathlib.Core.Path.{◌≡◌}
+use lib.IntN.{ℤ}
+use lib.Signed.{mag}
+use mir.Syntax.{Width, w8, w16, w32}
+use mir.Val.{hbits, to_z, of_z}
+use mir.Facts.{to_z-of_z}
 use Rattle.port_words.proofs.packet_words.Goals as goal
 
-pub returns-in-Packet : goal.returns-in-Packet
-returns-in-Packet c =
+returned : (w : Width) (z : ℤ) → mag z < 2 ^ hbits w → to_z w (of_z w z) ≡ z
+returned w z h = to_z-of_z (record { sfits = h })
+
+pub returns-in-Ok : goal.returns-in-Ok
+returns-in-Ok c =
     rw (
-      c.in-Packet.is,
+      c.in-Ok.is,
       c.buttons.ensures,
-      returned w32 c.wide_movement.result c.wide_movement.type_inv,
-      c.wide_movement.ensures,
+      returned w32 c.from.result c.from.type_inv,
+      c.from.ensures,
       returned w16 c.x_movement.result c.x_movement.type_inv,
       c.x_movement.ensures,
-      returned w32 c.wide_movement-in-Packet.result c.wide_movement-in-Packet.type_inv,
-      c.wide_movement-in-Packet.ensures,
+      returned w32 c.from-in-Ok.result c.from-in-Ok.type_inv,
+      c.from-in-Ok.ensures,
       returned w16 c.y_movement.result c.y_movement.type_inv,
       c.y_movement.ensures,
-      returned w32 c.wide_wheel.result c.wide_wheel.type_inv,
-      c.wide_wheel.ensures,
+      returned w32 c.from-in-Ok-2.result c.from-in-Ok-2.type_inv,
+      c.from-in-Ok-2.ensures,
       returned w8 c.scroll_movement.result c.scroll_movement.type_inv,
       c.scroll_movement.ensures,
     )
-
-pub returns-in-Refused : goal.returns-in-Refused
-returns-in-Refused c = rw (c.wide.ensures, c.number.ensures, c.port_lacked.ensures, c.in-Refused.is) (refused_packet c.in-Refused.refusal _ c.args.read.pairs)
