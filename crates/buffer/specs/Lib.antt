@@ -1,2 +1,3 @@
 -- What a buffer holds of a text that is put into it.
 pub mod Buffer
+pub mod Writer

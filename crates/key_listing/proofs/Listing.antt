@@ -9,7 +9,8 @@ use native.Mathlib.Nat.{zero-add}
 use native.Mathlib.Omega.{arith}
 use lib.Dec.{eqb, ltb}
 use lib.ListN.{length, take, drop, length-append, length-take, length-drop}
-use Rattle.keycodes_ascii.specs.declared.Character.{Character}
+use Rattle.std.specs.Prelude.{Some, None}
+use Rattle.std.specs.Prelude as prelude
 use Rattle.keycodes_ascii.specs.declared.KeyAction.{KeyAction}
 use Rattle.keycodes_ascii.specs.declared.KeyEvent.{KeyEvent}
 use Rattle.keycodes_ascii.specs.Characters.{character_of}
@@ -125,9 +126,9 @@ action_length : (a : KeyAction) → length (action_text a) ≡ 1
 action_length KeyAction.Pressed = refl
 action_length KeyAction.Released = refl
 
-character_length : (c : Character) → length (character_text c) ≤ 3
-character_length (Character.Ascii c) = decimal-length c
-character_length Character.Absent = omega arith
+character_length : (c : prelude.Option ℕ) → length (character_text c) ≤ 3
+character_length (Some c) = decimal-length c
+character_length None = omega arith
 
 event_length : (e : KeyEvent) → length (event_line e) ≤ 13
 unfolding event_line

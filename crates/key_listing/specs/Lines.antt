@@ -3,7 +3,8 @@
 use Rattle.std.specs.Prelude.{cond, List, [], ◌++◌, ℕ, eqb}
 use Rattle.std.proofs.Math.Option.{Option, none, some}
 use Rattle.exchange.specs.Answer.{Answer, gives, refuses}
-use Rattle.keycodes_ascii.specs.declared.Character.{Character}
+use Rattle.std.specs.Prelude.{Some, None}
+use Rattle.std.specs.Prelude as prelude
 use Rattle.keycodes_ascii.specs.declared.KeyAction.{KeyAction}
 use Rattle.keycodes_ascii.specs.declared.KeyEvent.{KeyEvent}
 use Rattle.keycodes_ascii.specs.Keycode.{number_of}
@@ -17,9 +18,9 @@ action_text KeyAction.Pressed = ascii "P"
 action_text KeyAction.Released = ascii "R"
 
 -- "ASCII in decimal or -".
-abbrev pub character_text : Character → List ℕ
-character_text (Character.Ascii c) = decimal c
-character_text Character.Absent = ascii "-"
+abbrev pub character_text : prelude.Option ℕ → List ℕ
+character_text (Some c) = decimal c
+character_text None = ascii "-"
 
 -- An event: "keycode (two capital hex digits), P or R, flags (three capital hex digits), ASCII in decimal or -".
 unfoldable pub event_line : KeyEvent → List ℕ

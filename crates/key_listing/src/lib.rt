@@ -11,11 +11,11 @@ ghost use Rattle.key_listing.specs.Listing.{at_first, call_on, call_text, record
 ghost use Rattle.buffer.specs.Buffer.{Holds, place, put};
 
 use buffer::{put_byte, put_text};
-use keyboard::{HandlerAnswer, handle};
+use keyboard::{HandlerAnswer, HandlerRefusal, handle, number_of};
 use keyboard_record::{KeyboardHandler, Keyboards, Table, TakenEvent, take_event};
 use keyboard_scancodes::Profile;
 use keyboard_sides::Side;
-use keycodes_ascii::{Character, KeyAction, KeyEvent};
+use keycodes_ascii::{KeyAction, KeyEvent};
 
 // The most script bytes that are read.
 const SCRIPT_LIMIT: usize = 65536;
@@ -97,13 +97,15 @@ fn is_last(answer: HandlerAnswer) -> bool
     ensures { result ≡ ends2_3_21 (said_call answer) }
 {
     match answer {
-        HandlerAnswer::Done => false,
-        HandlerAnswer::Lacking(_) => true,
-        HandlerAnswer::UnknownScancode => false,
-        HandlerAnswer::QueueFull => false,
-        HandlerAnswer::MalformedRecord => true,
-        HandlerAnswer::SideFull => false,
-        HandlerAnswer::OutsideProfile => false,
+        Ok(()) => false,
+        Err(refusal) => match refusal {
+            HandlerRefusal::Lacking(_) => true,
+            HandlerRefusal::UnknownScancode => false,
+            HandlerRefusal::QueueFull => false,
+            HandlerRefusal::MalformedRecord => true,
+            HandlerRefusal::SideFull => false,
+            HandlerRefusal::OutsideProfile => false,
+        },
     }
 }
 
@@ -111,7 +113,7 @@ fn is_last(answer: HandlerAnswer) -> bool
 fn put_refusal(out: &mut [u8], at: usize, answer: HandlerAnswer) -> usize
     ensures { place result out.new ≡ put (refusal_line (number_ended (said_call answer))) (place at out.old) }
 {
-    let number = answer.number();
+    let number = number_of(answer);
     if number == 0 {
         return at;
     }
@@ -125,12 +127,11 @@ fn put_taken(out: &mut [u8], at: usize, event: TakenEvent) -> usize
     ensures { place result out.new ≡ put (taken_line (said_taken event)) (place at out.old) }
 {
     match event {
-        TakenEvent::Event(e) => {
-            let event = e.event;
-            put_event(out, at, event)
-        }
-        TakenEvent::Nothing => at,
-        TakenEvent::MalformedRecord => at,
+        Ok(taken) => match taken {
+            Some(e) => put_event(out, at, e.event),
+            None => at,
+        },
+        Err(_) => at,
     }
 }
 
@@ -141,7 +142,7 @@ fn put_event(out: &mut [u8], at: usize, event: KeyEvent) -> usize
     let keycode = event.keycode;
     let action = event.action;
     let modifiers = event.modifiers;
-    let code = put_two_digits(out, at, keycode.to_byte());
+    let code = put_two_digits(out, at, u8::from(keycode));
     let space = put_byte(out, code, b' ');
     let letter = put_action(out, space, action);
     let space2 = put_byte(out, letter, b' ');
@@ -162,12 +163,12 @@ fn put_action(out: &mut [u8], at: usize, action: KeyAction) -> usize
 }
 
 // Puts a character's number in decimal, or - where there is none.
-fn put_character(out: &mut [u8], at: usize, character: Character) -> usize
+fn put_character(out: &mut [u8], at: usize, character: Option<u8>) -> usize
     ensures { place result out.new ≡ put (character_text character) (place at out.old) }
 {
     match character {
-        Character::Ascii(c) => put_decimal(out, at, widened(c)),
-        Character::Absent => put_byte(out, at, b'-'),
+        Some(c) => put_decimal(out, at, widened(c)),
+        None => put_byte(out, at, b'-'),
     }
 }
 

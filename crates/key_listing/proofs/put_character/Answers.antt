@@ -2,8 +2,8 @@
 -- Assumes nothing.
 use Rattle.key_listing.proofs.put_character.Goals as goal
 
-pub returns-in-Ascii : goal.returns-in-Ascii
-returns-in-Ascii c = rw (c.in-Ascii.is, ← c.widened.ensures) c.put_decimal.ensures
+pub returns-in-Some : goal.returns-in-Some
+returns-in-Some c = rw (c.in-Some.is, ← c.widened.ensures) c.put_decimal.ensures
 
-pub returns-in-Absent : goal.returns-in-Absent
-returns-in-Absent c = rw c.in-Absent.is c.put_byte.ensures
+pub returns-in-None : goal.returns-in-None
+returns-in-None c = rw c.in-None.is c.put_byte.ensures

@@ -7,7 +7,7 @@ use Rattle.key_listing.proofs.put_event.Goals as goal
 pub returns : goal.returns
 unfolding event_line
 returns c =
-    rw (← c.to_byte.ensures, ← c.to_ascii.ensures)
+    rw (← c.from.ensures, ← c.to_ascii.ensures)
     (put_then _ _ _ (put_then _ _ _ (put_then _ _ _ (put_then _ _ _ (put_then _ _ _ (put_then _ _ _ (put_then _ _ _
     c.put_two_digits-code.ensures c.put_byte-space.ensures)
     c.put_action-letter.ensures) c.put_byte-space2.ensures)

@@ -4,11 +4,11 @@ use mathlib.Core.Path.{sym}
 use Rattle.buffer.proofs.Buffer.{put_none}
 use Rattle.key_listing.proofs.put_taken.Goals as goal
 
-pub returns-in-Event : goal.returns-in-Event
-returns-in-Event c = rw c.in-Event.is c.put_event.ensures
+pub returns-in-Some : goal.returns-in-Some
+returns-in-Some c = rw (c.in-Ok.is, c.in-Some.is) c.put_event.ensures
 
-pub returns-in-Nothing : goal.returns-in-Nothing
-returns-in-Nothing c = rw c.in-Nothing.is (sym (put_none _))
+pub returns-in-None : goal.returns-in-None
+returns-in-None c = rw (c.in-Ok.is, c.in-None.is) (sym (put_none _))
 
-pub returns-in-MalformedRecord : goal.returns-in-MalformedRecord
-returns-in-MalformedRecord c = rw c.in-MalformedRecord.is (sym (put_none _))
+pub returns-in-Err : goal.returns-in-Err
+returns-in-Err c = rw c.in-Err.is (sym (put_none _))
