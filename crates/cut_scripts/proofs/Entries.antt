@@ -4,14 +4,18 @@ use Prim.Native.Nat.{ℕ}
 use mathlib.Core.List.{List}
 use mathlib.Core.Path.{◌≡◌}
 use lib.ListN.{take}
+use Rattle.std.specs.Prelude.{Option, Result}
 use Rattle.exchange.specs.Exchange.{Port, Exchange, End, played, play, Reads}
-use Rattle.exchange.specs.Keeping.{Kept}
+use Rattle.exchange.specs.Answer.{Answer}
+use Rattle.exchange.specs.Keeping.{Kept, kept_end}
 use Rattle.exchange.specs.Left.{record_after}
-use Rattle.ps2_answers.specs.declared.Completion.{Completion}
-use Rattle.ps2_answers.specs.Refusals.{said_done}
+use Rattle.ps2_answers.specs.declared.Counted.{Counted}
+use Rattle.ps2_answers.specs.declared.Refusal.{Refusal}
+use Rattle.ps2_answers.specs.Answers.{ended, turn_end, used_of, pairs_of, told}
 use Rattle.ps2_kept.specs.declared.KeptBytes.{KeptBytes}
-use Rattle.ps2_kept.specs.Kept.{nothing_kept}
-use Rattle.ps2_kept.specs.Promises.{ReadsKept, PlaysKept}
+use Rattle.ps2_kept.specs.Kept.{nothing_kept, kept_at}
+use Rattle.ps2_kept.specs.Promises.{ReadsKept, PlaysKept, told_kept}
+use Rattle.ps2_polling.specs.Polling.{poll_data, polled}
 use Rattle.ps2_init.specs.declared.Initialized.{Initialized}
 use Rattle.ps2_init.specs.declared.PS2Controller.{PS2Controller}
 use Rattle.ps2_init.specs.Init.{initialize}
@@ -35,11 +39,11 @@ use Rattle.keyboard_in_place.specs.InPlace.{said_in_place}
 use Rattle.keyboard_init.specs.declared.KeyboardInitialized.{KeyboardInitialized}
 use Rattle.keyboard_init.specs.KeyboardInit.{keyboard_init}
 use Rattle.cut_scripts.specs.CutShort.{Handed, handed, next_port, CutShort}
-use Rattle.cut_scripts.specs.Forms.{lack}
-use Rattle.cut_scripts.specs.Coded.{lacking, Codes, CodedWith, coded_with, StateCoded, RecordCoded, coded_state, coded_record}
-use Rattle.cut_scripts.proofs.Forms.{plays_cut, reads_cut, plays_kept_cut, reads_kept_cut, left_cut, made_cut, effects_cut, handled_cut}
+use Rattle.cut_scripts.specs.Forms.{lack, answer_with, lack_with}
+use Rattle.cut_scripts.specs.Coded.{Codes, coded_with, refused_for, handed_answer, handed_beside, StateCoded, RecordCoded, coded_state, coded_record}
+use Rattle.cut_scripts.proofs.Forms.{plays_cut, reads_cut, plays_kept_cut, reads_kept_cut, plays_keeping_cut, reads_keeping_cut, left_cut, made_cut, effects_cut, handled_cut}
 use Rattle.cut_scripts.proofs.Coded.{as_coded, with_codes}
-use Rattle.cut_scripts.proofs.Answers.{done_codes, kept_codes, state_codes, record_codes}
+use Rattle.cut_scripts.proofs.Answers.{answer_codes, said_ended, polled_codes, said_turned, kept_codes, state_codes, record_codes}
 
 -- ---- an answer alone, or with kept bytes
 
@@ -61,46 +65,82 @@ module _ {X A : Type 0} {said : X → End A} {coded : Port → X} (c : Codes sai
         → CutShort n (coded_with nothing_kept coded (next_port n t script log)) log (handed (record { answer = x; beside = k }) u w log) (handed (record { answer = x'; beside = k' }) u' w' log)
     reads_kept_coded p q = as_coded (kept_codes c) (next_port n t script log) (reads_kept_cut t n script log p q)
 
+-- ---- what an exchange answers, by its contract's words
+
+module _ {T : Type 0} (r r' : Result (Counted T) (Counted Refusal)) (p : Port) {n : ℕ} {log l l' : List ℕ} where
+  answer_coded : CutShort n (lack p) log (handed (ended r) (used_of r) (pairs_of r) l) (handed (ended r') (used_of r') (pairs_of r') l')
+      → CutShort n (refused_for p) log (handed_answer r l) (handed_answer r' l')
+  answer_coded c = as_coded answer_codes p (rw (said_ended r, said_ended r') c)
+
+  beside_coded : {K : Type 0} (passed : K) {k k' : K}
+      → CutShort n (lack_with passed p) log (handed (answer_with (ended r) k) (used_of r) (pairs_of r) l) (handed (answer_with (ended r') k') (used_of r') (pairs_of r') l')
+      → CutShort n (coded_with passed refused_for p) log (handed_beside r k l) (handed_beside r' k' l')
+  beside_coded passed c = as_coded (with_codes passed answer_codes) p (rw (said_ended r, said_ended r') c)
+
+module _ {T : Type 0} (r r' : Result (Counted T) (Counted Refusal)) (n : ℕ) (script log : List ℕ) where
+  module _ (t : Exchange (Answer T)) where
+    pub answer_cut : {l l' : List ℕ} → told r l ≡ play t script log → told r' l' ≡ play t (take n script) log
+        → CutShort n (refused_for (next_port n t script log)) log (handed_answer r l) (handed_answer r' l')
+    answer_cut p q = answer_coded r r' (next_port n t script log) (plays_cut t n script log p q)
+
+    pub answer_read_cut : Reads t script (ended r) (used_of r) (pairs_of r) → Reads t (take n script) (ended r') (used_of r') (pairs_of r')
+        → CutShort n (refused_for (next_port n t script log)) log (handed_answer r log) (handed_answer r' log)
+    answer_read_cut p q = answer_coded r r' (next_port n t script log) (reads_cut t n script log p q)
+
+  module _ (t : Exchange (Kept KeptBytes (Answer T))) where
+    module _ {k k' : KeptBytes} where
+      pub answer_kept_cut : {l l' : List ℕ} → PlaysKept t script log (ended r) (used_of r) (pairs_of r) l k → PlaysKept t (take n script) log (ended r') (used_of r') (pairs_of r') l' k'
+          → CutShort n (coded_with nothing_kept refused_for (next_port n t script log)) log (handed_beside r k l) (handed_beside r' k' l')
+      answer_kept_cut p q = beside_coded r r' (next_port n t script log) nothing_kept (plays_kept_cut t n script log p q)
+
+      pub answer_read_kept_cut : ReadsKept t script (ended r) (used_of r) (pairs_of r) k → ReadsKept t (take n script) (ended r') (used_of r') (pairs_of r') k'
+          → CutShort n (coded_with nothing_kept refused_for (next_port n t script log)) log (handed_beside r k log) (handed_beside r' k' log)
+      answer_read_kept_cut p q = beside_coded r r' (next_port n t script log) nothing_kept (reads_kept_cut t n script log p q)
+
+    -- kept bytes behind a reference: none after a lack
+    module _ (k k' : KeptBytes) where
+      pub answer_keeping_cut : {l l' : List ℕ} → told_kept r k l ≡ play t script log → told_kept r' k' l' ≡ play t (take n script) log
+          → CutShort n (coded_with nothing_kept refused_for (next_port n t script log)) log (handed_beside r (kept_at (ended r) k) l) (handed_beside r' (kept_at (ended r') k') l')
+      answer_keeping_cut p q = beside_coded r r' (next_port n t script log) nothing_kept (plays_keeping_cut t n script log k k' p q)
+
+      pub answer_read_keeping_cut : Reads t script (kept_end (ended r) k) (used_of r) (pairs_of r) → Reads t (take n script) (kept_end (ended r') k') (used_of r') (pairs_of r')
+          → CutShort n (coded_with nothing_kept refused_for (next_port n t script log)) log (handed_beside r (kept_at (ended r) k) log) (handed_beside r' (kept_at (ended r') k') log)
+      answer_read_keeping_cut p q = beside_coded r r' (next_port n t script log) nothing_kept (reads_keeping_cut t n script log k k' p q)
+
+-- one poll
+pub poll_cut : (n : ℕ) (script log : List ℕ) (r r' : Result (Counted (Option ℕ)) (Counted Refusal)) → Reads poll_data script (turn_end polled r) (used_of r) (pairs_of r)
+    → Reads poll_data (take n script) (turn_end polled r') (used_of r') (pairs_of r') → CutShort n (refused_for (next_port n poll_data script log)) log (handed_answer r log) (handed_answer r' log)
+poll_cut n script log r r' p q =
+    as_coded polled_codes (next_port n poll_data script log) (rw (said_turned polled r, said_turned polled r') (reads_cut poll_data n script log p q))
+
 -- ---- entries with a record: it is as passed in after the cut's 2
 
-abbrev refused_for : Port → Completion
-refused_for p = Completion.Refused (lacking p)
-
 module _ (n : ℕ) (script log : List ℕ) where
-  abbrev handed_init : Initialized → List ℕ → Handed (CodedWith PS2Controller Completion)
-  handed_init r l = handed (record { answer = r.answer; beside = r.controller }) r.used r.pairs l
-
-  pub init_cut : (controller : PS2Controller) {r r' : Initialized} {l l' : List ℕ}
-      → (played (said_init r.answer r.controller) r.used r.pairs l ≡ play (initialize controller) script log)
+  pub init_cut : (controller : PS2Controller) (r r' : Initialized) {l l' : List ℕ}
+      → (played (said_init r.answer r.controller) (used_of r.answer) (pairs_of r.answer) l ≡ play (initialize controller) script log)
       × (r.controller ≡ record_after controller (play (initialize controller) script log).end)
-      → (played (said_init r'.answer r'.controller) r'.used r'.pairs l' ≡ play (initialize controller) (take n script) log)
+      → (played (said_init r'.answer r'.controller) (used_of r'.answer) (pairs_of r'.answer) l' ≡ play (initialize controller) (take n script) log)
       × (r'.controller ≡ record_after controller (play (initialize controller) (take n script) log).end)
-      → CutShort n (coded_with controller refused_for (next_port n (initialize controller) script log)) log (handed_init r l) (handed_init r' l')
-  init_cut controller p q =
-      as_coded (with_codes controller done_codes) (next_port n (initialize controller) script log) (left_cut (initialize controller) controller n script log p q)
+      → CutShort n (coded_with controller refused_for (next_port n (initialize controller) script log)) log (handed_beside r.answer r.controller l) (handed_beside r'.answer r'.controller l')
+  init_cut controller r r' p q =
+      beside_coded r.answer r'.answer (next_port n (initialize controller) script log) controller (left_cut (initialize controller) controller n script log p q)
 
-  abbrev handed_mouse : MouseLeft → List ℕ → Handed (CodedWith PS2Mouse Completion)
-  handed_mouse r l = handed (record { answer = r.answer; beside = r.mouse }) r.used r.pairs l
-
-  pub set_mouse_id_cut : (mouse : PS2Mouse) {r r' : MouseLeft} {l l' : List ℕ}
-      → (played (said_mouse r.answer r.mouse) r.used r.pairs l ≡ play (set_mouse_id mouse) script log)
+  pub set_mouse_id_cut : (mouse : PS2Mouse) (r r' : MouseLeft) {l l' : List ℕ}
+      → (played (said_mouse r.answer r.mouse) (used_of r.answer) (pairs_of r.answer) l ≡ play (set_mouse_id mouse) script log)
       × (r.mouse ≡ record_after mouse (play (set_mouse_id mouse) script log).end)
-      → (played (said_mouse r'.answer r'.mouse) r'.used r'.pairs l' ≡ play (set_mouse_id mouse) (take n script) log)
+      → (played (said_mouse r'.answer r'.mouse) (used_of r'.answer) (pairs_of r'.answer) l' ≡ play (set_mouse_id mouse) (take n script) log)
       × (r'.mouse ≡ record_after mouse (play (set_mouse_id mouse) (take n script) log).end)
-      → CutShort n (coded_with mouse refused_for (next_port n (set_mouse_id mouse) script log)) log (handed_mouse r l) (handed_mouse r' l')
-  set_mouse_id_cut mouse p q =
-      as_coded (with_codes mouse done_codes) (next_port n (set_mouse_id mouse) script log) (left_cut (set_mouse_id mouse) mouse n script log p q)
+      → CutShort n (coded_with mouse refused_for (next_port n (set_mouse_id mouse) script log)) log (handed_beside r.answer r.mouse l) (handed_beside r'.answer r'.mouse l')
+  set_mouse_id_cut mouse r r' p q =
+      beside_coded r.answer r'.answer (next_port n (set_mouse_id mouse) script log) mouse (left_cut (set_mouse_id mouse) mouse n script log p q)
 
   -- no record is passed in: the fresh one is given whatever happens
-  abbrev handed_keyboard : KeyboardInitialized → List ℕ → Handed (CodedWith KeyboardHandler Completion)
-  handed_keyboard r l = handed (record { answer = r.answer; beside = r.handler }) r.used r.pairs l
-
-  pub keyboard_init_cut : (table : Table) {r r' : KeyboardInitialized} {l l' : List ℕ}
-      → (played (said_done r.answer) r.used r.pairs l ≡ play keyboard_init script log) × (r.handler ≡ fresh table)
-      → (played (said_done r'.answer) r'.used r'.pairs l' ≡ play keyboard_init (take n script) log) × (r'.handler ≡ fresh table)
-      → CutShort n (coded_with (fresh table) refused_for (next_port n keyboard_init script log)) log (handed_keyboard r l) (handed_keyboard r' l')
-  keyboard_init_cut table p q =
-      as_coded (with_codes (fresh table) done_codes) (next_port n keyboard_init script log) (made_cut keyboard_init (fresh table) n script log p q)
+  pub keyboard_init_cut : (table : Table) (r r' : KeyboardInitialized) {l l' : List ℕ}
+      → (told r.answer l ≡ play keyboard_init script log) × (r.handler ≡ fresh table)
+      → (told r'.answer l' ≡ play keyboard_init (take n script) log) × (r'.handler ≡ fresh table)
+      → CutShort n (coded_with (fresh table) refused_for (next_port n keyboard_init script log)) log (handed_beside r.answer r.handler l) (handed_beside r'.answer r'.handler l')
+  keyboard_init_cut table r r' p q =
+      beside_coded r.answer r'.answer (next_port n keyboard_init script log) (fresh table) (made_cut keyboard_init (fresh table) n script log p q)
 
   -- ---- the handler call of either side, with waiting bytes or without, on any record
 

@@ -11,6 +11,7 @@ use Rattle.exchange.specs.Left.{Left, left, record_after}
 use Rattle.ps2_kept.specs.declared.KeptBytes.{KeptBytes}
 use Rattle.ps2_kept.specs.Kept.{nothing_kept, kept_at}
 use Rattle.ps2_kept.specs.Promises.{ReadsKept, PlaysKept}
+use Rattle.ps2_kept.proofs.Contracts.{plays_handed, reads_handed}
 use Rattle.keyboard_sides.specs.declared.Side.{Side}
 use Rattle.keyboard_record.specs.declared.HandlerState.{HandlerState}
 use Rattle.keyboard_record.specs.declared.KeyboardHandler.{KeyboardHandler}
@@ -54,6 +55,15 @@ module _ {A : Type 0} (t : Exchange (Kept KeptBytes A)) (n : ℕ) (script log : 
       → CutShort n (lack_kept (next_port n t script log)) log (handed (answer_with e k) u w log) (handed (answer_with e' k') u' w' log)
   reads_kept_cut c c' =
       rw (c.reads.no_pairs, c'.reads.no_pairs) (cut_short tell_kept t n script log (handed_kept script c.ended (c.reads.with_any log)) (handed_kept (take n script) c'.ended (c'.reads.with_any log)))
+
+  -- kept bytes behind a reference: after a lack nothing is promised of them, and so none count as handed back
+  pub plays_keeping_cut : {e e' : End A} {u u' w w' : ℕ} {l l' : List ℕ} (k k' : KeptBytes) → played (kept_end e k) u w l ≡ play t script log → played (kept_end e' k') u' w' l' ≡ play t (take n script) log
+      → CutShort n (lack_kept (next_port n t script log)) log (handed (answer_with e (kept_at e k)) u w l) (handed (answer_with e' (kept_at e' k')) u' w' l')
+  plays_keeping_cut {e} {e'} k k' p q = plays_kept_cut (plays_handed e k refl p) (plays_handed e' k' refl q)
+
+  pub reads_keeping_cut : {e e' : End A} {u u' w w' : ℕ} (k k' : KeptBytes) → Reads t script (kept_end e k) u w → Reads t (take n script) (kept_end e' k') u' w'
+      → CutShort n (lack_kept (next_port n t script log)) log (handed (answer_with e (kept_at e k)) u w log) (handed (answer_with e' (kept_at e' k')) u' w' log)
+  reads_keeping_cut {e} {e'} k k' p q = reads_kept_cut (reads_handed e k refl p) (reads_handed e' k' refl q)
 
 -- ---- an answer with a record that was passed in, and with one that is made
 

@@ -1,2 +1,3 @@
--- Laws of packed numbers.
+-- Laws of packed numbers, and of bytes that are read.
 pub mod Packed
+pub mod Reading

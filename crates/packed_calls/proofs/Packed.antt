@@ -1,35 +1,14 @@
--- Packed numbers: read back, and byte by byte.
+-- The fields of an instruction, byte by byte.
 -- Assumes nothing.
 use mathlib.Core.Path.{◌≡◌, refl}
 use mathlib.Core.List.{List, [], ◌∷◌}
-use Prim.Native.Nat.{ℕ, zero, suc, ◌+◌, ◌*◌, ◌-◌, ◌^◌, ◌<◌, ◌≤◌, ◌/◌, ◌%◌}
-use native.Mathlib.Nat.{div-add-mod', div-lt_iff_lt-mul}
+use Prim.Native.Nat.{ℕ, ◌+◌, ◌*◌, ◌<◌, ◌≤◌}
 use native.Mathlib.Omega.{arith}
 use lib.ListN.{length, take, get_or}
 use lib.Seq.{get_or-drop}
 use borrow.Author.Tests.{lt-ltb, le-ltb}
-use Rattle.buffer.specs.Buffer.{Place, put}
 use Rattle.packed_calls.specs.declared.Instruction.{Instruction}
-use Rattle.packed_calls.specs.Packed.{number, bytes_of, last_instruction, unpacked}
-
--- ---- read back
-
--- a number that k bytes have room for
-pub number-bytes_of : (k n : ℕ) → n < 256 ^ k → number (bytes_of k n) ≡ n
-unfolding bytes_of
-number-bytes_of zero n h = omega arith
-number-bytes_of (suc k) n h = omega (arith, number-bytes_of k (n / 256) ((div-lt_iff_lt-mul (omega arith)).1 (omega arith)), div-add-mod' n 256)
-
--- ---- the lowest byte first
-
-pub put_lowest : (k n : ℕ) (p : Place) → 0 < k → put (bytes_of k n) p ≡ put (bytes_of (k - 1) (n / 256)) (put (n % 256 ∷ []) p)
-unfolding bytes_of put
-put_lowest zero n p h = absurd (omega arith)
-put_lowest (suc k) n p h =
-    let one_less : suc k - 1 ≡ k = omega arith in
-    rw one_less
-
--- ---- an instruction's fields
+use Rattle.packed_calls.specs.Packed.{number, last_instruction, unpacked}
 
 one_byte : (bytes : List ℕ) → number (take 1 bytes) ≡ get_or bytes 0 0
 one_byte [] = refl
@@ -40,7 +19,7 @@ two_bytes [] = refl
 two_bytes (a ∷ []) = refl
 two_bytes (a ∷ b ∷ bytes) = omega arith
 
-four_bytes : (bytes : List ℕ) → number (take 4 bytes) ≡ get_or bytes 0 0 + 256 * get_or bytes 1 0 + 65536 * (get_or bytes 2 0 + 256 * get_or bytes 3 0)
+pub four_bytes : (bytes : List ℕ) → number (take 4 bytes) ≡ get_or bytes 0 0 + 256 * get_or bytes 1 0 + 65536 * (get_or bytes 2 0 + 256 * get_or bytes 3 0)
 four_bytes [] = refl
 four_bytes (a ∷ []) = omega arith
 four_bytes (a ∷ b ∷ []) = omega arith

@@ -1,17 +1,14 @@
 -- Packed calls and their answers, byte by byte, as tests/traces/README.md tells them. Numbers have their low byte first.
 -- Assumes nothing.
-use Rattle.std.specs.Prelude.{ℕ, zero, suc, ◌+◌, ◌*◌, ◌/◌, ◌%◌, cond, List, [], ◌∷◌, ◌++◌, ltb, length, take, drop}
+use Rattle.std.specs.Prelude.{ℕ, ◌+◌, ◌*◌, cond, List, [], ◌∷◌, ◌++◌, ltb, length, take, drop}
+use Rattle.std.specs.Int.{to_le_bytes, w64}
 use Rattle.packed_calls.specs.declared.Instruction.{Instruction}
 use Rattle.packed_calls.specs.declared.Outcome.{Outcome}
 
--- The number that bytes make, and the k lowest bytes of a number.
+-- The number that bytes make.
 abbrev pub number : List ℕ → ℕ
 number [] = 0
 number (b ∷ bytes) = b + 256 * number bytes
-
-unfoldable pub bytes_of : ℕ → ℕ → List ℕ
-bytes_of zero n = []
-bytes_of (suc k) n = n % 256 ∷ bytes_of k (n / 256)
 
 -- The number of k bytes, from a place on.
 abbrev pub field : ℕ → ℕ → List ℕ → ℕ
@@ -34,4 +31,4 @@ unpacked head = cond (ltb (length head) instruction_bytes) last_instruction (fie
 
 -- An answer before what was logged, four numbers of 8 bytes: the operation with the refusal's number and a byte of what is left above it, the bytes used, the pairs written, the value.
 unfoldable pub packed : ℕ → Outcome → List ℕ
-packed op o = bytes_of 8 (op + 256 * o.number + 65536 * o.left) ++ bytes_of 8 o.used ++ bytes_of 8 o.pairs ++ bytes_of 8 o.value
+packed op o = to_le_bytes w64 (op + 256 * o.number + 65536 * o.left) ++ to_le_bytes w64 o.used ++ to_le_bytes w64 o.pairs ++ to_le_bytes w64 o.value

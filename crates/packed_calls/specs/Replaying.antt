@@ -1,36 +1,59 @@
--- What the other functions on packed calls promise. What is read from standard input and what becomes of what is written is not said: the kit's own contracts of reading and writing say nothing of it.
+-- What the functions on packed calls promise of reading, and of what a session is handed.
 -- Assumes nothing.
-use Rattle.std.specs.Prelude.{ℕ, ◌-◌, ◌≤◌, Bool, not, cond, ◌&&◌, List, ◌≡◌, eqb, leb, ltb, length, take}
+use Rattle.std.specs.Prelude.{ℕ, ◌*◌, ◌≤◌, ◌≡◌, Bool, not, cond, ◌&&◌, List, [], ◌∷◌, ◌++◌, eqb, leb, ltb, length, take, drop, zero, suc, IfSome, Some}
+use Rattle.std.specs.declared.option.Option.{Option}
 use Rattle.packed_calls.specs.declared.Instruction.{Instruction}
 use Rattle.packed_calls.specs.declared.Outcome.{Outcome}
-use Rattle.packed_calls.specs.Packed.{unpacked}
+use Rattle.packed_calls.specs.Packed.{instruction_bytes, unpacked, packed}
 
--- Some bytes say this instruction.
-pub record Read (i : Instruction) : Type 0 where
-  pub head : List ℕ
-  pub says : i ≡ unpacked head
+-- Of the bytes that a reader had left, where they are known, the first k were taken, or all where they are fewer.
+abbrev pub Taken : ℕ → Option (List ℕ) → Option (List ℕ) → List ℕ → Type 0
+Taken k old new got = IfSome old (λ xs. (got ≡ take k xs) × (new ≡ Some (drop k xs)))
+
+-- The first k are gone.
+abbrev pub Dropped : ℕ → Option (List ℕ) → Option (List ℕ) → Type 0
+Dropped k old new = IfSome old (λ xs. new ≡ Some (drop k xs))
+
+-- The bytes that were taken say this instruction.
+abbrev pub TakenInstruction : Option (List ℕ) → Option (List ℕ) → Instruction → Type 0
+TakenInstruction old new i = IfSome old (λ xs. (i ≡ unpacked (take instruction_bytes xs)) × (new ≡ Some (drop instruction_bytes xs)))
 
 -- Where a part begins: at the script's start where its argument is 1, otherwise behind the bytes that count.
 abbrev pub part_start : ℕ → ℕ → ℕ
 part_start argument bytes = cond (eqb argument 1) 0 bytes
 
 -- Bytes were put from a place on: those before it are as they were, and what counts reaches to it.
-pub record PutFrom (at : ℕ) (before : List ℕ) (count : ℕ) (after : List ℕ) : Type 0 where
+pub record PutFrom (at : ℕ) (before : List ℕ) (after : List ℕ) : Type 0 where
   pub front : take at after ≡ take at before
-  pub reaches : at ≤ count
-
--- The script and how much of it counts, before and after an instruction: a part, the operation 0, puts bytes from where it begins on; no other changes anything.
-pub record Kept (i : Instruction) (script : List ℕ) (bytes : ℕ) (script' : List ℕ) (bytes' : ℕ) : Type 0 where
-  pub part : i.op ≡ 0 → PutFrom (part_start i.argument bytes) script bytes' script'
-  pub other : (i.op ≡ 0 → ⊥) → (script' ≡ script) × (bytes' ≡ bytes)
-
--- Whether a script of so many bytes leaves some of its space free, and a log has so much room.
-abbrev pub held : ℕ → ℕ → List ℕ → List ℕ → Bool
-held bytes room script log = ltb bytes (length script) && leb room (length log)
+  pub reaches : at ≤ length after
 
 -- Whether an operation is a call: neither 0, a part of the script, nor 255, the end.
 abbrev pub call_op : ℕ → Bool
 call_op op = not (eqb op 0) && not (eqb op 255)
+
+-- The calls of an input, of which so many instructions are read at most: up to the last instruction, 255, or the input's end. A part's bytes follow its instruction.
+unfoldable pub calls : ℕ → List ℕ → List Instruction
+calls zero xs = []
+calls (suc n) xs =
+    let i = unpacked (take instruction_bytes xs) in
+    let rest = drop instruction_bytes xs in
+    cond (eqb i.op 255) [] (cond (eqb i.op 0) (calls n (drop i.state rest)) (i ∷ calls n rest))
+
+-- A session was handed one call more, where it tells what it was handed.
+abbrev pub HandedOne : Option (List Instruction) → Instruction → Option (List Instruction) → Type 0
+HandedOne old i new = IfSome old (λ before. new ≡ Some (before ++ i ∷ []))
+
+-- A session was handed the calls of an input, where both are known.
+abbrev pub HandedAll : Option (List Instruction) → ℕ → Option (List ℕ) → Option (List Instruction) → Type 0
+HandedAll old n input new = IfSome old (λ before. IfSome input (λ xs. new ≡ Some (before ++ calls n xs)))
+
+-- The space of a script.
+abbrev pub script_space : ℕ
+script_space = 1200000
+
+-- Whether a script of so many bytes leaves some of its space free, and a log of so many has so much room.
+abbrev pub held : ℕ → ℕ → ℕ → Bool
+held bytes room log = ltb bytes script_space && leb room log
 
 -- The instruction; a call for which the script or the log has no space gets the operation 254, which no program makes.
 abbrev pub where_held : Instruction → Bool → Instruction
@@ -40,6 +63,6 @@ where_held i is_held = cond (call_op i.op) (cond is_held i (record { op = 254; a
 abbrev pub ending : ℕ → ℕ → ℕ → ℕ → Outcome
 ending number used pairs value = record { number = number; left = 0; used = used; pairs = pairs; value = value }
 
--- The turns that are left of a loop after one: none after the last, else one fewer.
-abbrev pub turns_left : ℕ → Bool → ℕ
-turns_left left last = cond last 0 (left - 1)
+-- The bytes of an answer with what was logged, of which it tells the pairs; an outcome numbered 254 has none.
+abbrev pub answer_bytes : ℕ → Outcome → List ℕ → List ℕ
+answer_bytes op o log = cond (eqb o.number 254) [] (packed op o ++ take (2 * o.pairs) log)

@@ -1,18 +1,15 @@
-// Packed calls and answers, as tests/traces/README.md tells them: read from standard input, written to standard output.
+// Packed calls and answers, as tests/traces/README.md tells them: read from one stream, answered on another.
 #![tactic(auto)]
 
-ghost use Rattle.std.specs.Prelude.{◌+◌, ◌*◌, ◌-◌, ◌≤◌, min, cond, not, ◌≡◌, eqb, length, get_or};
-ghost use Rattle.io.specs.Counts.{IsPrefixLen};
-ghost use Rattle.buffer.specs.Buffer.{Holds, place, put};
-ghost use Rattle.packed_calls.specs.Packed.{bytes_of, unpacked, packed};
-ghost use Rattle.packed_calls.specs.Replaying.{Read, part_start, PutFrom, Kept, call_op, held, where_held, turns_left, ending};
+ghost use Rattle.std.specs.Prelude.{get_or, min, ◌*◌, ◌++◌, [], ◌≤◌, ◌<◌, ◌≡◌, List, IfOk, OnOk, Some, None, length, take, vec_items};
+ghost use Rattle.std.specs.declared.option.Option.{Option};
+ghost use Rattle.std.specs.Io.KnownBytes.{Appends};
+ghost use Rattle.packed_calls.specs.declared.Instruction.{Instruction};
+ghost use Rattle.packed_calls.specs.Packed.{field, unpacked, packed};
+ghost use Rattle.packed_calls.specs.Replaying.{Taken, TakenInstruction, HandedOne, HandedAll, part_start, PutFrom, Dropped, call_op, held, where_held, answer_bytes, ending};
 
-use buffer::put_byte;
-
-// The descriptors of a program's standard input and standard output, by POSIX.
-const STDIN_FILENO: i32 = 0;
-
-pub const STDOUT_FILENO: i32 = 1;
+use std::alloc::Global;
+use std::io::{Read, Result, Write};
 
 // The number of an outcome that there is nothing to answer of, and of a call that can't be made: there is no such operation, or not with this argument.
 pub const SILENT: u8 = 254;
@@ -20,28 +17,32 @@ pub const SILENT: u8 = 254;
 pub const NO_CALL: u8 = 255;
 
 // The operation of an instruction that is a part of the script, of one that no program makes, and of the last one.
-pub const PART: u8 = 0;
+const PART: u8 = 0;
 
 const UNMADE: u8 = 254;
 
-pub const END: u8 = 255;
+const END: u8 = 255;
 
 // The bytes of an instruction, and of an answer before what was logged.
 const INSTRUCTION_BYTES: usize = 10;
 
 const ANSWER_BYTES: usize = 32;
 
-// An instruction: its operation, an argument, a state (the controller's bits or configuration, or flags), the log's room, and how often it is meant.
+// Room for the longest script.
+const SCRIPT_SPACE: usize = 1200000;
+
+/// An instruction: its operation, an argument, a state (the controller's bits or configuration, or flags), the log's room, and how often it is meant.
 #[derive(Clone, Copy)]
 pub struct Instruction {
     pub op: u8,
     pub argument: u8,
-    pub state: usize,
-    pub room: usize,
-    pub times: usize,
+    pub state: u16,
+    pub room: u16,
+    pub times: u32,
 }
 
-// How a call ended: the refusal's number, 0, `SILENT` or `NO_CALL`; a byte of what it leaves; what it used and wrote; and its value.
+// Kept as numbers: the four of an answer in tests/traces' format. A number is any refusal's, of every operation.
+/// How a call ended: the refusal's number, 0, `SILENT` or `NO_CALL`; a byte of what it leaves; what it used and wrote; and its value.
 #[derive(Clone, Copy)]
 pub struct Outcome {
     pub number: u8,
@@ -51,7 +52,17 @@ pub struct Outcome {
     pub value: u64,
 }
 
-// An outcome that leaves nothing.
+/// What answers the calls of an input, one after another.
+pub trait Session {
+    // The calls that it was handed, where it tells them.
+    ghost handed: { Self → Option (List Instruction) } = { λ _. None };
+
+    /// Answers a call on the script.
+    fn answer<W: Write>(&mut self, i: Instruction, script: &[u8], out: &mut W) -> Result<()>
+        ensures { OnOk result (HandedOne (handed self.old) i (handed self.new)) };
+}
+
+/// An outcome that leaves nothing.
 pub fn ending(number: u8, used: usize, pairs: usize, value: u64) -> Outcome
     ensures { result ≡ ending number used pairs value }
 {
@@ -64,77 +75,34 @@ pub fn ending(number: u8, used: usize, pairs: usize, value: u64) -> Outcome
     }
 }
 
-// A bit as a number.
-pub fn bit(is_set: bool) -> u64
-    ensures value { result ≡ cond is_set 1 0 }
-    ensures upper_bound { result ≤ 1 }
-{
-    if is_set { 1 } else { 0 }
-}
-
-// A number of bytes at the start of a slice: `count`, or all of them where they are fewer.
-pub fn within(count: usize, bytes: &[u8]) -> usize
-    ensures prefix_len { IsPrefixLen result bytes.now }
-    ensures value { result ≡ min count (length bytes.now) }
-{
-    if count <= bytes.len() {
-        return count;
-    }
-    bytes.len()
-}
-
-// How many turns are left of a loop after one, which may be the last.
-pub fn fewer(left: u64, is_last: bool) -> u64
-    ensures value { result ≡ turns_left left is_last }
-    ensures upper_bound { result ≤ left - 1 }
-{
-    if is_last {
-        return 0;
-    }
-    if left == 0 {
-        return 0;
-    }
-    left - 1
-}
-
-// A sum that stops at the largest number.
-pub fn plus(a: usize, b: usize) -> usize
-    ensures { result ≡ min (a + b) 18446744073709551615 }
-{
-    if b <= usize::MAX - a {
-        a + b
-    } else {
-        usize::MAX
-    }
-}
-
 // A place beyond the end reads as 0.
 fn byte_at(bytes: &[u8], at: usize) -> u8
     ensures { result ≡ get_or bytes.now at 0 }
 {
-    if at < bytes.len() { bytes[at] } else { 0 }
+    bytes.get(at).copied().unwrap_or(0)
 }
 
-fn wide(byte: u8) -> usize
-    ensures value { result ≡ byte }
-    ensures upper_bound { result ≤ 255 }
+/// The number of four bytes from a place on, the low one first.
+pub fn number_at(bytes: &[u8], at: usize) -> u32
+    ensures { result ≡ field at 4 bytes.now }
 {
-    byte as usize
+    if bytes.len() < at {
+        return 0;
+    }
+    let rest = &bytes[at..];
+    u32::from_le_bytes([
+        byte_at(rest, 0),
+        byte_at(rest, 1),
+        byte_at(rest, 2),
+        byte_at(rest, 3),
+    ])
 }
 
-// The number of two bytes, the low one first.
-fn number_of(low: u8, high: u8) -> usize
-    ensures value { result ≡ low + 256 * high }
-    ensures upper_bound { result ≤ 65535 }
-{
-    wide(low) + 256 * wide(high)
-}
-
-// The instruction that some bytes say.
-pub fn unpack(head: &[u8]) -> Instruction
+// The instruction that some bytes say; the end of the input is the last one, `END`.
+fn unpack(head: &[u8]) -> Instruction
     ensures { result ≡ unpacked head.now }
 {
-    if head.len() < INSTRUCTION_BYTES {
+    let &[op, argument, s0, s1, r0, r1, t0, t1, t2, t3, ..] = head else {
         return Instruction {
             op: END,
             argument: 0,
@@ -142,145 +110,184 @@ pub fn unpack(head: &[u8]) -> Instruction
             room: 0,
             times: 0,
         };
-    }
+    };
     Instruction {
-        op: byte_at(head, 0),
-        argument: byte_at(head, 1),
-        state: number_of(byte_at(head, 2), byte_at(head, 3)),
-        room: number_of(byte_at(head, 4), byte_at(head, 5)),
-        times: number_of(byte_at(head, 6), byte_at(head, 7))
-            + 65536 * number_of(byte_at(head, 8), byte_at(head, 9)),
+        op,
+        argument,
+        state: u16::from_le_bytes([s0, s1]),
+        room: u16::from_le_bytes([r0, r1]),
+        times: u32::from_le_bytes([t0, t1, t2, t3]),
     }
 }
 
-// Reads an instruction; at the end of the input it is the last one, `END`.
-pub fn read_instruction() -> Instruction
-    ensures { Read result }
+// Reads until the bytes are full or the input ends, and tells how many were read.
+// Kept a `while`: how far a turn goes is the reader's to say, and no range counts it.
+fn read_full<R: Read>(input: &mut R, bytes: &mut [u8]) -> Result<usize>
+    ensures bound { IfOk result (λ n. n ≤ length bytes.new) }
+    ensures taken { IfOk result (λ n. Taken (length bytes.old) (R.remaining input.old) (R.remaining input.new) (take n bytes.new)) }
 {
+    let mut got = 0;
+    while got < bytes.len() {
+        let n = input.read(&mut bytes[got..])?;
+        if n == 0 {
+            return Ok(got);
+        }
+        got += n;
+    }
+    Ok(got)
+}
+
+fn read_instruction<R: Read>(input: &mut R) -> Result<Instruction>
+    ensures { IfOk result (λ i. TakenInstruction (R.remaining input.old) (R.remaining input.new) i) }
+{
+    // Kept cut: an input may end within an instruction, and no such bytes are one.
     let mut head = [0u8; INSTRUCTION_BYTES];
-    let got = io::read_full(STDIN_FILENO, &mut head);
-    unpack(&head[..got])
+    let got = read_full(input, &mut head)?;
+    Ok(unpack(&head[..got]))
 }
 
-// Puts so many bytes behind a part that ends the bytes: the part over and over.
-fn put_part(bytes: &mut [u8], part: usize, end: usize, count: usize) -> usize
-    ensures { part ≤ end → PutFrom part bytes.old result bytes.new }
+// Reads so many bytes behind those that the script has. What it has no space for is dropped.
+fn read_behind<R: Read>(input: &mut R, script: &mut Vec<u8>, count: u16) -> Result<()>
+    ensures put { OnOk result (PutFrom (length script.old.items) script.old.items script.new.items) }
+    ensures taken { OnOk result (Dropped count (R.remaining input.old) (R.remaining input.new)) }
 {
-    let mut to = end;
-    let mut i = 0;
-    while i < count {
-        let byte = byte_at(bytes, plus(part, i));
-        to = put_byte(bytes, to, byte);
-        i += 1;
-    }
-    to
+    let from = script.len();
+    script.resize(from + usize::from(count), 0)?;
+    let got = read_full(input, &mut script.as_mut_slice()[from..])?;
+    script.truncate(from + got.min(SCRIPT_SPACE.saturating_sub(from)));
+    Ok(())
 }
 
-// Reads so many bytes behind those that the script has, as far as there is room, and answers how many it has then.
-fn read_part(script: &mut [u8], from: usize, count: usize) -> usize
-    ensures { PutFrom from script.old result script.new }
+// Fills so many bytes behind a part that ends the script, as far as there is space: the part over and over.
+fn repeat(script: &mut Vec<u8>, part: usize, times: u32) -> Result<()>
+    ensures { OnOk result (PutFrom (length script.old.items) script.old.items script.new.items) }
 {
-    if from < script.len() {
-        let rest = &mut script[from..];
-        let bytes = within(count, rest);
-        let got = io::read_full(STDIN_FILENO, &mut rest[..bytes]);
-        return plus(from, got);
+    for i in 0..times {
+        if script.len() >= SCRIPT_SPACE {
+            break;
+        }
+        let byte = byte_at(script.as_slice(), part.saturating_add(i as usize));
+        script.push(byte)?;
     }
-    from
+    Ok(())
 }
 
-// Where a part begins.
-fn part_start(argument: u8, bytes: usize) -> usize
-    ensures { result ≡ part_start argument bytes }
+// Where a part of the script begins: behind what there is, or anew where the argument is 1.
+fn part_start(argument: u8, length: usize) -> usize
+    ensures { result ≡ part_start argument length }
 {
-    if argument == 1 {
-        return 0;
-    }
-    bytes
+    if argument == 1 { 0 } else { length }
 }
 
-// How many bytes the script has after an instruction: a part lengthens it, or begins it anew where the argument is 1. Its state is its length, and its times are the bytes that it fills beyond that, over and over.
-pub fn read_script(script: &mut [u8], bytes: usize, i: Instruction) -> usize
-    ensures { Kept i script.old bytes script.new result }
+// Reads a part of the script, which lengthens it, or begins it anew where the argument is 1. Its state is its length, and its times are the
+// bytes that it fills beyond that.
+fn read_part<R: Read>(input: &mut R, script: &mut Vec<u8>, i: Instruction) -> Result<()>
+    ensures put { OnOk result (PutFrom (part_start i.argument (length script.old.items)) script.old.items script.new.items) }
+    ensures taken { OnOk result (Dropped i.state (R.remaining input.old) (R.remaining input.new)) }
 {
-    if i.op != PART {
-        return bytes;
+    script.truncate(part_start(i.argument, script.len()));
+    let from = script.len();
+    read_behind(input, script, i.state)?;
+    repeat(script, from, i.times)
+}
+
+/// Hands a session every call of an input, with the script as it then stands.
+pub fn replay<S: Session, R: Read, W: Write>(
+    session: &mut S,
+    input: &mut R,
+    out: &mut W,
+    alloc: Global,
+) -> Result<()>
+    ensures { OnOk result (HandedAll (S.handed session.old) u64.MAX (R.remaining input.old) (S.handed session.new)) }
+{
+    let mut script = Vec::new(alloc);
+    for _ in 0..u64::MAX {
+        let i = read_instruction(input)?;
+        // Kept as numbers: they are tests/traces' format.
+        match i.op {
+            END => return Ok(()),
+            PART => read_part(input, &mut script, i)?,
+            _ => session.answer(i, script.as_slice(), out)?,
+        }
     }
-    let from = part_start(i.argument, bytes);
-    let end = read_part(script, from, i.state);
-    put_part(script, from, end, i.times)
+    Ok(())
+}
+
+// The calls themselves, in order.
+impl Session for Vec<Instruction> {
+    ghost handed = { λ v. Some v.items };
+
+    fn answer<W: Write>(&mut self, i: Instruction, _script: &[u8], _out: &mut W) -> Result<()> {
+        self.push(i)?;
+        Ok(())
+    }
+}
+
+/// The calls of an input.
+pub fn calls<R: Read, W: Write>(
+    input: &mut R,
+    out: &mut W,
+    alloc: Global,
+) -> Result<Vec<Instruction>>
+    ensures { IfOk result (λ v. HandedAll (Some []) u64.MAX (R.remaining input.old) (Some v.items)) }
+{
+    let mut all = Vec::new(alloc);
+    replay(&mut all, input, out, alloc)?;
+    Ok(all)
 }
 
 // Whether an operation is a call: neither a part of the script nor the end.
 fn is_call(op: u8) -> bool
     ensures { result ≡ call_op op }
 {
-    if op == PART {
-        return false;
-    }
-    op != END
+    op != PART && op != END
 }
 
-// The instruction, or where it is a call, and the script fills its space, and so may have lost bytes, or the log has no such room, one that no program makes.
-pub fn where_held(
-    i: Instruction,
-    bytes: usize,
-    room: usize,
-    script: &[u8],
-    log: &[u8],
-) -> Instruction
-    ensures { result ≡ where_held i (held bytes room script.now log.now) }
+/// The instruction, or where it is a call, and the script fills its space, and so may have lost bytes, or the log has no such room, one that no program makes.
+pub fn where_held(i: Instruction, script: &[u8], room: usize, log: &[u8]) -> Instruction
+    ensures { result ≡ where_held i (held (length script.now) room (length log.now)) }
 {
-    if !is_call(i.op) {
+    let is_held = script.len() < SCRIPT_SPACE && room <= log.len();
+    if is_held || !is_call(i.op) {
         return i;
     }
-    if bytes < script.len() {
-        if room <= log.len() {
-            return i;
-        }
-    }
-    let mut unmade = i;
-    unmade.op = UNMADE;
-    unmade
+    Instruction { op: UNMADE, ..i }
 }
 
-// Puts a number's eight bytes, the low ones first.
-fn put_number(out: &mut [u8], at: usize, number: u64) -> usize
-    ensures { place result out.new ≡ put (bytes_of 8 number) (place at out.old) }
+// The answer to an operation, but for what was logged.
+fn pack(op: u8, o: Outcome) -> [u8; ANSWER_BYTES]
+    ensures { result ≡ packed op o }
 {
-    let mut end = at;
-    let mut rest = number;
-    let mut left: usize = 8;
-    while 0 < left {
-        end = put_byte(out, end, (rest % 256) as u8);
-        rest = rest / 256;
-        left -= 1;
-    }
-    end
+    let first = u64::from_le_bytes([op, o.number, o.left, 0, 0, 0, 0, 0]);
+    let mut head = [0u8; ANSWER_BYTES];
+    head[..8].copy_from_slice(&first.to_le_bytes());
+    head[8..16].copy_from_slice(&(o.used as u64).to_le_bytes());
+    head[16..24].copy_from_slice(&(o.pairs as u64).to_le_bytes());
+    head[24..].copy_from_slice(&o.value.to_le_bytes());
+    head
 }
 
-// Puts the answer to an operation, but for what was logged.
-pub fn pack(out: &mut [u8], op: u8, o: Outcome) -> usize
-    ensures { Holds (packed op o) out.old result out.new }
+/// Writes the answer to an operation, and all of some bytes.
+pub fn write_whole<W: Write>(out: &mut W, op: u8, o: Outcome, bytes: &[u8]) -> Result<()>
+    ensures { OnOk result (Appends (W.contents out.old) (W.contents out.new) (packed op o ++ bytes.now)) }
 {
-    let first = op as u64 + 256 * o.number as u64 + 65536 * o.left as u64;
-    let used = put_number(out, 0, first);
-    let pairs = put_number(out, used, o.used as u64);
-    let value = put_number(out, pairs, o.pairs as u64);
-    put_number(out, value, o.value)
+    out.write_all(&pack(op, o))?;
+    out.write_all(bytes)
 }
 
-// Writes the answer to an operation, its outcome and what was logged, and tells whether there is one.
-pub fn write_answer(op: u8, o: Outcome, log: &[u8]) -> bool
-    ensures { result ≡ not (eqb o.number 254) }
+// How many bytes of a log so many pairs are, as far as the log goes.
+fn logged(pairs: usize, length: usize) -> usize
+    ensures { result ≡ min (2 * pairs) length }
+{
+    pairs.saturating_mul(2).min(length)
+}
+
+/// Writes the answer to an operation, its outcome and what was logged, where there is one.
+pub fn write_answer<W: Write>(out: &mut W, op: u8, o: Outcome, log: &[u8]) -> Result<()>
+    ensures { OnOk result (Appends (W.contents out.old) (W.contents out.new) (answer_bytes op o log.now)) }
 {
     if o.number == SILENT {
-        return false;
+        return Ok(());
     }
-    let mut head = [0u8; ANSWER_BYTES];
-    pack(&mut head, op, o);
-    io::write_all(STDOUT_FILENO, &head);
-    let logged = within(plus(o.pairs, o.pairs), log);
-    io::write_all(STDOUT_FILENO, &log[..logged]);
-    true
+    write_whole(out, op, o, &log[..logged(o.pairs, log.len())])
 }

@@ -1,85 +1,63 @@
-// One call of an operation on the ports, by numbers.
-ghost use Rattle.std.specs.Prelude.{◌≤◌};
-
-use packed_calls::{Instruction, NO_CALL, Outcome, bit, ending};
-use ps2_answers::{Completed, Completion, ConfigAnswer, ConfigRead, Refusal};
+// One call of an operation on the ports, by numbers. Kept as numbers, and not as an enum of the operations: they are the table of tests/traces/README.md,
+// each is named there, and an enum between would name each twice more. `script, log` stay two parameters: so document 01 has every call.
+use packed_calls::{Instruction, NO_CALL, Outcome, ending};
+use ps2_answers::Answer;
 use ps2_bytes::{
     DeviceToHostResponse, HostToDevice, HostToKeyboardCommand, HostToKeyboardCommandOrData,
-    HostToMouseCommand, HostToMouseCommandOrData, KeyboardType, MouseId, MouseIdByte,
-    MouseResolution, MouseSampleRate, ResolutionByte, SampleRateByte, ScancodeSet, ScancodeSetByte,
+    HostToMouseCommand, HostToMouseCommandOrData, KeyboardType, MouseId, MouseResolution,
+    MouseSampleRate, ScancodeSet,
 };
 use ps2_command::Commanded;
-use ps2_detect::{Detected, TypeAnswer, keyboard_detect};
+use ps2_detect::keyboard_detect;
 use ps2_init::{Initialized, PS2Controller, init};
 use ps2_keyboard::{
-    SetAnswer, SetRead, command_to_keyboard, get_keyboard_scancode_set, reset_keyboard,
-    set_keyboard_led, set_keyboard_scancode_set,
+    command_to_keyboard, get_keyboard_scancode_set, reset_keyboard, set_keyboard_led,
+    set_keyboard_scancode_set,
 };
 use ps2_layouts::{ControllerConfigurationByte, LEDState};
-use ps2_mouse::{IdAnswer, Identified, PS2Mouse};
+use ps2_mouse::PS2Mouse;
 use ps2_mouse_identity::{MouseLeft, set_mouse_id};
-use ps2_packet::MousePacket;
-use ps2_packet_reading::{PacketAnswer, PacketRead, SignedAnswer, SignedRead};
-use ps2_polling::{
-    Received, ResponseAnswer, polling_receive, polling_send, test, test_port1, test_port2,
-};
+use ps2_packet::{MousePacket, SignedPacket};
+use ps2_polling::{Received, polling_receive, polling_send, test, test_port1, test_port2};
 use ps2_ports::{read_config, write_config};
+use replay_records::packet_number;
 
-fn completion_number(answer: Completion) -> u8 {
+// An answer whose value is a number.
+fn answered(answer: Answer<u64>) -> Outcome {
     match answer {
-        Completion::Done => 0,
-        Completion::Refused(e) => e.number(),
+        Ok(given) => ending(0, given.used, given.pairs, given.value),
+        Err(refused) => ending(refused.value.number(), refused.used, refused.pairs, 0),
     }
 }
 
-fn completed(c: Completed) -> Outcome {
-    let answer = c.answer;
-    ending(completion_number(answer), c.used, c.pairs, 0)
-}
-
-pub fn commanded(c: Commanded) -> Outcome {
-    let answer = c.answer;
-    ending(completion_number(answer), c.used, c.pairs, 0)
-}
-
-fn refused(refusal: Refusal, used: usize, pairs: usize) -> Outcome {
-    ending(refusal.number(), used, pairs, 0)
+pub fn completed(answer: Answer<()>) -> Outcome {
+    answered(answer.map(|done| done.with(0)))
 }
 
 // A controller's record by its bits: initialised, keyboard, mouse.
-fn controller_of(state: usize) -> PS2Controller {
+fn controller_of(state: u16) -> PS2Controller {
     PS2Controller {
-        initialized: state % 2 == 1,
-        keyboard_attached: state / 2 % 2 == 1,
-        mouse_attached: state / 4 % 2 == 1,
+        initialized: state & 1 != 0,
+        keyboard_attached: state & 2 != 0,
+        mouse_attached: state & 4 != 0,
     }
 }
 
 fn controller_byte(controller: PS2Controller) -> u8 {
-    let bits = bit(controller.initialized)
-        + 2 * bit(controller.keyboard_attached)
-        + 4 * bit(controller.mouse_attached);
-    bits as u8
+    u8::from(controller.initialized)
+        + 2 * u8::from(controller.keyboard_attached)
+        + 4 * u8::from(controller.mouse_attached)
 }
 
 fn initialized(c: Initialized) -> Outcome {
-    let answer = c.answer;
-    let left = c.controller;
     Outcome {
-        number: completion_number(answer),
-        left: controller_byte(left),
-        used: c.used,
-        pairs: c.pairs,
-        value: 0,
+        left: controller_byte(c.controller),
+        ..completed(c.answer)
     }
 }
 
-fn config_read(c: ConfigRead) -> Outcome {
-    let answer = c.answer;
-    match answer {
-        ConfigAnswer::Config(config) => ending(0, c.used, c.pairs, config.to_byte() as u64),
-        ConfigAnswer::Refused(e) => refused(e, c.used, c.pairs),
-    }
+fn config_read(read: Answer<ControllerConfigurationByte>) -> Outcome {
+    answered(read.map(|config| config.with(u64::from(u8::from(config.value)))))
 }
 
 fn response_byte(response: DeviceToHostResponse) -> u64 {
@@ -96,19 +74,14 @@ fn response_byte(response: DeviceToHostResponse) -> u64 {
 }
 
 pub fn received(c: Received) -> Outcome {
-    let answer = c.answer;
-    match answer {
-        ResponseAnswer::Response(response) => ending(0, c.used, c.pairs, response_byte(response)),
-        ResponseAnswer::Refused(e) => refused(e, c.used, c.pairs),
-    }
+    answered(
+        c.answer
+            .map(|response| response.with(response_byte(response.value))),
+    )
 }
 
-fn set_read(c: SetRead) -> Outcome {
-    let answer = c.answer;
-    match answer {
-        SetAnswer::Set(set) => ending(0, c.used, c.pairs, set.to_byte() as u64),
-        SetAnswer::Refused(e) => refused(e, c.used, c.pairs),
-    }
+fn set_read(read: Answer<ScancodeSet>) -> Outcome {
+    answered(read.map(|set| set.with(u64::from(u8::from(set.value)))))
 }
 
 fn type_number(kind: KeyboardType) -> u64 {
@@ -119,118 +92,51 @@ fn type_number(kind: KeyboardType) -> u64 {
     }
 }
 
-fn detected(c: Detected) -> Outcome {
-    let answer = c.answer;
-    match answer {
-        TypeAnswer::Recognised(kind) => ending(0, c.used, c.pairs, type_number(kind)),
-        TypeAnswer::Refused(e) => refused(e, c.used, c.pairs),
-    }
+fn detected(answer: Answer<KeyboardType>) -> Outcome {
+    answered(answer.map(|kind| kind.with(type_number(kind.value))))
 }
 
-fn identified(c: Identified) -> Outcome {
-    let answer = c.answer;
-    match answer {
-        IdAnswer::Id(id) => ending(0, c.used, c.pairs, id.to_byte() as u64),
-        IdAnswer::Refused(e) => refused(e, c.used, c.pairs),
-    }
+fn identified(answer: Answer<MouseId>) -> Outcome {
+    answered(answer.map(|id| id.with(u64::from(u8::from(id.value)))))
 }
 
 fn mouse_left(c: MouseLeft) -> Outcome {
-    let answer = c.answer;
-    let mouse = c.mouse;
-    let id = mouse.id;
     Outcome {
-        number: completion_number(answer),
-        left: id.to_byte(),
-        used: c.used,
-        pairs: c.pairs,
-        value: 0,
+        left: u8::from(c.mouse.id),
+        ..completed(c.answer)
     }
 }
 
-fn magnitude(number: i16) -> u16 {
-    if number < 0 {
-        return (0 - number as i32) as u16;
-    }
-    number as u16
+fn packet_read(read: Answer<MousePacket>) -> Outcome {
+    answered(read.map(|packet| packet.with(packet_number(
+        packet.value,
+        packet.value.scroll_movement(),
+    ))))
 }
 
-fn widened(number: i8) -> i16 {
-    number as i16
+fn signed_read(read: Answer<SignedPacket>) -> Outcome {
+    answered(read.map(|signed| signed.with(packet_number(
+        signed.value.packet,
+        signed.value.scroll_movement(),
+    ))))
 }
 
-// A movement as a number below 2^17: twice its magnitude, and 1 more where it is negative.
-fn movement(number: i16) -> u64
-    ensures { result ≤ 131071 }
-{
-    2 * magnitude(number) as u64 + bit(number < 0)
+// What an argument tells, where it tells anything.
+
+fn set_of(number: u8) -> Option<ScancodeSet> {
+    ScancodeSet::try_from(number).ok()
 }
 
-fn buttons(packet: MousePacket) -> u64
-    ensures { result ≤ 15 }
-{
-    bit(packet.button_left())
-        + 2 * bit(packet.button_right())
-        + 4 * bit(packet.button_middle())
-        + 8 * bit(packet.always_one() == 1)
+fn leds_of(number: u8) -> Option<LEDState> {
+    let leds = LEDState::new()
+        .with_scroll_lock(number & 1 != 0)
+        .with_number_lock(number & 2 != 0)
+        .with_caps_lock(number & 4 != 0);
+    (number < 8).then_some(leds)
 }
 
-// The fields of a packet, from the lowest bits up: left, right, middle, always one, buttons 4 and 5, and 17 bits each of x, y and the wheel, which is told beside the packet.
-fn packet_number(packet: MousePacket, wheel: i8) -> u64 {
-    let above = 16 * bit(packet.button_4()) + 32 * bit(packet.button_5());
-    let x = movement(packet.x_movement());
-    let y = movement(packet.y_movement());
-    let z = movement(widened(wheel));
-    buttons(packet) + above + 64 * (x + 131072 * (y + 131072 * z))
-}
-
-fn packet_read(c: PacketRead) -> Outcome {
-    let answer = c.answer;
-    match answer {
-        PacketAnswer::Packet(packet) => ending(
-            0,
-            c.used,
-            c.pairs,
-            packet_number(packet, packet.scroll_movement()),
-        ),
-        PacketAnswer::Refused(e) => refused(e, c.used, c.pairs),
-    }
-}
-
-fn signed_read(c: SignedRead) -> Outcome {
-    let answer = c.answer;
-    match answer {
-        SignedAnswer::Packet(signed) => {
-            let packet = signed.packet;
-            ending(
-                0,
-                c.used,
-                c.pairs,
-                packet_number(packet, signed.scroll_movement()),
-            )
-        }
-        SignedAnswer::Refused(e) => refused(e, c.used, c.pairs),
-    }
-}
-
-// What an argument tells. One that tells nothing is taken for another, by which `is_known` finds it.
-
-fn set_of(number: u8) -> ScancodeSet {
-    match ScancodeSet::from_byte(number) {
-        ScancodeSetByte::Listed(set) => set,
-        ScancodeSetByte::Unlisted => ScancodeSet::Set1,
-    }
-}
-
-fn leds_of(number: u8) -> LEDState {
-    LEDState::new()
-        .with_scroll_lock(number % 2 == 1)
-        .with_number_lock(number / 2 % 2 == 1)
-        .with_caps_lock(number / 4 % 2 == 1)
-}
-
-fn keyboard_command(byte: u8) -> HostToKeyboardCommand {
-    match byte {
+fn keyboard_command(byte: u8) -> Option<HostToKeyboardCommand> {
+    Some(match byte {
         0xED => HostToKeyboardCommand::SetLEDStatus,
         0xF0 => HostToKeyboardCommand::ScancodeSet,
         0xF2 => HostToKeyboardCommand::IdentifyKeyboard,
@@ -238,36 +144,30 @@ fn keyboard_command(byte: u8) -> HostToKeyboardCommand {
         0xF4 => HostToKeyboardCommand::EnableScanning,
         0xF5 => HostToKeyboardCommand::DisableScanning,
         0xFE => HostToKeyboardCommand::ResendByte,
-        _ => HostToKeyboardCommand::ResetAndStartSelfTest,
-    }
+        0xFF => HostToKeyboardCommand::ResetAndStartSelfTest,
+        _ => return None,
+    })
 }
 
 // What an argument tells to send to the keyboard: for 8 a command, for 10 and 11 lamps, else a scancode set.
-fn keyboard_value(op: u8, argument: u8) -> HostToKeyboardCommandOrData {
-    match op {
-        8 => HostToKeyboardCommandOrData::KeyboardCommand(keyboard_command(argument)),
-        10 => HostToKeyboardCommandOrData::LEDState(leds_of(argument)),
-        11 => HostToKeyboardCommandOrData::LEDState(leds_of(argument)),
-        _ => HostToKeyboardCommandOrData::ScancodeSet(set_of(argument)),
-    }
+fn keyboard_value(op: u8, argument: u8) -> Option<HostToKeyboardCommandOrData> {
+    Some(match op {
+        8 => HostToKeyboardCommandOrData::KeyboardCommand(keyboard_command(argument)?),
+        10 | 11 => HostToKeyboardCommandOrData::LEDState(leds_of(argument)?),
+        _ => HostToKeyboardCommandOrData::ScancodeSet(set_of(argument)?),
+    })
 }
 
-fn rate_of(number: u8) -> MouseSampleRate {
-    match MouseSampleRate::from_byte(number) {
-        SampleRateByte::Listed(rate) => rate,
-        SampleRateByte::Unlisted => MouseSampleRate::_10,
-    }
+fn rate_of(number: u8) -> Option<MouseSampleRate> {
+    MouseSampleRate::try_from(number).ok()
 }
 
-fn resolution_of(number: u8) -> MouseResolution {
-    match MouseResolution::from_byte(number) {
-        ResolutionByte::Listed(resolution) => resolution,
-        ResolutionByte::Unlisted => MouseResolution::Count1PerMm,
-    }
+fn resolution_of(number: u8) -> Option<MouseResolution> {
+    MouseResolution::try_from(number).ok()
 }
 
-fn mouse_command(byte: u8) -> HostToMouseCommand {
-    match byte {
+fn mouse_command(byte: u8) -> Option<HostToMouseCommand> {
+    Some(match byte {
         0xE6 => HostToMouseCommand::SetScaling,
         0xE8 => HostToMouseCommand::SetResolution,
         0xE9 => HostToMouseCommand::StatusRequest,
@@ -282,86 +182,63 @@ fn mouse_command(byte: u8) -> HostToMouseCommand {
         0xF5 => HostToMouseCommand::DisableDataReporting,
         0xF6 => HostToMouseCommand::SetDefaults,
         0xFE => HostToMouseCommand::ResendByte,
-        _ => HostToMouseCommand::Reset,
-    }
+        0xFF => HostToMouseCommand::Reset,
+        _ => return None,
+    })
 }
 
 // What an argument tells to send to the mouse: for 12 a command, for 13 and 15 a rate, else a resolution.
-fn mouse_value(op: u8, argument: u8) -> HostToMouseCommandOrData {
-    match op {
-        12 => HostToMouseCommandOrData::MouseCommand(mouse_command(argument)),
-        13 => HostToMouseCommandOrData::SampleRate(rate_of(argument)),
-        15 => HostToMouseCommandOrData::SampleRate(rate_of(argument)),
-        _ => HostToMouseCommandOrData::MouseResolution(resolution_of(argument)),
-    }
+fn mouse_value(op: u8, argument: u8) -> Option<HostToMouseCommandOrData> {
+    Some(match op {
+        12 => HostToMouseCommandOrData::MouseCommand(mouse_command(argument)?),
+        13 | 15 => HostToMouseCommandOrData::SampleRate(rate_of(argument)?),
+        _ => HostToMouseCommandOrData::MouseResolution(resolution_of(argument)?),
+    })
 }
 
-fn id_of(byte: u8) -> MouseId {
-    match MouseId::from_byte(byte) {
-        MouseIdByte::Listed(id) => id,
-        MouseIdByte::Unlisted => MouseId::Zero,
-    }
-}
-
-// Whether there is such an operation and it takes such an argument. Those that take none have 0.
-pub fn is_known(op: u8, argument: u8) -> bool {
-    if 27 < op && op != 38 {
-        return false;
-    }
-    if op < 12 {
-        return keyboard_value(op, argument).to_byte() == argument;
-    }
-    if op < 26 {
-        return mouse_value(op, argument).to_byte() == argument;
-    }
-    id_of(argument).to_byte() == argument
+fn id_of(byte: u8) -> Option<MouseId> {
+    MouseId::try_from(byte).ok()
 }
 
 // The operations that end with no value, 1 to 7.
-fn complete(op: u8, argument: u8, script: &[u8], log: &mut [u8]) -> Completed {
-    match op {
+fn complete(op: u8, argument: u8, script: &[u8], log: &mut [u8]) -> Option<Answer<()>> {
+    let value = keyboard_value(op, argument)?;
+    Some(match op {
         1 => test(script, log),
         2 => test_port1(script, log),
         3 => test_port2(script, log),
-        4 => polling_send(
-            script,
-            log,
-            HostToDevice::Keyboard(keyboard_value(op, argument)),
-        ),
+        4 => polling_send(script, log, HostToDevice::Keyboard(value)),
         5 => reset_keyboard(script, log),
-        6 => set_keyboard_scancode_set(script, log, set_of(argument)),
+        6 => set_keyboard_scancode_set(script, log, set_of(argument)?),
         _ => PS2Mouse::reset(script, log),
-    }
+    })
 }
 
 // A byte to the keyboard, 8 to 10, or to the mouse, 12 to 14, or the lamps, 11: the calls that hand back bytes.
-pub fn command(op: u8, argument: u8, script: &[u8], log: &mut [u8]) -> Commanded {
-    if op < 11 {
-        return command_to_keyboard(script, log, keyboard_value(op, argument));
-    }
-    if op == 11 {
-        return set_keyboard_led(script, log, leds_of(argument));
-    }
-    PS2Mouse::command_to_mouse(script, log, mouse_value(op, argument))
+pub fn command(op: u8, argument: u8, script: &[u8], log: &mut [u8]) -> Option<Commanded> {
+    Some(match op {
+        8..=10 => command_to_keyboard(script, log, keyboard_value(op, argument)?),
+        11 => set_keyboard_led(script, log, leds_of(argument)?),
+        12..=14 => PS2Mouse::command_to_mouse(script, log, mouse_value(op, argument)?),
+        _ => return None,
+    })
 }
 
 // The settings of the mouse, 15 to 18.
-fn setting(op: u8, argument: u8, script: &[u8], log: &mut [u8]) -> Completed {
-    match op {
-        15 => PS2Mouse::set_mouse_sampling_rate(script, log, rate_of(argument)),
-        16 => PS2Mouse::mouse_resolution(script, log, resolution_of(argument)),
+fn setting(op: u8, argument: u8, script: &[u8], log: &mut [u8]) -> Option<Answer<()>> {
+    Some(match op {
+        15 => PS2Mouse::set_mouse_sampling_rate(script, log, rate_of(argument)?),
+        16 => PS2Mouse::mouse_resolution(script, log, resolution_of(argument)?),
         17 => PS2Mouse::enable_mouse_packet_streaming(script, log),
         _ => PS2Mouse::disable_mouse_packet_streaming(script, log),
-    }
+    })
 }
 
 // The operations that ask for a value, and those on the controller's configuration and record, which are the state, 19 to 25.
-fn ask(op: u8, state: usize, script: &[u8], log: &mut [u8]) -> Outcome {
+fn ask(op: u8, state: u16, script: &[u8], log: &mut [u8]) -> Outcome {
+    let [config, _] = state.to_le_bytes();
     match op {
-        19 => completed(write_config(
-            log,
-            ControllerConfigurationByte::from_byte((state % 256) as u8),
-        )),
+        19 => completed(write_config(log, ControllerConfigurationByte::from(config))),
         20 => config_read(read_config(script, log)),
         21 => received(polling_receive(script)),
         22 => set_read(get_keyboard_scancode_set(script, log)),
@@ -381,34 +258,29 @@ fn on_mouse(op: u8, id: MouseId, script: &[u8], log: &mut [u8]) -> Outcome {
     }
 }
 
-// The call that an instruction tells.
-fn call(i: Instruction, script: &[u8], log: &mut [u8]) -> Outcome {
-    if i.op < 8 {
-        return completed(complete(i.op, i.argument, script, log));
-    }
-    if i.op < 15 {
-        return commanded(command(i.op, i.argument, script, log));
-    }
-    if i.op < 19 {
-        return completed(setting(i.op, i.argument, script, log));
-    }
-    if i.op < 26 {
-        return ask(i.op, i.state, script, log);
-    }
-    on_mouse(i.op, id_of(i.argument), script, log)
+// The call that an instruction tells, where there is such an operation and it takes such an argument.
+fn call(i: Instruction, script: &[u8], log: &mut [u8]) -> Option<Outcome> {
+    Some(match i.op {
+        1..=7 => completed(complete(i.op, i.argument, script, log)?),
+        8..=14 => completed(command(i.op, i.argument, script, log)?.answer),
+        15..=18 => {
+            mouse_value(i.op, i.argument)?;
+            completed(setting(i.op, i.argument, script, log)?)
+        }
+        19..=25 => {
+            mouse_value(i.op, i.argument)?;
+            ask(i.op, i.state, script, log)
+        }
+        26 | 27 | 38 => on_mouse(i.op, id_of(i.argument)?, script, log),
+        _ => return None,
+    })
 }
 
 // The call as often as the instruction tells, and the outcome of the last: more than once is for measuring.
 pub fn call_times(i: Instruction, script: &[u8], log: &mut [u8]) -> Outcome {
-    if !is_known(i.op, i.argument) {
-        return ending(NO_CALL, 0, 0, 0);
-    }
     let mut outcome = call(i, script, log);
-    let mut n = 1;
-    while n < i.times {
-        let again = call(i, script, log);
-        outcome = again;
-        n += 1;
+    for _ in 1..i.times {
+        outcome = call(i, script, log);
     }
-    outcome
+    outcome.unwrap_or(ending(NO_CALL, 0, 0, 0))
 }

@@ -1,14 +1,9 @@
 // Preferences written and read, by numbers.
-ghost use Rattle.std.specs.Prelude.{◌≤◌};
-
-use crate::converting::{fill, write_output};
-use buffer::put_byte;
-use packed_calls::{Instruction, NO_CALL, Outcome, ending, within, write_answer};
+use crate::converting::FILLER;
+use packed_calls::{Instruction, NO_CALL, Outcome, ending, number_at, write_answer, write_whole};
 use preferences::{Fields, Preferences};
-use preferences_coding::{
-    FieldsRead, PreferencesRead, PreferencesWritten, read_preferences_1, read_preferences_2,
-    write_preferences,
-};
+use preferences_coding::{ReadRefusal, read_preferences_1, read_preferences_2, write_preferences};
+use std::io::{self, Write};
 
 // The packed calls. The argument of a writing is the record's version, and its input the fields, each as four bytes, the low one first; version 1 has
 // none for the fifth. The argument of a reading is the reader's version; the fields that it gives stand in the output, as many bytes to each.
@@ -16,176 +11,159 @@ pub const WRITE_PREFERENCES: u8 = 45;
 
 pub const READ_PREFERENCES: u8 = 46;
 
-// The bytes of four fields and of five.
-const FOUR_FIELDS: usize = 16;
-
+// The bytes of five fields.
 const FIVE_FIELDS: usize = 20;
 
-fn wide(byte: u8) -> usize
-    ensures { result ≤ 255 }
-{
-    byte as usize
-}
-
-// A place beyond the end reads as 0.
-fn byte_at(bytes: &[u8], at: usize) -> u8 {
-    if at < bytes.len() { bytes[at] } else { 0 }
-}
-
-// The field of this number, from 0 on.
-fn field_at(bytes: &[u8], number: u8) -> u32 {
-    let at = 4 * wide(number);
-    let high = wide(byte_at(bytes, at + 2)) + 256 * wide(byte_at(bytes, at + 3));
-    let low = wide(byte_at(bytes, at)) + 256 * wide(byte_at(bytes, at + 1));
-    (low + 65536 * high) as u32
+// What is behind a start, which a number says: all at 0. A call whose input hangs so on the call before is taken out of a loop by no compiler.
+fn behind(number: u8, bytes: &[u8]) -> &[u8] {
+    &bytes[usize::from(number).min(bytes.len())..]
 }
 
 fn record_of(version: u8, bytes: &[u8]) -> Preferences {
     let fields = Fields {
-        set: field_at(bytes, 0),
-        rate: field_at(bytes, 1),
-        resolution: field_at(bytes, 2),
-        lamps: field_at(bytes, 3),
+        set: number_at(bytes, 0),
+        rate: number_at(bytes, 4),
+        resolution: number_at(bytes, 8),
+        lamps: number_at(bytes, 12),
     };
     if version == 1 {
-        return Preferences::Version1(fields);
+        Preferences::Version1(fields)
+    } else {
+        Preferences::Version2(fields, number_at(bytes, 16))
     }
-    Preferences::Version2(fields, field_at(bytes, 4))
 }
 
 // A writing as an outcome, as a conversion is one. No byte of an input is counted as used.
-fn written(w: PreferencesWritten, room: usize) -> Outcome {
-    let answer = w.answer;
-    ending(answer.number(), 0, w.written, room as u64)
-}
-
-fn write_once(version: u8, bytes: &[u8], out: &mut [u8]) -> Outcome {
-    let w = write_preferences(record_of(version, bytes), out);
-    written(w, out.len())
-}
-
-// A writing behind one that ended with this number. Its record hangs on that, so that no compiler takes anything of it out of a loop.
-fn write_after(number: u8, version: u8, bytes: &[u8], out: &mut [u8]) -> Outcome {
-    let from = within(wide(number), bytes);
-    write_once(version, &bytes[from..], out)
+fn write_once(version: u8, bytes: &[u8], output: &mut [u8]) -> Outcome {
+    let (number, written) = match write_preferences(record_of(version, bytes), output) {
+        Ok(written) => (0, written),
+        Err(refusal) => (refusal.number(), 0),
+    };
+    ending(number, 0, written, output.len() as u64)
 }
 
 // The writing as often as is told: more than once is for measuring.
-fn write_times(version: u8, bytes: &[u8], out: &mut [u8], times: usize) -> Outcome {
-    let mut outcome = write_once(version, bytes, out);
-    let mut n = 1;
-    while n < times {
-        let again = write_after(outcome.number, version, bytes, out);
-        outcome = again;
-        n += 1;
+fn write_times(version: u8, bytes: &[u8], output: &mut [u8], times: u32) -> Outcome {
+    let mut outcome = write_once(version, bytes, output);
+    for _ in 1..times {
+        outcome = write_once(version, behind(outcome.number, bytes), output);
     }
     outcome
 }
 
-// Writes into all of the output, and answers it.
-fn write_into(i: Instruction, bytes: &[u8], out: &mut [u8]) {
-    fill(out);
-    let o = write_times(i.argument, bytes, out, i.times);
-    write_output(i.op, o, out);
+// Answers the writing that an instruction tells, into all of the output.
+pub fn answer_writing<W: Write>(
+    i: Instruction,
+    bytes: &[u8],
+    output: &mut [u8],
+    out: &mut W,
+) -> io::Result<()> {
+    output.fill(FILLER);
+    let outcome = write_times(i.argument, bytes, output, i.times);
+    write_whole(out, i.op, outcome, output)
 }
 
-// Answers the writing that an instruction tells.
-pub fn answer_writing(i: Instruction, bytes: &[u8], out: &mut [u8]) {
-    let room = within(i.room, out);
-    write_into(i, bytes, &mut out[..room]);
+// The number of a reading, 0 where it is none of a refusal.
+fn number_of<T>(read: &Result<T, ReadRefusal>) -> u8 {
+    match read {
+        Ok(_) => 0,
+        Err(refusal) => refusal.number(),
+    }
 }
 
-// The reading by each reader, as often as is told. What is read hangs on what came of the reading before, in the same way.
-fn read_times_1(input: &[u8], times: usize) -> FieldsRead {
+// The reading by each reader, as often as is told.
+fn read_times_1(input: &[u8], times: u32) -> Result<Fields, ReadRefusal> {
     let mut read = read_preferences_1(input);
-    let mut n = 1;
-    while n < times {
-        let from = within(wide(read.number()), input);
-        let again = read_preferences_1(&input[from..]);
-        read = again;
-        n += 1;
+    for _ in 1..times {
+        read = read_preferences_1(behind(number_of(&read), input));
     }
     read
 }
 
-fn read_times_2(input: &[u8], times: usize) -> PreferencesRead {
+fn read_times_2(input: &[u8], times: u32) -> Result<Preferences, ReadRefusal> {
     let mut read = read_preferences_2(input);
-    let mut n = 1;
-    while n < times {
-        let from = within(wide(read.number()), input);
-        let again = read_preferences_2(&input[from..]);
-        read = again;
-        n += 1;
+    for _ in 1..times {
+        read = read_preferences_2(behind(number_of(&read), input));
     }
     read
 }
 
-// Puts a field's four bytes, the low one first, and answers the next place.
-fn put_field(out: &mut [u8], at: usize, value: u32) -> usize {
-    let second = put_byte(out, at, (value % 256) as u8);
-    let third = put_byte(out, second, (value / 256 % 256) as u8);
-    let fourth = put_byte(out, third, (value / 65536 % 256) as u8);
-    put_byte(out, fourth, (value / 16777216 % 256) as u8)
+// A reading's number, and the fields that it gives.
+#[derive(Clone, Copy)]
+struct Told {
+    number: u8,
+    fields: [u32; 5],
+    count: u8,
 }
 
-fn put_fields(out: &mut [u8], fields: Fields) -> usize {
-    let rate_at = put_field(out, 0, fields.set);
-    let resolution_at = put_field(out, rate_at, fields.rate);
-    let lamps_at = put_field(out, resolution_at, fields.resolution);
-    put_field(out, lamps_at, fields.lamps)
-}
-
-fn put_record(out: &mut [u8], preferences: Preferences) -> usize {
-    match preferences {
-        Preferences::Version1(fields) => {
-            put_fields(out, fields);
-            FOUR_FIELDS
-        }
-        Preferences::Version2(fields, repeat) => {
-            let at = put_fields(out, fields);
-            put_field(out, at, repeat);
-            FIVE_FIELDS
-        }
+fn told_fields(fields: Fields, repeat: u32, count: u8) -> Told {
+    Told {
+        number: 0,
+        fields: [
+            fields.set,
+            fields.rate,
+            fields.resolution,
+            fields.lamps,
+            repeat,
+        ],
+        count,
     }
 }
 
-fn put_read_1(out: &mut [u8], read: FieldsRead) -> usize {
+fn told_refusal(number: u8) -> Told {
+    Told {
+        number,
+        fields: [0; 5],
+        count: 0,
+    }
+}
+
+fn told_1(read: Result<Fields, ReadRefusal>) -> Told {
     match read {
-        FieldsRead::Fields(fields) => {
-            put_fields(out, fields);
-            FOUR_FIELDS
-        }
-        FieldsRead::Refused(_) => 0,
+        Ok(fields) => told_fields(fields, 0, 4),
+        Err(refusal) => told_refusal(refusal.number()),
     }
 }
 
-fn put_read_2(out: &mut [u8], read: PreferencesRead) -> usize {
+fn told_2(read: Result<Preferences, ReadRefusal>) -> Told {
     match read {
-        PreferencesRead::Preferences(preferences) => put_record(out, preferences),
-        PreferencesRead::Refused(_) => 0,
+        Ok(Preferences::Version1(fields)) => told_fields(fields, 0, 4),
+        Ok(Preferences::Version2(fields, repeat)) => told_fields(fields, repeat, 5),
+        Err(refusal) => told_refusal(refusal.number()),
     }
 }
 
-// Reads by the reader that is told, puts the fields into the output, and answers it.
-fn read_into(i: Instruction, input: &[u8], out: &mut [u8]) {
-    fill(out);
-    if i.argument == 1 {
-        let read = read_times_1(input, i.times);
-        let count = put_read_1(out, read);
-        write_output(i.op, ending(read.number(), 0, count, out.len() as u64), out);
+// Puts the fields into the output, each as four bytes.
+fn put_fields(output: &mut [u8], told: &Told) {
+    let (rooms, _) = output.as_chunks_mut::<4>();
+    let fields = &told.fields[..usize::from(told.count).min(told.fields.len())];
+    for (room, field) in rooms.iter_mut().zip(fields) {
+        *room = field.to_le_bytes();
+    }
+}
+
+// Answers the reading that an instruction tells, by the reader that it names, where its output has room for the fields.
+pub fn answer_reading<W: Write>(
+    i: Instruction,
+    input: &[u8],
+    output: &mut [u8],
+    out: &mut W,
+) -> io::Result<()> {
+    if output.len() < FIVE_FIELDS {
+        return write_answer(out, i.op, ending(NO_CALL, 0, 0, 0), output);
+    }
+    output.fill(FILLER);
+    let told = if i.argument == 1 {
+        told_1(read_times_1(input, i.times))
     } else {
-        let read = read_times_2(input, i.times);
-        let count = put_read_2(out, read);
-        write_output(i.op, ending(read.number(), 0, count, out.len() as u64), out);
-    }
-}
-
-// Answers the reading that an instruction tells, where its output has room for the fields.
-pub fn answer_reading(i: Instruction, input: &[u8], out: &mut [u8]) {
-    let room = within(i.room, out);
-    if room < FIVE_FIELDS {
-        write_answer(i.op, ending(NO_CALL, 0, 0, 0), out);
-        return;
-    }
-    read_into(i, input, &mut out[..room]);
+        told_2(read_times_2(input, i.times))
+    };
+    put_fields(output, &told);
+    let outcome = ending(
+        told.number,
+        0,
+        4 * usize::from(told.count),
+        output.len() as u64,
+    );
+    write_whole(out, i.op, outcome, output)
 }

@@ -8,59 +8,43 @@ mod type_texts;
 
 use coding_preferences::{READ_PREFERENCES, WRITE_PREFERENCES, answer_reading, answer_writing};
 use converting::{CONVERT_SET2, answer_conversion};
-use packed_calls::{
-    END, Instruction, NO_CALL, PART, ending, fewer, read_instruction, read_script, where_held,
-    within, write_answer,
-};
+use packed_calls::{Instruction, NO_CALL, Session, ending, replay, where_held, write_answer};
 use salvaging::{SALVAGE, answer_salvage};
+use std::io::{Result, Write};
 use type_texts::{TYPE_TEXT, answer_typing};
 
-// Room for the longest input.
-const INPUT_SPACE: usize = 1200000;
+// Room for the longest output, in tests/traces' format. Kept an array: it is as long as this at once.
+const OUTPUT_SPACE: usize = 65536;
 
-// Answers an instruction: a part of an input and the end have no answer.
-fn answer_with(i: Instruction, input: &[u8], out: &mut [u8]) {
-    let op = i.op;
-    match op {
-        PART => {}
-        END => {}
-        CONVERT_SET2 => answer_conversion(i, input, out),
-        TYPE_TEXT => answer_typing(i, input, out),
-        SALVAGE => answer_salvage(i, input, out),
-        WRITE_PREFERENCES => answer_writing(i, input, out),
-        READ_PREFERENCES => answer_reading(i, input, out),
-        _ => {
-            write_answer(op, ending(NO_CALL, 0, 0, 0), out);
+// The calls on lent bytes, with the output that each is lent.
+#[derive(Drop)]
+struct LentBytes {
+    output: [u8; OUTPUT_SPACE],
+}
+
+impl Session for LentBytes {
+    fn answer<W: Write>(&mut self, i: Instruction, input: &[u8], out: &mut W) -> Result<()> {
+        let i = where_held(i, input, usize::from(i.room), &self.output);
+        if i.op == SALVAGE {
+            return answer_salvage(i, input, &mut self.output, out);
+        }
+        let room = usize::from(i.room).min(OUTPUT_SPACE);
+        let output = &mut self.output[..room];
+        // Kept as numbers: they are tests/traces' format.
+        match i.op {
+            CONVERT_SET2 => answer_conversion(i, input, output, out),
+            TYPE_TEXT => answer_typing(i, input, output, out),
+            WRITE_PREFERENCES => answer_writing(i, input, output, out),
+            READ_PREFERENCES => answer_reading(i, input, output, out),
+            _ => write_answer(out, i.op, ending(NO_CALL, 0, 0, 0), output),
         }
     }
 }
 
-// Answers an instruction on the input's bytes, where there is space for them and for the output's room.
-fn answer(i: Instruction, bytes: usize, input: &[u8], out: &mut [u8]) {
-    let held = where_held(i, bytes, i.room, input, out);
-    let count = within(bytes, input);
-    answer_with(held, &input[..count], out);
-}
-
-// Answers every instruction.
-fn replay(input: &mut [u8], out: &mut [u8]) {
-    let mut bytes = 0;
-    let mut left = u64::MAX;
-    while 0 < left {
-        let i = read_instruction();
-        bytes = read_script(input, bytes, i);
-        answer(i, bytes, input, out);
-        left = fewer(left, i.op == END);
-    }
-}
-
-// Takes the input's space as an array, whose length its type says, and hands it on as a slice.
-fn replay_in(input: &mut [u8; INPUT_SPACE], out: &mut [u8]) {
-    replay(input, out);
-}
-
-fn main() {
-    let mut input = [0u8; INPUT_SPACE];
-    let mut out = io::large_buffer();
-    replay_in(&mut input, &mut out);
+fn main(rt: HostRuntime) {
+    let mut lent = LentBytes {
+        output: [0; OUTPUT_SPACE],
+    };
+    // A stream that fails ends the replay, as the end of the input does: the failure is told nowhere, and the status is 0.
+    let _ = replay(&mut lent, &mut rt.stdin(), &mut rt.stdout(), rt.alloc());
 }

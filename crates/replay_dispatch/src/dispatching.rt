@@ -1,55 +1,43 @@
 // A dispatcher's steps, and what is told of it.
-use crate::packets::packet_number;
-use crate::records::{record_after, record_end, record_told, table_of, taken_outcome};
-use dispatcher::{CallAnswer, Dispatched, Dispatcher, LastServed, Served, Source};
-use keyboard_record::{KeyboardHandler, Taken, take_event};
+use dispatcher::{CallAnswer, Dispatcher, Served, Source};
+use keyboard::number_of;
+use keyboard_record::{KeyboardHandler, take_event};
 use keyboard_sides::Side;
-use packed_calls::{END, Instruction, NO_CALL, Outcome, PART, SILENT, bit, ending, within};
+use packed_calls::{Instruction, NO_CALL, Outcome, SILENT, ending};
+use ps2_answers::Answer;
 use ps2_bytes::MouseId;
 use ps2_mouse::PS2Mouse;
-use ps2_packet_reading::{SignedAnswer, SignedRead};
+use ps2_packet::SignedPacket;
+use replay_records::{
+    packet_number, record_after, record_end, record_told, table_of, taken_outcome,
+};
+use std::ops::ControlFlow;
 
-// Where in the script the second side's and the mouse's begin.
+// Where in the script the second side's and the mouse's begin; at its end where it was not told.
 #[derive(Clone, Copy)]
-pub struct Parts {
+struct Parts {
     second: usize,
     third: usize,
 }
 
-// What a turn leaves: the dispatcher, where its scripts begin, whether the instruction's next turn is to be made, and what is answered.
+// The dispatcher, and where its scripts begin.
 #[derive(Clone, Copy)]
-pub struct Turn {
+pub struct Dispatching {
     state: Dispatcher,
     parts: Parts,
-    pub goes_on: bool,
-    pub outcome: Outcome,
 }
 
-// A turn that is its instruction's last.
-fn last(state: Dispatcher, parts: Parts, outcome: Outcome) -> Turn {
-    Turn {
-        state,
-        parts,
-        goes_on: false,
-        outcome,
-    }
-}
+// How a turn ended, and whether it is its instruction's last.
+pub type Turn = ControlFlow<Outcome, Outcome>;
 
 // A turn that answers nothing, and is its instruction's last.
-fn silent(state: Dispatcher, parts: Parts) -> Turn {
-    last(state, parts, ending(SILENT, 0, 0, 0))
+fn silent() -> Turn {
+    ControlFlow::Break(ending(SILENT, 0, 0, 0))
 }
 
-// A dispatcher that has served nobody, with a record for one keyboard; all of the script is the first side's.
-pub fn at_first() -> Turn {
-    let handler = KeyboardHandler::fresh(table_of(0));
-    silent(
-        Dispatcher::new(handler, PS2Mouse { id: MouseId::Zero }),
-        Parts {
-            second: usize::MAX,
-            third: usize::MAX,
-        },
-    )
+// A turn that answers a number, and is its instruction's last.
+fn told(number: u64) -> Turn {
+    ControlFlow::Break(ending(0, 0, 0, number))
 }
 
 // The source of a number: 1 and 2 are the sides, any other the mouse.
@@ -61,36 +49,26 @@ fn source_of(number: u8) -> Source {
     }
 }
 
-fn side_number(side: Side) -> u8 {
-    match side {
-        Side::First => 1,
-        Side::Second => 2,
-    }
-}
-
 fn source_number(source: Source) -> u8 {
     match source {
-        Source::Keyboard(side) => side_number(side),
+        Source::Keyboard(Side::First) => 1,
+        Source::Keyboard(Side::Second) => 2,
         Source::Mouse => 3,
     }
 }
 
-fn last_of(number: u8) -> LastServed {
-    if number == 0 {
-        LastServed::Nobody
-    } else {
-        LastServed::One(source_of(number))
-    }
+fn last_of(number: u8) -> Option<Source> {
+    (number != 0).then_some(source_of(number))
 }
 
-fn last_number(last: LastServed) -> u8 {
+fn last_number(last: Option<Source>) -> u8 {
     match last {
-        LastServed::Nobody => 0,
-        LastServed::One(source) => source_number(source),
+        None => 0,
+        Some(source) => source_number(source),
     }
 }
 
-fn id_of(number: usize) -> MouseId {
+fn id_of(number: u16) -> MouseId {
     match number {
         0 => MouseId::Zero,
         3 => MouseId::Three,
@@ -98,89 +76,32 @@ fn id_of(number: usize) -> MouseId {
     }
 }
 
-// A dispatcher begins with the record: the argument is the source served last, the state the mouse's identity; its places are 0.
-fn begun(i: Instruction, handler: KeyboardHandler) -> Dispatcher {
-    let fresh = Dispatcher::new(handler, PS2Mouse { id: id_of(i.state) });
-    let places = fresh.places;
-    let mouse = fresh.mouse;
-    Dispatcher {
-        last: last_of(i.argument),
-        places,
-        mouse,
-        handler,
-    }
-}
-
-// The dispatcher with another place of a source.
-fn with_place(i: Instruction, state: Dispatcher) -> Dispatcher {
-    let last = state.last;
-    let mouse = state.mouse;
-    let handler = state.handler;
-    let places = state.places;
-    Dispatcher {
-        last,
-        places: places.with_place(source_of(i.argument), i.times),
-        mouse,
-        handler,
-    }
-}
-
-// The dispatcher after an instruction that tells something of it: 53 begins one, 54 tells a place.
-fn state_after(i: Instruction, state: Dispatcher) -> Dispatcher {
-    if i.op == 53 {
-        let handler = state.handler;
-        return begun(i, handler);
-    }
-    with_place(i, state)
-}
-
-// Where the second side's script begins, or the mouse's.
-fn parts_after(i: Instruction, parts: Parts) -> Parts {
-    let mut next = parts;
-    if i.argument == 2 {
-        next.second = i.times;
-    } else {
-        next.third = i.times;
-    }
-    next
-}
-
-// The source served last by the argument 0, and by another the place of a source.
-fn state_told(i: Instruction, state: Dispatcher) -> u64 {
-    if i.argument == 0 {
-        let last = state.last;
-        return last_number(last) as u64;
-    }
-    let places = state.places;
-    places.at(source_of(i.argument)) as u64
-}
-
 // What a side's call answered: `left` has the side, and 4 more where its lamp exchange failed.
 fn key_outcome(side: Side, call: CallAnswer) -> Outcome {
-    let answer = call.answer;
     Outcome {
-        number: answer.number(),
-        left: side_number(side) | (bit(call.lamps_failed) as u8) << 2,
-        used: call.used,
-        pairs: call.pairs,
-        value: call.dropped as u64,
+        left: source_number(Source::Keyboard(side)) | 4 * u8::from(call.lamps_failed),
+        ..ending(
+            number_of(call.answer),
+            call.used,
+            call.pairs,
+            u64::from(call.dropped),
+        )
     }
 }
 
 // What the mouse's turn answered: `left` is 3, and the value the packet.
-fn packet_outcome(read: SignedRead) -> Outcome {
-    let answer = read.answer;
-    let mut outcome = ending(0, read.used, read.pairs, 0);
-    outcome.left = 3;
-    match answer {
-        SignedAnswer::Packet(signed) => {
-            outcome.value = packet_number(signed);
+fn packet_outcome(read: Answer<SignedPacket>) -> Outcome {
+    let outcome = match read {
+        Ok(signed) => {
+            let value = packet_number(signed.value.packet, signed.value.scroll_movement());
+            ending(0, signed.used, signed.pairs, value)
         }
-        SignedAnswer::Refused(e) => {
-            outcome.number = e.number();
-        }
+        Err(refused) => ending(refused.value.number(), refused.used, refused.pairs, 0),
+    };
+    Outcome {
+        left: source_number(Source::Mouse),
+        ..outcome
     }
-    outcome
 }
 
 fn served_outcome(served: Served) -> Outcome {
@@ -191,79 +112,93 @@ fn served_outcome(served: Served) -> Outcome {
     }
 }
 
-// What a step gave back, as a turn.
-fn stepped(done: Dispatched, parts: Parts) -> Turn {
-    let served = done.served;
-    let state = done.state;
-    Turn {
-        state,
-        parts,
-        goes_on: true,
-        outcome: served_outcome(served),
+impl Dispatching {
+    // A dispatcher that has served nobody, with a record for one keyboard; all of the script is the first side's.
+    pub fn at_first() -> Dispatching {
+        let handler = KeyboardHandler::fresh(table_of(0));
+        Dispatching {
+            state: Dispatcher::new(handler, PS2Mouse { id: MouseId::Zero }),
+            parts: Parts {
+                second: usize::MAX,
+                third: usize::MAX,
+            },
+        }
     }
-}
 
-// A step, 56, on the parts of the script: the first side's is before the second's, which is before the mouse's.
-fn step(state: Dispatcher, parts: Parts, script: &[u8], log: &mut [u8]) -> Turn {
-    let end = within(parts.third, script);
-    let keys = &script[..end];
-    let split = within(parts.second, keys);
-    stepped(
-        state.step(&keys[..split], &keys[split..], &script[end..], log),
-        parts,
-    )
-}
-
-// A taking from the queue, 36, again until none waits.
-fn taken(t: Taken, state: Dispatcher, parts: Parts) -> Turn {
-    let event = t.event;
-    let handler = t.handler;
-    let outcome = taken_outcome(event);
-    Turn {
-        state: state.with_handler(handler),
-        parts,
-        goes_on: outcome.left == 3,
-        outcome,
+    // A dispatcher begins with the record: the argument is the source served last, the state the mouse's identity; its places are 0.
+    fn begin(&mut self, i: Instruction) {
+        let mouse = PS2Mouse { id: id_of(i.state) };
+        self.state = Dispatcher {
+            last: last_of(i.argument),
+            ..Dispatcher::new(self.state.handler, mouse)
+        };
     }
-}
 
-// An instruction that tells something of the record; an event or a byte that waits is added at each turn.
-fn record_turn(i: Instruction, state: Dispatcher, parts: Parts) -> Turn {
-    let handler = state.handler;
-    Turn {
-        state: state.with_handler(record_after(i, handler)),
-        parts,
-        goes_on: true,
-        outcome: ending(record_end(i), 0, 0, 0),
+    // Where the second side's script begins, or the mouse's.
+    fn part(&mut self, argument: u8, place: usize) {
+        if argument == 2 {
+            self.parts.second = place;
+        } else {
+            self.parts.third = place;
+        }
     }
-}
 
-// A turn of an instruction that has no ports: 30 to 32, 43, 50 and 51 tell something of the record, 36 takes, 37 and 42 answer what is left of it; 53 and 54 tell something of the dispatcher, 55 where a script begins, and 57 answers it. A part of a script and the end have no answer.
-fn plain_turn(i: Instruction, state: Dispatcher, parts: Parts) -> Turn {
-    let op = i.op;
-    let handler = state.handler;
-    match op {
-        30..=32 => record_turn(i, state, parts),
-        36 => taken(take_event(handler), state, parts),
-        37 => last(state, parts, ending(0, 0, 0, record_told(i, handler))),
-        42 => last(state, parts, ending(0, 0, 0, record_told(i, handler))),
-        43 => record_turn(i, state, parts),
-        50..=51 => record_turn(i, state, parts),
-        53..=54 => silent(state_after(i, state), parts),
-        55 => silent(state, parts_after(i, parts)),
-        57 => last(state, parts, ending(0, 0, 0, state_told(i, state))),
-        PART => silent(state, parts),
-        END => silent(state, parts),
-        _ => last(state, parts, ending(NO_CALL, 0, 0, 0)),
+    // The source served last by the argument 0, and by another the place of a source.
+    fn place_told(&self, argument: u8) -> u64 {
+        if argument == 0 {
+            u64::from(last_number(self.state.last))
+        } else {
+            self.state.places.at(source_of(argument)) as u64
+        }
     }
-}
 
-// A turn of an instruction on a dispatcher: 56 is a step.
-pub fn run_turn(i: Instruction, before: Turn, script: &[u8], log: &mut [u8]) -> Turn {
-    let state = before.state;
-    let parts = before.parts;
-    if i.op == 56 {
-        return step(state, parts, script, log);
+    // A step, 56, on the parts of the script: the first side's is before the second's, which is before the mouse's.
+    fn step(&mut self, script: &[u8], log: &mut [u8]) -> Turn {
+        let (keys, mouse) = script.split_at(self.parts.third.min(script.len()));
+        let (first, second) = keys.split_at(self.parts.second.min(keys.len()));
+        let done = self.state.step(first, second, mouse, log);
+        self.state = done.state;
+        ControlFlow::Continue(served_outcome(done.served))
     }
-    plain_turn(i, state, parts)
+
+    // A taking from the queue, 36, again until none waits.
+    fn take(&mut self) -> Turn {
+        let t = take_event(self.state.handler);
+        self.state.handler = t.handler;
+        let outcome = taken_outcome(t.event);
+        if outcome.left == 3 {
+            ControlFlow::Continue(outcome)
+        } else {
+            ControlFlow::Break(outcome)
+        }
+    }
+
+    // A turn of an instruction on the dispatcher: 30 to 32, 43, 50 and 51 tell something of the record, at each turn anew, 36 takes, 37 and 42 answer what is left of it; 53 and 54 tell something of the dispatcher, 55 where a script begins, 56 is a step, and 57 answers it.
+    pub fn turn(&mut self, i: Instruction, script: &[u8], log: &mut [u8]) -> Turn {
+        // Kept as numbers: they are tests/traces' format, whose table names each.
+        match i.op {
+            30..=32 | 43 | 50 | 51 => {
+                self.state.handler = record_after(i, self.state.handler);
+                ControlFlow::Continue(ending(record_end(i), 0, 0, 0))
+            }
+            36 => self.take(),
+            37 | 42 => told(record_told(i, self.state.handler)),
+            53 => {
+                self.begin(i);
+                silent()
+            }
+            54 => {
+                let places = self.state.places;
+                self.state.places = places.with_place(source_of(i.argument), i.times as usize);
+                silent()
+            }
+            55 => {
+                self.part(i.argument, i.times as usize);
+                silent()
+            }
+            56 => self.step(script, log),
+            57 => told(self.place_told(i.argument)),
+            _ => ControlFlow::Break(ending(NO_CALL, 0, 0, 0)),
+        }
+    }
 }

@@ -3,115 +3,45 @@
 
 mod runs;
 
-use packed_calls::{
-    END, Instruction, PART, fewer, read_instruction, read_script, where_held, within, write_answer,
-};
-use runs::{Turn, at_first, run_turn};
+use packed_calls::{Instruction, Session, replay, where_held, write_answer};
+use runs::Run;
+use std::io::{Result, Write};
+use std::ops::ControlFlow;
 
-// Room for the longest script that a handler call reads.
-const SCRIPT_SPACE: usize = 1200000;
+// Room for the longest log, in tests/traces' format. Kept an array: it is as long as this at once.
+const LOG_SPACE: usize = 4096;
 
-// A run so far: the instruction that was made last and what its turn left, how much of the script counts, and the log's room.
-#[derive(Clone, Copy)]
-struct Run {
-    instruction: Instruction,
-    turn: Turn,
-    bytes: usize,
+// A run, and the room of the log that its calls are lent, as keyboard initialisation, 28, or a run's begin, 30, told it last.
+#[derive(Drop)]
+struct Keys {
+    run: Run,
     room: usize,
 }
 
-// The instruction once more, where it goes on and has times left, or the next one.
-fn next_instruction(i: Instruction, goes_on: bool) -> Instruction {
-    if goes_on {
-        if 1 < i.times {
-            let mut next = i;
-            next.times = i.times - 1;
-            return next;
+impl Session for Keys {
+    // An instruction's turns are made as often as it says, as long as they go on.
+    fn answer<W: Write>(&mut self, i: Instruction, script: &[u8], out: &mut W) -> Result<()> {
+        if matches!(i.op, 28 | 30) {
+            self.room = usize::from(i.room);
         }
-    }
-    read_instruction()
-}
-
-// What comes before the first instruction.
-fn no_instruction() -> Instruction {
-    Instruction {
-        op: PART,
-        argument: 0,
-        state: 0,
-        room: 0,
-        times: 0,
+        let mut space = [0; LOG_SPACE];
+        let i = where_held(i, script, self.room, &space);
+        let log = &mut space[..self.room.min(LOG_SPACE)];
+        for _ in 0..i.times.max(1) {
+            match self.run.turn(i, script, log) {
+                ControlFlow::Continue(outcome) => write_answer(out, i.op, outcome, log)?,
+                ControlFlow::Break(outcome) => return write_answer(out, i.op, outcome, log),
+            }
+        }
+        Ok(())
     }
 }
 
-// The log's room from an instruction on: keyboard initialisation, 28, and a run's begin, 30, tell it.
-fn room_after(i: Instruction, room: usize) -> usize {
-    let op = i.op;
-    match op {
-        28 => i.room,
-        30 => i.room,
-        _ => room,
-    }
-}
-
-// Makes a turn, and answers it.
-fn answer_within(i: Instruction, before: Turn, script: &[u8], log: &mut [u8]) -> Turn {
-    let turn = run_turn(i, before, script, log);
-    let outcome = turn.outcome;
-    write_answer(i.op, outcome, log);
-    turn
-}
-
-// Makes a turn on the script's bytes and the log's room, where there are so many of both.
-fn answer(
-    i: Instruction,
-    before: Turn,
-    bytes: usize,
-    room: usize,
-    script: &[u8],
-    log: &mut [u8],
-) -> Turn {
-    let held = where_held(i, bytes, room, script, log);
-    let count = within(bytes, script);
-    let free = within(room, log);
-    answer_within(held, before, &script[..count], &mut log[..free])
-}
-
-// Makes a turn: of the instruction that goes on, or of the next one.
-fn step(before: Run, script: &mut [u8], log: &mut [u8]) -> Run {
-    let turn = before.turn;
-    let i = next_instruction(before.instruction, turn.goes_on);
-    let bytes = read_script(script, before.bytes, i);
-    let room = room_after(i, before.room);
-    Run {
-        instruction: i,
-        turn: answer(i, turn, bytes, room, script, log),
-        bytes,
-        room,
-    }
-}
-
-// Makes every instruction's turns.
-fn replay(script: &mut [u8], log: &mut [u8]) {
-    let mut run = Run {
-        instruction: no_instruction(),
-        turn: at_first(),
-        bytes: 0,
+fn main(rt: HostRuntime) {
+    let mut keys = Keys {
+        run: Run::at_first(),
         room: 0,
     };
-    let mut left = u64::MAX;
-    while 0 < left {
-        run = step(run, script, log);
-        left = fewer(left, run.instruction.op == END);
-    }
-}
-
-// Takes the script's space as an array, whose length its type says, and hands it on as a slice.
-fn replay_in(script: &mut [u8; SCRIPT_SPACE], log: &mut [u8]) {
-    replay(script, log);
-}
-
-fn main() {
-    let mut script = [0u8; SCRIPT_SPACE];
-    let mut log = io::buffer();
-    replay_in(&mut script, &mut log);
+    // A stream that fails ends the replay, as the end of the input does: the failure is told nowhere, and the status is 0.
+    let _ = replay(&mut keys, &mut rt.stdin(), &mut rt.stdout(), rt.alloc());
 }

@@ -1,10 +1,8 @@
 // Preferences applied to the devices, by numbers.
-ghost use Rattle.std.specs.Prelude.{◌≤◌};
-
-use packed_calls::{Instruction, NO_CALL, Outcome, ending, write_answer};
+use packed_calls::{Instruction, Outcome, ending, number_at};
 use preferences::{Fields, Preferences};
 use preferences_application::apply_preferences;
-use ps2_answers::{Completed, Completion};
+use ps2_answers::Answer;
 
 // The packed call. Its argument is the record's version, and its script has the fields before the script itself: five, each as four bytes, the low one
 // first. The fifth of version 1 is not read.
@@ -12,69 +10,33 @@ pub const APPLYING: u8 = 47;
 
 const FIELD_BYTES: usize = 20;
 
-fn wide(number: u8) -> usize
-    ensures { result ≤ 255 }
-{
-    number as usize
-}
-
-// A place beyond the end reads as 0.
-fn byte_at(bytes: &[u8], at: usize) -> u8 {
-    if at < bytes.len() { bytes[at] } else { 0 }
-}
-
-// The field of this number, from 0 on.
-fn field_at(bytes: &[u8], number: u8) -> u32 {
-    let at = 4 * wide(number);
-    let high = wide(byte_at(bytes, at + 2)) + 256 * wide(byte_at(bytes, at + 3));
-    let low = wide(byte_at(bytes, at)) + 256 * wide(byte_at(bytes, at + 1));
-    (low + 65536 * high) as u32
-}
-
-fn completion_number(answer: Completion) -> u8 {
+fn outcome_of(answer: Answer<()>) -> Outcome {
     match answer {
-        Completion::Done => 0,
-        Completion::Refused(e) => e.number(),
+        Ok(done) => ending(0, done.used, done.pairs, 0),
+        Err(refused) => ending(refused.value.number(), refused.used, refused.pairs, 0),
     }
 }
 
-fn outcome_of(c: Completed) -> Outcome {
-    let answer = c.answer;
-    ending(completion_number(answer), c.used, c.pairs, 0)
-}
-
-fn is_version(number: u8) -> bool {
-    match number {
-        1 => true,
-        2 => true,
-        _ => false,
-    }
-}
-
-fn record_of(version: u8, bytes: &[u8]) -> Preferences {
+// The record of a version, 1 or 2, that the fields tell.
+fn record_of(version: u8, bytes: &[u8]) -> Option<Preferences> {
     let fields = Fields {
-        set: field_at(bytes, 0),
-        rate: field_at(bytes, 1),
-        resolution: field_at(bytes, 2),
-        lamps: field_at(bytes, 3),
+        set: number_at(bytes, 0),
+        rate: number_at(bytes, 4),
+        resolution: number_at(bytes, 8),
+        lamps: number_at(bytes, 12),
     };
-    if version == 1 {
-        return Preferences::Version1(fields);
+    match version {
+        1 => Some(Preferences::Version1(fields)),
+        2 => Some(Preferences::Version2(fields, number_at(bytes, 16))),
+        _ => None,
     }
-    Preferences::Version2(fields, field_at(bytes, 4))
 }
 
 // The application that an instruction tells. Without the fields, or of another version, there is none.
-pub fn answer_applying(i: Instruction, script: &[u8], log: &mut [u8]) {
+pub fn answer_applying(i: Instruction, script: &[u8], log: &mut [u8]) -> Option<Outcome> {
     if script.len() < FIELD_BYTES {
-        write_answer(APPLYING, ending(NO_CALL, 0, 0, 0), log);
-        return;
+        return None;
     }
-    if !is_version(i.argument) {
-        write_answer(APPLYING, ending(NO_CALL, 0, 0, 0), log);
-        return;
-    }
-    let preferences = record_of(i.argument, script);
-    let c = apply_preferences(&script[FIELD_BYTES..], log, preferences);
-    write_answer(APPLYING, outcome_of(c), log);
+    let preferences = record_of(i.argument, script)?;
+    Some(outcome_of(apply_preferences(&script[FIELD_BYTES..], log, preferences)))
 }

@@ -4,54 +4,40 @@
 mod applying;
 
 use applying::{APPLYING, answer_applying};
-use packed_calls::{
-    END, Instruction, NO_CALL, PART, ending, fewer, read_instruction, read_script, where_held,
-    within, write_answer,
-};
+use packed_calls::{Instruction, NO_CALL, Session, ending, replay, where_held, write_answer};
+use std::io::{Result, Write};
 
-// Room for the longest script.
-const SCRIPT_SPACE: usize = 1200000;
+// Room for the longest log, in tests/traces' format. Kept an array: it is as long as this at once.
+const LOG_SPACE: usize = 4096;
 
-// Answers an instruction: a part of a script and the end have no answer.
-fn answer_within(i: Instruction, script: &[u8], log: &mut [u8]) {
-    let op = i.op;
-    match op {
-        PART => {}
-        END => {}
-        APPLYING => answer_applying(i, script, log),
-        _ => {
-            write_answer(op, ending(NO_CALL, 0, 0, 0), log);
-        }
+// The applications, with the log that each is lent.
+#[derive(Drop)]
+struct Applications {
+    log: [u8; LOG_SPACE],
+}
+
+impl Session for Applications {
+    fn answer<W: Write>(&mut self, i: Instruction, script: &[u8], out: &mut W) -> Result<()> {
+        let i = where_held(i, script, usize::from(i.room), &self.log);
+        let room = usize::from(i.room).min(LOG_SPACE);
+        let log = &mut self.log[..room];
+        let outcome = match i.op {
+            APPLYING => answer_applying(i, script, log),
+            _ => None,
+        };
+        write_answer(out, i.op, outcome.unwrap_or(ending(NO_CALL, 0, 0, 0)), log)
     }
 }
 
-// Answers an instruction on the script's bytes and the log's room, where there are so many of both.
-fn answer(i: Instruction, bytes: usize, script: &[u8], log: &mut [u8]) {
-    let held = where_held(i, bytes, i.room, script, log);
-    let count = within(bytes, script);
-    let room = within(i.room, log);
-    answer_within(held, &script[..count], &mut log[..room]);
-}
-
-// Answers every instruction.
-fn replay(script: &mut [u8], log: &mut [u8]) {
-    let mut bytes = 0;
-    let mut left = u64::MAX;
-    while 0 < left {
-        let i = read_instruction();
-        bytes = read_script(script, bytes, i);
-        answer(i, bytes, script, log);
-        left = fewer(left, i.op == END);
-    }
-}
-
-// Takes the script's space as an array, whose length its type says, and hands it on as a slice.
-fn replay_in(script: &mut [u8; SCRIPT_SPACE], log: &mut [u8]) {
-    replay(script, log);
-}
-
-fn main() {
-    let mut script = [0u8; SCRIPT_SPACE];
-    let mut log = io::buffer();
-    replay_in(&mut script, &mut log);
+fn main(rt: HostRuntime) {
+    let mut applications = Applications {
+        log: [0; LOG_SPACE],
+    };
+    // A stream that fails ends the replay, as the end of the input does: the failure is told nowhere, and the status is 0.
+    let _ = replay(
+        &mut applications,
+        &mut rt.stdin(),
+        &mut rt.stdout(),
+        rt.alloc(),
+    );
 }

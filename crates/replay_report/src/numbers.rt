@@ -1,98 +1,119 @@
-// Numbers as bytes, low byte first, and as answers.
-ghost use Rattle.std.specs.Prelude.{◌≤◌, ◌+◌, length};
-
-use packed_calls::{ending, write_answer};
-use report::{Mean, is_negative, magnitude};
+// The numbers of a report as bytes, low byte first, and as answers.
+use packed_calls::{Outcome, ending, write_answer};
+use report::{Report, WholeMean};
 use report_totals::Totals;
+use std::io::{Result, Write};
+
+// The bytes of a report: 97 numbers of 8, presses, packets, x and y, and a byte for each sum that is 1 where it is below 0.
+const PACKETS: usize = 94;
+
+const X: usize = 95;
+
+const Y: usize = 96;
+
+const X_SIGN: usize = 776;
+
+const Y_SIGN: usize = 777;
 
 // Half of the numbers of 64 bits, and of 32.
-const HALF: u64 = 9223372036854775808;
+const HALF: u64 = 1 << 63;
 
-fn wide(byte: u8) -> u64
-    ensures { result ≤ 255 }
-{
-    byte as u64
+const NARROW_HALF: i64 = 1 << 31;
+
+// The number of this place among those of 8 bytes; 0 where the bytes end before it does.
+fn number_at(numbers: &[[u8; 8]], place: usize) -> u64 {
+    numbers
+        .get(place)
+        .map_or(0, |bytes| u64::from_le_bytes(*bytes))
 }
 
-fn four(a: u8, b: u8, c: u8, d: u8) -> u64
-    ensures { result ≤ 4294967295 }
-{
-    wide(a) + 256 * wide(b) + 65536 * wide(c) + 16777216 * wide(d)
+// A sum: how far it is from 0, less 1 where it is below.
+fn signed(magnitude: u64, sign: Option<&u8>) -> i64 {
+    let sum = (magnitude % HALF) as i64;
+    if sign == Some(&1) { !sum } else { sum }
 }
 
-fn eight(low: u64, high: u64) -> u64
-    requires { (low ≤ 4294967295) × (high ≤ 4294967295) }
-{
-    low + 4294967296 * high
-}
-
-// The number at a place; 0 where the bytes end before it does.
-pub fn number_at(bytes: &[u8], at: usize) -> u64 {
-    if bytes.len() < 8 {
-        return 0;
+// The totals that the bytes tell.
+pub fn told(bytes: &[u8]) -> Totals {
+    let (numbers, _) = bytes.as_chunks::<8>();
+    let mut presses = [0u64; 94];
+    for (press, number) in presses.iter_mut().zip(numbers) {
+        *press = u64::from_le_bytes(*number);
     }
-    if bytes.len() - 8 < at {
-        return 0;
+    Totals {
+        presses,
+        packets: number_at(numbers, PACKETS),
+        x: signed(number_at(numbers, X), bytes.get(X_SIGN)),
+        y: signed(number_at(numbers, Y), bytes.get(Y_SIGN)),
     }
-    let low = four(bytes[at], bytes[at + 1], bytes[at + 2], bytes[at + 3]);
-    let high = four(bytes[at + 4], bytes[at + 5], bytes[at + 6], bytes[at + 7]);
-    eight(low, high)
 }
 
-pub fn byte_at(bytes: &[u8], at: usize) -> u8 {
-    if at < bytes.len() {
-        return bytes[at];
-    }
-    0
+// Kept: `as` has to be proved to lose nothing, so that the low bits are named by a remainder.
+// The low bits of a count, and of how far a sum is from 0.
+fn narrow_count(count: u64) -> u32 {
+    (count % (1 << 32)) as u32
 }
 
-// A number of 64 bits: how far it is from 0, less 1 where it is below.
-pub fn signed(is_below: bool, magnitude: u64) -> i64 {
-    let m = (magnitude % HALF) as i64;
-    if is_below {
-        return !m;
+fn narrow_sum(sum: i64) -> i32 {
+    if sum < 0 {
+        !((!sum % NARROW_HALF) as i32)
+    } else {
+        (sum % NARROW_HALF) as i32
     }
-    m
 }
 
-// An answer that has a number. The answer's own number is 1 where it is below 0, and it is told as far as it is from -1 then.
-pub fn tell(op: u8, number: u64) {
-    let nothing = [0u8; 2];
-    write_answer(op, ending(0, 0, 0, number), &nothing);
+// The report of 32 bits with these numbers.
+pub fn narrow(totals: Totals) -> Report {
+    let mut presses = [0u32; 94];
+    for (press, count) in presses.iter_mut().zip(&totals.presses) {
+        *press = narrow_count(*count);
+    }
+    Report {
+        presses,
+        packets: narrow_count(totals.packets),
+        x: narrow_sum(totals.x),
+        y: narrow_sum(totals.y),
+    }
 }
 
-pub fn tell_signed(op: u8, z: i64) {
-    let nothing = [0u8; 2];
-    if is_negative(z) {
-        write_answer(op, ending(1, 0, 0, magnitude(z)), &nothing);
-        return;
-    }
-    write_answer(op, ending(0, 0, 0, magnitude(z)), &nothing);
+// What has a number, or none: the answer's own number is 0, and 1 where a number is below 0, which is told as far as it is from -1 then.
+pub fn told_number(number: u64) -> Outcome {
+    ending(0, 0, 0, number)
 }
 
-// Tells the numbers of a report: presses, packets, x and y.
-pub fn tell_totals(op: u8, totals: Totals) {
-    let presses = totals.presses;
-    let mut i: usize = 0;
-    while i < 94 {
-        tell(op, presses[i]);
-        i += 1;
+fn told_signed(number: i64) -> Outcome {
+    if number < 0 {
+        ending(1, 0, 0, (!number).cast_unsigned())
+    } else {
+        told_number(number.cast_unsigned())
     }
-    tell(op, totals.packets);
-    tell_signed(op, totals.x);
-    tell_signed(op, totals.y);
 }
 
 // A mean is told by two answers, and its absence by one, whose number is 2.
-pub fn tell_mean(op: u8, mean: Mean) {
+fn tell_mean<W: Write>(out: &mut W, op: u8, mean: Option<WholeMean>) -> Result<()> {
     match mean {
-        Mean::Of(whole) => {
-            tell_signed(op, whole.quotient);
-            tell(op, whole.remainder);
+        Some(whole) => {
+            write_answer(out, op, told_signed(whole.quotient), &[])?;
+            write_answer(out, op, told_number(whole.remainder), &[])
         }
-        Mean::Absent => {
-            let nothing = [0u8; 2];
-            write_answer(op, ending(2, 0, 0, 0), &nothing);
-        }
+        None => write_answer(out, op, ending(2, 0, 0, 0), &[]),
     }
+}
+
+// Tells a report: its numbers, presses, packets, x and y, then both means.
+pub fn tell<W: Write>(
+    out: &mut W,
+    op: u8,
+    totals: Totals,
+    mean_x: Option<WholeMean>,
+    mean_y: Option<WholeMean>,
+) -> Result<()> {
+    for press in &totals.presses {
+        write_answer(out, op, told_number(*press), &[])?;
+    }
+    write_answer(out, op, told_number(totals.packets), &[])?;
+    write_answer(out, op, told_signed(totals.x), &[])?;
+    write_answer(out, op, told_signed(totals.y), &[])?;
+    tell_mean(out, op, mean_x)?;
+    tell_mean(out, op, mean_y)
 }

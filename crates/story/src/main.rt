@@ -1,16 +1,12 @@
 // Two stories of a queue that has no room. At a table with one keyboard the release of Control finds no room for its event, and T is still no Control-T. At a table with two, one side sends more than its share, and the other is still heard.
 #![tactic(auto)]
 
-ghost use Rattle.std.specs.Prelude.{◌≤◌};
-
-use keyboard::{Handled, HandlerAnswer, handle};
+use keyboard::{Handled, HandlerRefusal, handle};
 use keyboard_modifiers::KeyboardModifiers;
-use keyboard_record::{KeyboardHandler, Keyboards, Table, TakenEvent, take_event};
+use keyboard_record::{KeyboardHandler, Keyboards, Table, take_event};
 use keyboard_scancodes::Profile;
 use keyboard_sides::Side;
-
-// The descriptor of a program's standard output, by POSIX.
-const STDOUT_FILENO: i32 = 1;
+use std::io::Result;
 
 const CONTROL_PRESSED: u8 = 0x1D;
 
@@ -37,62 +33,24 @@ fn handle_byte(handler: KeyboardHandler, side: Side, scan_code: u8) -> Handled {
 
 // The record after a byte, whatever the call answered.
 fn after_byte(handler: KeyboardHandler, side: Side, scan_code: u8) -> KeyboardHandler {
-    let call = handle_byte(handler, side, scan_code);
-    let left = call.handler;
-    left
-}
-
-// Words, then a number.
-fn tell(before: &[u8], number: u64) {
-    io::write_all(STDOUT_FILENO, before);
-    io::print_decimal(STDOUT_FILENO, number);
-}
-
-// Words that end a line.
-fn tell_rest(words: &[u8]) {
-    io::write_all(STDOUT_FILENO, words);
-}
-
-fn tell_flags(before: &[u8], modifiers: KeyboardModifiers) {
-    io::write_all(STDOUT_FILENO, before);
-    io::print_hex(STDOUT_FILENO, modifiers.bits as u64, 3);
-    if modifiers.is_control() {
-        tell_rest(b", with Control.\n");
-    } else {
-        tell_rest(b", without Control.\n");
-    }
-}
-
-// 1 where a call was refused because its side has its share, 0 otherwise.
-fn side_full(answer: HandlerAnswer) -> u64
-    ensures { result ≤ 1 }
-{
-    if let HandlerAnswer::SideFull = answer {
-        1
-    } else {
-        0
-    }
+    handle_byte(handler, side, scan_code).handler
 }
 
 // The record after some presses, and how many of them were refused because the side has its share.
 #[derive(Clone, Copy)]
 struct Filled {
     handler: KeyboardHandler,
-    refused: u64,
+    refused: u32,
 }
 
 // A side presses A so many times.
 fn fill(handler: KeyboardHandler, side: Side, times: u8) -> Filled {
     let mut filled = handler;
-    let mut refused: u64 = 0;
-    let mut presses: u8 = 0;
-    while presses < times {
+    let mut refused = 0;
+    for _ in 0..times {
         let call = handle_byte(filled, side, A_PRESSED);
-        let next = call.handler;
-        let answer = call.answer;
-        filled = next;
-        refused += side_full(answer);
-        presses += 1;
+        filled = call.handler;
+        refused += u32::from(matches!(call.answer, Err(HandlerRefusal::SideFull)));
     }
     Filled {
         handler: filled,
@@ -100,125 +58,95 @@ fn fill(handler: KeyboardHandler, side: Side, times: u8) -> Filled {
     }
 }
 
-fn tell_release(answer: HandlerAnswer) {
-    if let HandlerAnswer::QueueFull = answer {
-        tell_rest(b"Control is released: refused 20, its event is lost.\n");
-    } else {
-        tell_rest(b"Control is released: its event waits.\n");
-    }
-}
-
-// 1 for the second side, 0 for the first.
-fn second_side(side: Side) -> u64
-    ensures { result ≤ 1 }
-{
-    match side {
-        Side::First => 0,
-        Side::Second => 1,
-    }
-}
-
 // How many events were taken, how many of them the second side's, and the record without them.
 #[derive(Clone, Copy)]
 struct Emptied {
-    taken: u64,
-    of_second: u64,
+    taken: u32,
+    of_second: u32,
     handler: KeyboardHandler,
 }
 
 // More takings than any queue has events.
-const TAKINGS: u64 = 1000;
+const TAKINGS: u32 = 1000;
 
 // Takes events until none waits.
 fn empty(handler: KeyboardHandler) -> Emptied {
     let mut left = handler;
-    let mut taken: u64 = 0;
-    let mut of_second: u64 = 0;
-    while taken < TAKINGS {
+    let mut of_second = 0;
+    for taken in 0..TAKINGS {
         let t = take_event(left);
-        let next = t.handler;
-        left = next;
-        let event = t.event;
-        match event {
-            TakenEvent::Event(e) => {
-                let side = e.side;
-                of_second += second_side(side);
-                taken += 1;
-            }
-            _ => {
-                break;
-            }
-        }
+        left = t.handler;
+        let Ok(Some(e)) = t.event else {
+            return Emptied {
+                taken,
+                of_second,
+                handler: left,
+            };
+        };
+        of_second += u32::from(matches!(e.side, Side::Second));
     }
     Emptied {
-        taken,
+        taken: TAKINGS,
         of_second,
         handler: left,
     }
 }
 
 // T is pressed, and its event is taken.
-fn tell_t(handler: KeyboardHandler) {
+fn tell_t(rt: &impl Print, handler: KeyboardHandler) -> Result<()> {
     let taken = take_event(after_byte(handler, Side::First, T_PRESSED));
-    let event = taken.event;
-    match event {
-        TakenEvent::Event(e) => {
-            let modifiers = e.event.modifiers;
-            tell_flags(b"T is pressed: its event has flags ", modifiers);
-        }
-        _ => {}
-    }
+    let Ok(Some(e)) = taken.event else {
+        return Ok(());
+    };
+    let flags = e.event.modifiers.bits;
+    let control = if e.event.modifiers.is_control() {
+        "with"
+    } else {
+        "without"
+    };
+    println!(rt; "T is pressed: its event has flags {flags:03x}, {control} Control.")
 }
 
 // What a full queue does not take, the flags do.
-fn tell_full_queue() {
-    let held = after_byte(
-        KeyboardHandler::fresh(table_of(Keyboards::One)),
-        Side::First,
-        CONTROL_PRESSED,
-    );
-    let filled = fill(held, Side::First, 127);
-    let full = filled.handler;
-    tell(
-        b"Control is pressed, then A 127 times: ",
-        full.state.count as u64,
-    );
-    tell_rest(b" events wait.\n");
+fn tell_full_queue(rt: &impl Print) -> Result<()> {
+    let fresh = KeyboardHandler::fresh(table_of(Keyboards::One));
+    let held = after_byte(fresh, Side::First, CONTROL_PRESSED);
+    let full = fill(held, Side::First, 127).handler;
+    let waiting = full.state.count;
+    println!(rt; "Control is pressed, then A 127 times: {waiting} events wait.")?;
     let release = handle_byte(full, Side::First, CONTROL_RELEASED);
-    let answer = release.answer;
-    tell_release(answer);
-    let left = release.handler;
-    let emptied = empty(left);
-    tell(b"The queue is emptied: ", emptied.taken);
-    tell_rest(b" events are taken.\n");
-    let ready = emptied.handler;
-    tell_t(ready);
+    let event = if matches!(release.answer, Err(HandlerRefusal::QueueFull)) {
+        "refused 20, its event is lost"
+    } else {
+        "its event waits"
+    };
+    println!(rt; "Control is released: {event}.")?;
+    let emptied = empty(release.handler);
+    let taken = emptied.taken;
+    println!(rt; "The queue is emptied: {taken} events are taken.")?;
+    tell_t(rt, emptied.handler)
 }
 
 // What one side sends does not take the other side's room.
-fn tell_two_sides() {
-    let filled = fill(
-        KeyboardHandler::fresh(table_of(Keyboards::Two)),
-        Side::First,
-        200,
-    );
-    let full = filled.handler;
-    tell(
-        b"Two keyboards; side 1 presses A 200 times: ",
-        full.state.count as u64,
-    );
-    tell(b" events wait, ", filled.refused);
-    tell_rest(b" are refused 31.\n");
-    let heard = after_byte(full, Side::Second, T_PRESSED);
-    tell(b"Side 2 presses T: ", heard.state.count as u64);
-    tell_rest(b" events wait.\n");
+fn tell_two_sides(rt: &impl Print) -> Result<()> {
+    let fresh = KeyboardHandler::fresh(table_of(Keyboards::Two));
+    let filled = fill(fresh, Side::First, 200);
+    let waiting = filled.handler.state.count;
+    let refused = filled.refused;
+    println!(rt;
+        "Two keyboards; side 1 presses A 200 times: {waiting} events wait, {refused} are refused 31."
+    )?;
+    let heard = after_byte(filled.handler, Side::Second, T_PRESSED);
+    let waiting = heard.state.count;
+    println!(rt; "Side 2 presses T: {waiting} events wait.")?;
     let emptied = empty(heard);
-    tell(b"The queue is emptied: ", emptied.taken);
-    tell(b" events are taken, ", emptied.of_second);
-    tell_rest(b" of them of side 2.\n");
+    let taken = emptied.taken;
+    let of_second = emptied.of_second;
+    println!(rt; "The queue is emptied: {taken} events are taken, {of_second} of them of side 2.")
 }
 
-fn main() {
-    tell_full_queue();
-    tell_two_sides();
+fn main(rt: HostRuntime) {
+    // A story that can't be written ends there: the failure is told nowhere, and the status is 0.
+    let _ = tell_full_queue(&rt);
+    let _ = tell_two_sides(&rt);
 }

@@ -1,27 +1,25 @@
 // Prints the key events of the scancodes on standard input. The first 65,536 bytes are the script; more are ignored.
 #![tactic(auto)]
 
-// The descriptors of a program's standard input and standard output, by POSIX.
-const STDIN_FILENO: i32 = 0;
+use std::io::{Read, Result, Write};
 
-const STDOUT_FILENO: i32 = 1;
+const SCRIPT_LIMIT: u64 = 65536;
 
 // Room for every listing: 13 bytes for each script byte are enough (`listing_fits` of key_listing).
 const LISTING_ROOM: usize = 851968;
 
-fn main() {
-    let mut script = io::large_buffer();
-    let read = io::read_full(STDIN_FILENO, &mut script);
-    let mut room = [0u8; LISTING_ROOM];
-    print_in(&mut room, &script[..read]);
+fn print_listing(rt: &HostRuntime) -> Result<()> {
+    let mut script = Vec::new(rt.alloc());
+    // What came before a reading that fails is the script, as before the input's end.
+    let _ = rt.stdin().take(SCRIPT_LIMIT).read_to_end(&mut script);
+    let mut listing = Vec::new(rt.alloc());
+    listing.resize(LISTING_ROOM, 0)?;
+    let count = key_listing::list_keys(script.as_slice(), listing.as_mut_slice());
+    listing.truncate(count);
+    rt.stdout().write_all(listing.as_slice())
 }
 
-// Takes the room as an array, whose length its type says, and hands it on as a slice.
-fn print_in(room: &mut [u8; LISTING_ROOM], script: &[u8]) {
-    print_listing(script, room);
-}
-
-fn print_listing(script: &[u8], out: &mut [u8]) {
-    let count = key_listing::list_keys(script, out);
-    io::write_all(STDOUT_FILENO, &out[..count]);
+fn main(rt: HostRuntime) {
+    // A listing that can't be written ends there: the failure is told nowhere, and the status is 0.
+    let _ = print_listing(&rt);
 }

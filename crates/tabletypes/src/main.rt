@@ -1,44 +1,32 @@
 // Types the text on standard input: writes its scancodes to standard output. The first 65,536 characters are taken; more are ignored. A refusal is told on standard error.
 #![tactic(auto)]
 
-use typing::{TypingAnswer, type_text};
+use std::io::{Eprint, Read, Result, Write};
 
-// The descriptors of a program's standard input, output and error, by POSIX.
-const STDIN_FILENO: i32 = 0;
-
-const STDOUT_FILENO: i32 = 1;
-
-const STDERR_FILENO: i32 = 2;
+const TEXT_LIMIT: u64 = 65536;
 
 // Room for every text: a character takes four bytes at the most.
 const SCANCODE_ROOM: usize = 262144;
 
-fn main() {
-    let mut text = io::large_buffer();
-    let read = io::read_full(STDIN_FILENO, &mut text);
-    let mut room = [0u8; SCANCODE_ROOM];
-    type_in(&mut room, &text[..read]);
-}
-
-// Takes the room as an array, whose length its type says, and hands it on as a slice.
-fn type_in(room: &mut [u8; SCANCODE_ROOM], text: &[u8]) {
-    write_typed(text, room);
-}
-
-fn write_typed(text: &[u8], out: &mut [u8]) {
-    let typing = type_text(text, out);
-    let written = typing.written;
-    let answer = typing.answer;
-    io::write_all(STDOUT_FILENO, &out[..written]);
-    tell(answer);
-}
-
-fn tell(answer: TypingAnswer) {
-    let number = answer.number();
-    if number == 0 {
-        return;
+fn type_input(rt: &HostRuntime) -> Result<()> {
+    let mut text = Vec::new(rt.alloc());
+    // What came before a reading that fails is the text, as before the input's end.
+    let _ = rt.stdin().take(TEXT_LIMIT).read_to_end(&mut text);
+    let mut scancodes = Vec::new(rt.alloc());
+    scancodes.resize(SCANCODE_ROOM, 0)?;
+    match typing::type_text(text.as_slice(), scancodes.as_mut_slice()) {
+        Ok(written) => {
+            scancodes.truncate(written);
+            rt.stdout().write_all(scancodes.as_slice())
+        }
+        Err(refusal) => {
+            let number = refusal.number();
+            eprintln!(rt; "refused {number}")
+        }
     }
-    io::write_all(STDERR_FILENO, b"refused ");
-    io::print_decimal(STDERR_FILENO, number as u64);
-    io::write_all(STDERR_FILENO, b"\n");
+}
+
+fn main(rt: HostRuntime) {
+    // What can't be written is told nowhere, and the status is 0.
+    let _ = type_input(&rt);
 }

@@ -5,7 +5,8 @@ use Rattle.std.proofs.Math.Option.{Option, none, some}
 use Prim.Native.Char.{code}
 use Rattle.exchange.specs.Exchange.{End, yields, lacks, play}
 use Rattle.exchange.specs.Answer.{Answer, gives, refuses, number_ended}
-use Rattle.keycodes_ascii.specs.declared.Character.{Character}
+use Rattle.std.specs.Prelude.{Some}
+use Rattle.std.specs.Prelude as prelude
 use Rattle.keycodes_ascii.specs.declared.KeyEvent.{KeyEvent}
 use Rattle.keycodes_ascii.specs.Characters.{character_of}
 use Rattle.ps2_packet.specs.declared.MousePacket.{MousePacket}
@@ -61,13 +62,13 @@ newest (e ∷ f ∷ es) = newest (f ∷ es)
 abbrev pub newest_after : Call → Option KeyEvent
 newest_after c = newest (waiting c.gives_back.handler)
 
-abbrev pub character_of_event : Option KeyEvent → Option Character
+abbrev pub character_of_event : Option KeyEvent → Option (prelude.Option ℕ)
 character_of_event none = none
 character_of_event (some e) = some (character_of e.keycode e.modifiers)
 
 abbrev pub Sees : Call → Seen → Type 0
 Sees c (event key action carried) = newest_after c ≡ some (record { keycode = key; action = action; modifiers = record { bits = word carried } })
-Sees c (writes sign) = character_of_event (newest_after c) ≡ some (Character.Ascii (code sign))
+Sees c (writes sign) = character_of_event (newest_after c) ≡ some (Some (code sign))
 Sees c no_event = newest_after c ≡ none
 Sees c (flags set) = c.gives_back.handler.state.first.modifiers.bits ≡ word set
 Sees c (refused number) = number_ended c.gives_back.end ≡ number
@@ -98,7 +99,7 @@ Holds (scripts (first ∷ more) seen) = All (Sees (last_call (fresh laid) first 
 Holds (x_is bytes x) = ReadAs (λ packet. x_movement (common packet) ≡ x) (play (read_mouse_packet Zero) bytes []).end
 Holds (wheel_is id byte4 turns) =
     (b1 b2 b3 : ℕ) → ReadAs (λ packet. wheel packet ≡ turns) (play (read_mouse_packet id) (b1 ∷ b2 ∷ b3 ∷ byte4 ∷ []) []).end
-Holds (character set key sign) = character_of key (record { bits = word set }) ≡ Character.Ascii (code sign)
+Holds (character set key sign) = character_of key (record { bits = word set }) ≡ Some (code sign)
 Holds (mouse_sends command script pairs) =
     let o = play (mouse_command command) script free_log in
     written o.pairs o.log ≡ pairs

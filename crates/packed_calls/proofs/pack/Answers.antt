@@ -1,10 +1,12 @@
 -- `packed_calls::pack` meets its contract: four numbers, one after another.
 -- Assumes nothing.
-use Rattle.buffer.proofs.Buffer.{put_then, put_holds}
+use Rattle.std.proofs.Common.{◌≡◌, ◌+◌, ◌*◌, arith, refl}
 use Rattle.packed_calls.specs.Packed.{packed}
 use Rattle.packed_calls.proofs.pack.Goals as goal
 
 pub returns : goal.returns
 unfolding packed
 returns c =
-    put_holds _ _ (put_then _ _ _ (put_then _ _ _ (put_then _ _ _ c.put_number-used.ensures c.put_number-pairs.ensures) c.put_number-value.ensures) c.put_number.ensures)
+    let a = c.args in
+    let first : c.from_le_bytes-first.result ≡ a.op + 256 * a.o.number + 65536 * a.o.left = omega arith in
+    rw (c.copy_from_slice.ensures.after, c.copy_from_slice-2.ensures.after, c.copy_from_slice-3.ensures.after, c.copy_from_slice-4.ensures.after, c.to_le_bytes.ensures, c.to_le_bytes-2.ensures, c.to_le_bytes-3.ensures, c.to_le_bytes-4.ensures, first) refl

@@ -1,12 +1,11 @@
 -- `packed_calls::unpack` meets its contract: field by field, or the end where there are too few bytes.
 -- Assumes nothing.
-use native.Mathlib.Omega.{arith}
+use Rattle.std.proofs.Common.{arith, refl}
 use Rattle.packed_calls.proofs.Packed.{unpacked_is, unpacked_end}
 use Rattle.packed_calls.proofs.unpack.Goals as goal
 
-pub returns-then-head-lt-INSTRUCTION_BYTES : goal.returns-then-head-lt-INSTRUCTION_BYTES
-returns-then-head-lt-INSTRUCTION_BYTES c = unpacked_end _ c.if-head-lt-INSTRUCTION_BYTES.true
+pub returns-in_default : goal.returns-in_default
+returns-in_default c = unpacked_end _ c.in_default.len_below
 
 pub returns : goal.returns
-returns c =
-    unpacked_is _ c.if-head-lt-INSTRUCTION_BYTES.false c.byte_at.ensures c.byte_at-2.ensures (omega arith) (omega arith) (omega arith)
+returns c = unpacked_is _ c.in-len10-up.len_at_least refl refl (omega arith) (omega arith) (omega arith)

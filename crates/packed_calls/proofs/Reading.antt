@@ -1,0 +1,118 @@
+-- What is read, one read after another, and the calls that a session is handed.
+-- Assumes nothing.
+use Rattle.std.proofs.Common.{◌≡◌, ℕ, ◌+◌, ◌-◌, ◌≤◌, List, [], ◌∷◌, ◌++◌, arith, length, take, drop, slice_range, sym, ap, ◌∙◌, subst, refl, drop_at, length-take-le, None, Some, IfSome, suc, zero, append_assoc, append-nil}
+use Rattle.std.specs.declared.option.Option.{Option}
+use Rattle.std.specs.Io.KnownBytes.{Consumes, IsAtEnd}
+use Rattle.std.proofs.lemmas.List.{take_at, take_all, drop_all}
+use borrow.Rule.Slice.PartMut.{put_mid, post_of}
+use borrow.Author.Tests.{eq-eqb, ne_eqb}
+use lib.Seq.{take-add, take-append-le}
+use Rattle.packed_calls.specs.declared.Instruction.{Instruction}
+use Rattle.packed_calls.specs.Packed.{instruction_bytes, unpacked}
+use Rattle.packed_calls.specs.Replaying.{Taken, TakenInstruction, Dropped, HandedOne, HandedAll, calls}
+
+-- ---- bytes
+
+-- the front up to a place, and what stands from there up to another
+pub take_split : (a b : ℕ) (old new : List ℕ) → a ≤ b → take a new ≡ take a old → take a old ++ slice_range new a b ≡ take b new
+take_split a b old new h front =
+    let same : a + (b - a) ≡ b = omega arith in
+    ap (λ l. l ++ slice_range new a b) (sym front) ∙ sym (take-add a (b - a) new) ∙ ap (λ n. take n new) same
+
+pub slice_range-put_mid : (a k n : ℕ) (xs ys : List ℕ) → a ≤ length xs → n ≤ length ys → slice_range (put_mid a k xs ys) a (a + n) ≡ take n ys
+slice_range-put_mid a k n xs ys within fits =
+    let same : (a + n) - a ≡ n = omega arith in
+    let after = post_of a k xs in
+    ap (take ((a + n) - a)) (drop_at (take a xs) (ys ++ after) a (length-take-le a xs within)) ∙ ap (λ m. take m (ys ++ after)) same ∙ take-append-le n ys after fits
+
+-- as many as were wanted
+pub taken_all : (old new : Option (List ℕ)) (bs : List ℕ) (k : ℕ) → Consumes old new bs → length bs ≡ k → Taken k old new bs
+taken_all None new bs k c e = tt
+taken_all (Some xs) None bs k c e = absurd c
+taken_all (Some xs) (Some ys) bs k c e =
+    (sym (ap (take k) c ∙ take_at bs ys k e), ap (λ l. Some l) (sym (ap (drop k) c ∙ drop_at bs ys k e)))
+
+-- all that there were
+pub taken_end : (old new : Option (List ℕ)) (bs : List ℕ) (k : ℕ) → Consumes old new bs → IsAtEnd new → length bs ≤ k → Taken k old new bs
+taken_end None new bs k c e h = tt
+taken_end (Some xs) None bs k c e h = absurd c
+taken_end (Some xs) (Some ys) bs k c e h =
+    let same : xs ≡ bs = c ∙ ap (λ l. bs ++ l) e ∙ append-nil bs in
+    (sym (ap (take k) same ∙ take_all k bs h), ap (λ l. Some l) (e ∙ sym (ap (drop k) same ∙ drop_all k bs h)))
+
+-- ---- calls
+
+-- what a session was handed so far of the calls of an input, n instructions at most, when m are left to be read
+abbrev pub HandedSo : Option (List Instruction) → ℕ → Option (List ℕ) → ℕ → Option (List Instruction) → Option (List ℕ) → Type 0
+HandedSo old n input m new rest =
+    IfSome old (λ before. IfSome input (λ xs. (got : List Instruction) × (ys : List ℕ) × (new ≡ Some (before ++ got)) × (rest ≡ Some ys) × (calls n xs ≡ got ++ calls m ys)))
+
+pub handed_none : (old : Option (List Instruction)) (n : ℕ) (input : Option (List ℕ)) → HandedSo old n input n old input
+handed_none None n input = tt
+handed_none (Some before) n None = tt
+handed_none (Some before) n (Some xs) = ([], xs, ap (λ l. Some l) (sym (append-nil before)), refl, refl)
+
+-- an instruction that is a call, a part of the script, and the end
+call_first : (m : ℕ) (ys : List ℕ) (i : Instruction) → i ≡ unpacked (take instruction_bytes ys) → (i.op ≡ 255 → ⊥) → (i.op ≡ 0 → ⊥)
+    → calls (suc m) ys ≡ i ∷ calls m (drop instruction_bytes ys)
+unfolding calls
+call_first m ys i e h h0 = rw (← e, ne_eqb i.op 255 h, ne_eqb i.op 0 h0)
+
+part_first : (m : ℕ) (ys : List ℕ) (i : Instruction) → i ≡ unpacked (take instruction_bytes ys) → (i.op ≡ 255 → ⊥) → i.op ≡ 0
+    → calls (suc m) ys ≡ calls m (drop i.state (drop instruction_bytes ys))
+unfolding calls
+part_first m ys i e h h0 = rw (← e, ne_eqb i.op 255 h, eq-eqb i.op 0 h0)
+
+end_first : (m : ℕ) (ys : List ℕ) (i : Instruction) → i ≡ unpacked (take instruction_bytes ys) → i.op ≡ 255 → calls (suc m) ys ≡ []
+unfolding calls
+end_first m ys i e h = rw (← e, eq-eqb i.op 255 h)
+
+none_left : (ys : List ℕ) → calls 0 ys ≡ []
+unfolding calls
+none_left ys = refl
+
+-- the session is handed a call
+pub handed_call : (old : Option (List Instruction)) (n : ℕ) (input : Option (List ℕ)) (m : ℕ) (new new' : Option (List Instruction)) (rest rest' : Option (List ℕ)) (i : Instruction)
+    → HandedSo old n input (suc m) new rest → TakenInstruction rest rest' i → (i.op ≡ 255 → ⊥) → (i.op ≡ 0 → ⊥) → HandedOne new i new'
+    → HandedSo old n input m new' rest'
+handed_call None n input m new new' rest rest' i s t h h0 one = tt
+handed_call (Some before) n None m new new' rest rest' i s t h h0 one = tt
+handed_call (Some before) n (Some xs) m new new' rest rest' i s t h h0 one =
+    let read = subst (λ (o : Option (List ℕ)). TakenInstruction o rest' i) s.3 t in
+    let more = subst (λ (o : Option (List Instruction)). HandedOne o i new') s.2 one in (
+      s.0 ++ i ∷ [],
+      drop instruction_bytes s.1,
+      more ∙ ap (λ l. Some l) (append_assoc before s.0 (i ∷ [])),
+      read.1,
+      s.4 ∙ ap (λ l. s.0 ++ l) (call_first m s.1 i read.0 h h0) ∙ sym (append_assoc s.0 (i ∷ []) _),
+    )
+
+-- a part of the script is read
+pub handed_part : (old : Option (List Instruction)) (n : ℕ) (input : Option (List ℕ)) (m : ℕ) (new : Option (List Instruction)) (rest rest' rest'' : Option (List ℕ)) (i : Instruction)
+    → HandedSo old n input (suc m) new rest → TakenInstruction rest rest' i → (i.op ≡ 255 → ⊥) → i.op ≡ 0 → Dropped i.state rest' rest''
+    → HandedSo old n input m new rest''
+handed_part None n input m new rest rest' rest'' i s t h h0 d = tt
+handed_part (Some before) n None m new rest rest' rest'' i s t h h0 d = tt
+handed_part (Some before) n (Some xs) m new rest rest' rest'' i s t h h0 d =
+    let read = subst (λ (o : Option (List ℕ)). TakenInstruction o rest' i) s.3 t in
+    let gone = subst (λ (o : Option (List ℕ)). Dropped i.state o rest'') read.1 d in
+    (s.0, drop i.state (drop instruction_bytes s.1), s.2, gone, s.4 ∙ ap (λ l. s.0 ++ l) (part_first m s.1 i read.0 h h0))
+
+-- the end is read
+pub handed_end : (old : Option (List Instruction)) (n : ℕ) (input : Option (List ℕ)) (m : ℕ) (new : Option (List Instruction)) (rest rest' : Option (List ℕ)) (i : Instruction)
+    → HandedSo old n input (suc m) new rest → TakenInstruction rest rest' i → i.op ≡ 255 → HandedAll old n input new
+handed_end None n input m new rest rest' i s t h = tt
+handed_end (Some before) n None m new rest rest' i s t h = tt
+handed_end (Some before) n (Some xs) m new rest rest' i s t h =
+    let read = subst (λ (o : Option (List ℕ)). TakenInstruction o rest' i) s.3 t in
+    let all : calls n xs ≡ s.0 = s.4 ∙ ap (λ l. s.0 ++ l) (end_first m s.1 i read.0 h) ∙ append-nil s.0 in
+    s.2 ∙ ap (λ l. Some (before ++ l)) (sym all)
+
+-- as many instructions were read as may be
+pub handed_most : (old : Option (List Instruction)) (n : ℕ) (input : Option (List ℕ)) (new : Option (List Instruction)) (rest : Option (List ℕ))
+    → HandedSo old n input 0 new rest → HandedAll old n input new
+handed_most None n input new rest s = tt
+handed_most (Some before) n None new rest s = tt
+handed_most (Some before) n (Some xs) new rest s =
+    let all : calls n xs ≡ s.0 = s.4 ∙ ap (λ l. s.0 ++ l) (none_left s.1) ∙ append-nil s.0 in
+    s.2 ∙ ap (λ l. Some (before ++ l)) (sym all)
