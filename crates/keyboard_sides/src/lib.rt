@@ -16,7 +16,7 @@ pub enum Side {
     Second,
 }
 
-// The sides of up to 128 events in two words, the low bits first. A bit that is set says the second side. The bits behind those of the events that wait may be anything.
+// The sides of up to 128 events in two words, the low bits first. A bit that is set says the second side. The bits behind those of the events that wait may be anything. Two words, and no `u128`: C is lent them as two numbers.
 #[derive(Clone, Copy, PartialEq, Eq)]
 pub struct Sides {
     pub low: u64,

@@ -169,7 +169,7 @@ impl TryFrom<u8> for Keycode {
 
     ghost try_from_gives = { λ byte r. r ≡ keycode_read byte };
 
-    // The enum's numbers once more: a `match` on a byte goes to its arm by one jump.
+    // The enum's numbers once more, kept for speed: a `match` on a byte is one lookup, where a table that is searched lies on the stack at each call (docs/DECISIONS.md).
     #[tactic(auto, unfolding(crate::specs::Keycode::keycode_of, crate::specs::Keycode::numbered, crate::specs::Keycode::keycodes))]
     fn try_from(byte: u8) -> Result<Keycode, NoKeycode> {
         let keycode = match byte {
@@ -313,10 +313,8 @@ impl Keycode {
         ensures { result ≡ character_of self modifiers }
     {
         let at = column(modifiers.is_shift(), modifiers.is_caps_lock());
-        match table.get(usize::from(u8::from(self))) {
-            Some(row) => of_entry(row[at]),
-            None => None,
-        }
+        let row = table.get(usize::from(u8::from(self)))?;
+        of_entry(row[at])
     }
 
     // Whether this is a letter from A to Z.

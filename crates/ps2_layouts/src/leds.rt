@@ -36,6 +36,7 @@ impl From<LEDState> for u8 {
     }
 }
 
+// Each lamp has its own accessor and setter, by mask and shift as document 01 asks; one by a parameter is no plainer.
 impl LEDState {
     // All off.
     pub fn new() -> Self

@@ -62,7 +62,7 @@ pub struct MousePacketGeneric {
 }
 
 impl MousePacketGeneric {
-    // No `From` of an array here and below: a reading has its bytes one by one, and would pack what is taken apart here; it is no plainer.
+    // No `From` here and below: it takes one argument, so the bytes would be packed into an array for it alone, and the name is the Rust's.
     pub fn from_bytes(byte1: u8, byte2: u8, byte3: u8) -> Self
         ensures { result ≡ generic byte1 byte2 byte3 }
     {
@@ -157,7 +157,7 @@ impl MousePacket3 {
     }
 }
 
-// The packet of a mouse with a wheel and buttons 4 and 5.
+// The packet of a mouse with a wheel and buttons 4 and 5. Another type than the one above, as in the Rust: its fourth byte means something else.
 #[derive(Clone, Copy, PartialEq, Eq)]
 pub struct MousePacket4 {
     generic_part: MousePacketGeneric,

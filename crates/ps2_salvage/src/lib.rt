@@ -27,7 +27,7 @@ impl SalvageRefusal {
     }
 }
 
-// What a pass gives back: whether it came to the recording's end or to a tail too short for a packet, how many bytes of the recording it used, and how much it wrote to each output.
+// What a pass gives back, the counts with a refusal too: whether it came to the recording's end or to a tail too short for a packet, how many bytes of the recording it used, and how much it wrote to each output.
 #[derive(Clone, Copy)]
 pub struct Salvaged {
     pub answer: Result<(), SalvageRefusal>,
@@ -46,12 +46,12 @@ fn pass<const LENGTH: usize>(bytes: &[u8], packets: &mut [u8], positions: &mut [
     let mut packet_bytes = 0;
     let mut dropped = 0;
     let answer = 'pass: loop {
-        // Kept, speed: packets that follow one another have a loop of their own, which no `for` counts: a dropped byte shifts all behind it.
+        // Packets that follow one another have a loop of their own. No `for` counts either loop, and no plainer one is known: a dropped byte shifts all behind it.
         while let Some(packet) = bytes[used..].first_chunk::<LENGTH>() {
             if !has(packet[0], ALWAYS_ONE) {
                 break;
             }
-            // `first_chunk_mut`, and `get_mut` below, would say both in one: but once such a loan is over nothing is known of what it wrote.
+            // `first_chunk_mut`, and `get_mut` below, would ask and write in one. Tried: with them `loop-packet-preserved` and `pass-preserved` stay open, since of what such a loan wrote in a loop only the length is told.
             if packets.len() - packet_bytes < LENGTH {
                 break 'pass Err(SalvageRefusal::NoRoom);
             }

@@ -34,6 +34,7 @@ pub extern "C" fn salvage_recording(
         Ok(identity) => {
             let s = salvage(identity, bytes, packets, positions);
             SalvagedNumbers {
+                // Kept: by `err` and `map_or` the two goals in place of this `match` ask what a closure gave, which is no plainer.
                 number: match s.answer {
                     Ok(()) => 0,
                     Err(refusal) => u64::from(refusal.number()),
