@@ -121,7 +121,7 @@ fn unpack(head: &[u8]) -> Instruction
 }
 
 // Reads until the bytes are full or the input ends, and tells how many were read.
-// Kept a `while`: how far a turn goes is the reader's to say, and no range counts it.
+// Kept a `while`, no plainer: a turn goes as far as the reader says, so a `for` would count turns and keep this place beside them.
 fn read_full<R: Read>(input: &mut R, bytes: &mut [u8]) -> Result<usize>
     ensures bound { IfOk result (λ n. n ≤ length bytes.new) }
     ensures taken { IfOk result (λ n. Taken (length bytes.old) (R.remaining input.old) (R.remaining input.new) (take n bytes.new)) }
@@ -140,7 +140,7 @@ fn read_full<R: Read>(input: &mut R, bytes: &mut [u8]) -> Result<usize>
 fn read_instruction<R: Read>(input: &mut R) -> Result<Instruction>
     ensures { IfOk result (λ i. TakenInstruction (R.remaining input.old) (R.remaining input.new) i) }
 {
-    // Kept cut: an input may end within an instruction, and no such bytes are one.
+    // Kept cut, no plainer: an input may end within an instruction, which `read_exact` makes an error, and a `match` would turn back.
     let mut head = [0u8; INSTRUCTION_BYTES];
     let got = read_full(input, &mut head)?;
     Ok(unpack(&head[..got]))

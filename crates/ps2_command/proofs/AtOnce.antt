@@ -185,6 +185,24 @@ room (x ∷ y ∷ l) h = record { first = x; second = y; rest = l; is = refl }
 left_room : (l : List ℕ) (r : Room l) {n : ℕ} → suc (suc n) ≤ length l → n ≤ length r.rest
 left_room l r h = let e : suc (suc _) ≤ length (r.first ∷ r.second ∷ r.rest) = rw r.is at h in omega (arith, e)
 
+-- the pairs of two commands, at the start of a log with room for them
+module _ (first second : ℕ) (log : List ℕ) where
+  pub two_at_start_1 : 4 ≤ length log → (0x60 ∷ first ∷ 0x60 ∷ second ∷ []) ++ drop 4 log ≡ with_two Port1 first second log
+  two_at_start_1 h =
+      let x = room log (omega (arith, h)) in
+      let y = room x.rest (left_room log x (omega (arith, h))) in
+      rw (x.is, y.is)
+
+  pub two_at_start_2 : 8 ≤ length log → (0x64 ∷ 0xD4 ∷ 0x60 ∷ first ∷ 0x64 ∷ 0xD4 ∷ 0x60 ∷ second ∷ []) ++ drop 8 log ≡ with_two Port2 first second log
+  two_at_start_2 h =
+      let w = room log (omega (arith, h)) in
+      let i = left_room log w {n = 6} (omega (arith, h)) in
+      let x = room w.rest (omega (arith, i)) in
+      let j = left_room w.rest x {n = 4} (omega (arith, i)) in
+      let y = room x.rest (omega (arith, j)) in
+      let z = room y.rest (left_room x.rest y (omega (arith, j))) in
+      rw (w.is, x.is, y.is, z.is)
+
 -- the pairs of two commands are written, or not, by the log's room
 abbrev Written : DevicePort → ℕ → ℕ → List ℕ → ℕ → List ℕ → Type 0
 Written port first second log n log' =

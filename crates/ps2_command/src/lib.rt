@@ -1,7 +1,7 @@
 // The command rule: a byte is sent to a device up to four times, until its response settles the matter. And what a reset waits for.
 #![tactic(auto)]
 
-ghost use Rattle.std.specs.Prelude.{◌≡◌, ◌+◌, ◌≤◌, length, set};
+ghost use Rattle.std.specs.Prelude.{◌≡◌, ◌/◌, ◌<◌, ◌≤◌, ◌++◌, length, drop};
 ghost use Rattle.exchange.specs.Exchange.{told_end, played, play, Reads};
 ghost use Rattle.exchange.specs.Answer.{and_then, renumbered};
 ghost use Rattle.exchange.specs.Keeping.{kept_end};
@@ -10,7 +10,6 @@ ghost use Rattle.ps2_answers.specs.Answers.{ended, turn_end, used_of, pairs_of};
 ghost use Rattle.ps2_kept.specs.Kept.{keeping_thrown};
 ghost use Rattle.ps2_kept.specs.Added.{keeping_onto};
 ghost use Rattle.ps2_kept.specs.Promises.{PlaysKept, told_kept};
-ghost use Rattle.ps2_ports.specs.declared.DevicePort.TheVariants.{Port1, Port2};
 ghost use Rattle.ps2_command.specs.Command.{command as command_rule, command_to_port2, command_by, attempt as attempt_rule, accepted, said_verdict, verdict as verdict_rule};
 ghost use Rattle.ps2_command.specs.AtOnce.{at_once, TwoWritten, TwoAtOnce};
 ghost use Rattle.ps2_command.specs.Replaced.{replaced_by};
@@ -162,7 +161,7 @@ pub fn command_pair_onto(
 }
 
 // Whether a script begins with a device's acknowledgement at once: the first status lets a byte be sent, and the first poll brings FA.
-// Kept as tests in turn: tried as one `&&`, which proves alone, but then its wrong program is refused by a limit alone, and by no fact.
+// Kept as tests in turn, a rule of the project: a wrong program is refused by a fact. One `&&` proves alone, but its wrong program is then refused by a limit.
 fn acknowledges_at_once(script: &[u8]) -> bool
     ensures { result ≡ at_once script.now }
 {
@@ -178,39 +177,32 @@ fn acknowledges_at_once(script: &[u8]) -> bool
     script[2] == ACKNOWLEDGE
 }
 
-// Puts a pair into the log.
-fn put_pair(log: &mut [u8], at: usize, port: u8, value: u8)
-    requires { at + 2 ≤ length log.old }
-    ensures { log.new ≡ set (set log.old at port) (at + 1) value }
+// Puts these pairs at the start of the log where it has room for all of them, and tells how many they are.
+fn put_pairs(log: &mut [u8], pairs: &[u8]) -> usize
+    ensures fits { length pairs.now ≤ length log.old → (result ≡ length pairs.now / 2) × (log.new ≡ pairs.now ++ drop (length pairs.now) log.old) }
+    ensures full { length log.old < length pairs.now → (result ≡ 0) × (log.new ≡ log.old) }
 {
-    log[at] = port;
-    log[at + 1] = value;
-}
-
-// The pairs of two bytes for the device of the first port, and of the second, where the log has room for all of them.
-fn two_to_port1(log: &mut [u8], first: u8, second: u8) -> usize
-    ensures { TwoWritten Port1 first second log.old result log.new }
-{
-    if log.len() < 4 {
+    if log.len() < pairs.len() {
         return 0;
     }
-    put_pair(log, 0, PS2_DATA_PORT, first);
-    put_pair(log, 2, PS2_DATA_PORT, second);
-    2
+    log[..pairs.len()].copy_from_slice(pairs);
+    pairs.len() / 2
 }
 
-fn two_to_port2(log: &mut [u8], first: u8, second: u8) -> usize
-    ensures { TwoWritten Port2 first second log.old result log.new }
+// The pairs of two bytes for the device of a port, where the log has room for all of them.
+fn two_to(port: DevicePort, log: &mut [u8], first: u8, second: u8) -> usize
+    ensures { TwoWritten port first second log.old result log.new }
 {
-    if log.len() < 8 {
-        return 0;
+    let to_port2 = [
+        PS2_COMMAND_AND_STATUS_PORT,
+        u8::from(HostToControllerCommand::WriteByteToPort2InputBuffer),
+    ];
+    let first = [PS2_DATA_PORT, first];
+    let second = [PS2_DATA_PORT, second];
+    match port {
+        DevicePort::Port1 => put_pairs(log, [first, second].as_flattened()),
+        DevicePort::Port2 => put_pairs(log, [to_port2, first, to_port2, second].as_flattened()),
     }
-    let next_to_port2 = u8::from(HostToControllerCommand::WriteByteToPort2InputBuffer);
-    put_pair(log, 0, PS2_COMMAND_AND_STATUS_PORT, next_to_port2);
-    put_pair(log, 2, PS2_DATA_PORT, first);
-    put_pair(log, 4, PS2_COMMAND_AND_STATUS_PORT, next_to_port2);
-    put_pair(log, 6, PS2_DATA_PORT, second);
-    4
 }
 
 // Two commands to a device that acknowledges both at once, and so throws nothing away: the pairs that they write. For any other device, and for a log without room, nothing is done, and there is none.
@@ -229,10 +221,7 @@ pub fn command_pair_at_once(
     if !acknowledges_at_once(&script[3..]) {
         return 0;
     }
-    match port {
-        DevicePort::Port1 => two_to_port1(log, u8::from(first), u8::from(second)),
-        DevicePort::Port2 => two_to_port2(log, u8::from(first), u8::from(second)),
-    }
+    two_to(port, log, u8::from(first), u8::from(second))
 }
 
 // A command to the device of either port, with no byte kept before it.

@@ -109,7 +109,7 @@ fn run_test(
 }
 
 // Polls until a port test's answer says that the port passed.
-// Kept beside the next: both are the Rust's public names, a line each over the wait that they share.
+// Kept beside the next, a rule of the project: the Rust's public functions keep their names. Both call the one wait, with constants of their own.
 pub fn match_port_test_result(script: &[u8]) -> Answer<()>
     ensures { Reads port_test_result script.now (ended result) (used_of result) (pairs_of result) }
 {
@@ -183,7 +183,7 @@ pub fn polling_send_receive(script: &[u8], log: &mut [u8], value: HostToDevice) 
 }
 
 // The same, with what is thrown away behind the bytes kept before.
-// Kept beside the shorter form, as the receiving's below: it promises another definition (`keeping_onto`), and the shorter is one line.
+// Kept beside the shorter form, no plainer, as the receiving's below: each caller of the shorter would hand in `none_kept()`, and prove that onto nothing is the operation itself.
 pub fn polling_send_receive_onto(
     script: &[u8],
     log: &mut [u8],

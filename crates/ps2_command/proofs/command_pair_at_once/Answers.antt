@@ -6,7 +6,6 @@ use mathlib.Core.Path.{◌≡◌, refl, sym, ap, ◌∙◌}
 use lib.ListN.{drop}
 use Rattle.exchange.proofs.Parts.{part_drop}
 use Rattle.ps2_bytes.specs.Writable.{to_device}
-use Rattle.ps2_ports.specs.declared.DevicePort.TheVariants.{Port1, Port2}
 use Rattle.ps2_command.specs.AtOnce.{at_once, TwoWritten}
 use Rattle.ps2_command.proofs.AtOnce.{long_enough, made_at_once}
 use Rattle.ps2_command.proofs.command_pair_at_once.Goals as goal
@@ -40,14 +39,8 @@ second_is c =
     let s = c.args.script.now in
     ap at_once (sym (part_drop 3 s)) ∙ sym c.acknowledges_at_once-2.ensures ∙ not-false _ (ap not c.if-not-acknowledges_at_once-2.false)
 
-pub returns-in-Port1 : goal.returns-in-Port1
-returns-in-Port1 c =
+pub returns : goal.returns
+returns c =
     let a = c.args in
-    let w : TwoWritten Port1 (to_device a.first) (to_device a.second) a.log.now _ _ = rw (c.from.ensures, c.from-in-Port1.ensures) at c.two_to_port1.ensures in
-    rw c.in-Port1.is (made_at_once Port1 a.first a.second a.script.now a.log.now (first_is (goal.at.returns-in-Port1 c).Else-not-acknowledges_at_once) (second_is (goal.at.returns-in-Port1 c).Else-not-acknowledges_at_once-2) w)
-
-pub returns-in-Port2 : goal.returns-in-Port2
-returns-in-Port2 c =
-    let a = c.args in
-    let w : TwoWritten Port2 (to_device a.first) (to_device a.second) a.log.now _ _ = rw (c.from-in-Port2.ensures, c.from-in-Port2-2.ensures) at c.two_to_port2.ensures in
-    rw c.in-Port2.is (made_at_once Port2 a.first a.second a.script.now a.log.now (first_is (goal.at.returns-in-Port2 c).Else-not-acknowledges_at_once) (second_is (goal.at.returns-in-Port2 c).Else-not-acknowledges_at_once-2) w)
+    let w : TwoWritten a.port (to_device a.first) (to_device a.second) a.log.now _ _ = rw (c.from.ensures, c.from-2.ensures) at c.two_to.ensures in
+    made_at_once a.port a.first a.second a.script.now a.log.now (first_is (goal.at.returns c).Else-not-acknowledges_at_once) (second_is (goal.at.returns c).Else-not-acknowledges_at_once-2) w
