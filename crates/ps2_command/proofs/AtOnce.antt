@@ -43,12 +43,6 @@ use Rattle.ps2_command.proofs.Attempts.{attempt_response}
 
 -- ---- the three bytes
 
-pub short : (l : List ℕ) → length l < 3 → at_once l ≡ false
-short [] h = refl
-short (s ∷ []) h = refl
-short (s ∷ t ∷ []) h = refl
-short (s ∷ t ∷ b ∷ l) h = absurd (omega (arith, h))
-
 pub long : (l : List ℕ) → 3 ≤ length l → at_once l ≡ (not (bit input_buffer_full (get_or l 0 0)) && (bit output_buffer_full (get_or l 1 0) && eqb (get_or l 2 0) 0xFA))
 long [] h = absurd (omega (arith, h))
 long (s ∷ []) h = absurd (omega (arith, h))
@@ -184,24 +178,6 @@ room (x ∷ y ∷ l) h = record { first = x; second = y; rest = l; is = refl }
 
 left_room : (l : List ℕ) (r : Room l) {n : ℕ} → suc (suc n) ≤ length l → n ≤ length r.rest
 left_room l r h = let e : suc (suc _) ≤ length (r.first ∷ r.second ∷ r.rest) = rw r.is at h in omega (arith, e)
-
--- the pairs of two commands, at the start of a log with room for them
-module _ (first second : ℕ) (log : List ℕ) where
-  pub two_at_start_1 : 4 ≤ length log → (0x60 ∷ first ∷ 0x60 ∷ second ∷ []) ++ drop 4 log ≡ with_two Port1 first second log
-  two_at_start_1 h =
-      let x = room log (omega (arith, h)) in
-      let y = room x.rest (left_room log x (omega (arith, h))) in
-      rw (x.is, y.is)
-
-  pub two_at_start_2 : 8 ≤ length log → (0x64 ∷ 0xD4 ∷ 0x60 ∷ first ∷ 0x64 ∷ 0xD4 ∷ 0x60 ∷ second ∷ []) ++ drop 8 log ≡ with_two Port2 first second log
-  two_at_start_2 h =
-      let w = room log (omega (arith, h)) in
-      let i = left_room log w {n = 6} (omega (arith, h)) in
-      let x = room w.rest (omega (arith, i)) in
-      let j = left_room w.rest x {n = 4} (omega (arith, i)) in
-      let y = room x.rest (omega (arith, j)) in
-      let z = room y.rest (left_room x.rest y (omega (arith, j))) in
-      rw (w.is, x.is, y.is, z.is)
 
 -- the pairs of two commands are written, or not, by the log's room
 abbrev Written : DevicePort → ℕ → ℕ → List ℕ → ℕ → List ℕ → Type 0

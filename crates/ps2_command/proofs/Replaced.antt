@@ -4,7 +4,7 @@ use Prim.Native.Nat.{ℕ}
 use mathlib.Core.List.{List}
 use mathlib.Core.Path.{◌≡◌, refl}
 use Rattle.exchange.specs.Exchange.{Exchange, End, yields, lacks, told_end, played, play}
-use Rattle.exchange.specs.Answer.{Answer, gives, renumbered, refusing_as}
+use Rattle.exchange.specs.Answer.{Answer, renumbered, refusing_as}
 use Rattle.exchange.proofs.Keeping.{kept_told}
 use Rattle.exchange.proofs.Told.{bind_told}
 use Rattle.ps2_answers.specs.Refusals.{number_of, refused}
@@ -41,8 +41,5 @@ module _ {A : Type 0} (n : ℕ) (t : Exchange (Answer A)) where
 
 -- from what the code's answer says
 module _ {A : Type 0} (f : Failure) (t : Exchange (Answer A)) (s l : List ℕ) {e : End (Answer A)} {u w : ℕ} {l' : List ℕ} (r : played e u w l' ≡ play t s l) where
-  pub refusing_gives : {a : A} → e ≡ yields (gives a) → played (yields (gives a)) u w l' ≡ play (refusing_as (number_of f) t) s l
-  refusing_gives q = refusing_told (number_of f) t s l r (rw q)
-
   pub refusing_refused : (x : Refusal) → e ≡ refused x → played (refused (replaced_by f x)) u w l' ≡ play (refusing_as (number_of f) t) s l
   refusing_refused x q = refusing_told (number_of f) t s l r (rw q (replaced_end f x))

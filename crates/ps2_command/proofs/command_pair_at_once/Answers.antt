@@ -1,37 +1,19 @@
 -- `ps2_command::command_pair_at_once` meets its contract: nothing is done, or both commands are.
 -- Assumes nothing.
-use borrow.Author.Tests.{not-true, not-false}
-use mathlib.Core.Bool.{not, true, false}
-use mathlib.Core.Path.{◌≡◌, refl, sym, ap, ◌∙◌}
+use borrow.Author.Tests.{not-false}
+use mathlib.Core.Bool.{not, true}
+use mathlib.Core.Path.{◌≡◌, sym, ap, ◌∙◌}
 use lib.ListN.{drop}
 use Rattle.exchange.proofs.Parts.{part_drop}
 use Rattle.ps2_bytes.specs.Writable.{to_device}
 use Rattle.ps2_command.specs.AtOnce.{at_once, TwoWritten}
-use Rattle.ps2_command.proofs.AtOnce.{long_enough, made_at_once}
+use Rattle.ps2_command.proofs.AtOnce.{made_at_once}
 use Rattle.ps2_command.proofs.command_pair_at_once.Goals as goal
 use Rattle.ps2_command.proofs.command_pair_at_once.Goals.{Else-not-acknowledges_at_once, Else-not-acknowledges_at_once-2}
-
-pub returns-then-not-acknowledges_at_once : goal.returns-then-not-acknowledges_at_once
-returns-then-not-acknowledges_at_once c =
-    let a = c.args in
-    let e : at_once a.script.now ≡ false = sym c.acknowledges_at_once.ensures ∙ not-true _ (ap not c.if-not-acknowledges_at_once.true) in
-    record { writes = rw e; undone = λ _. refl; plays = λ n. absurd (n refl) }
 
 -- past the first question the first command is acknowledged at once
 first_is : (c : Else-not-acknowledges_at_once) → at_once c.args.script.now ≡ true
 first_is c = sym c.acknowledges_at_once.ensures ∙ not-false _ (ap not c.if-not-acknowledges_at_once.false)
-
-pub slice_bounds-acknowledges_at_once-count : goal.slice_bounds-acknowledges_at_once-count
-slice_bounds-acknowledges_at_once-count c = long_enough c.args.script.now (first_is c)
-
-pub slice_bounds-acknowledges_at_once-start : goal.slice_bounds-acknowledges_at_once-start
-slice_bounds-acknowledges_at_once-start c = long_enough c.args.script.now (first_is c)
-
-pub returns-then-not-acknowledges_at_once-2 : goal.returns-then-not-acknowledges_at_once-2
-returns-then-not-acknowledges_at_once-2 c =
-    let s = c.args.script.now in
-    let e : at_once (drop 3 s) ≡ false = ap at_once (sym (part_drop 3 s)) ∙ sym c.acknowledges_at_once-2.ensures ∙ not-true _ (ap not c.if-not-acknowledges_at_once-2.true) in
-    record { writes = rw (first_is (goal.at.returns-then-not-acknowledges_at_once-2 c).Else-not-acknowledges_at_once, e); undone = λ _. refl; plays = λ n. absurd (n refl) }
 
 -- past the second the second is too
 second_is : (c : Else-not-acknowledges_at_once-2) → at_once (drop 3 c.args.script.now) ≡ true
