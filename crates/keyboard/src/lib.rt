@@ -48,13 +48,6 @@ pub enum HandlerRefusal {
 // How a handler call ends.
 pub type HandlerAnswer = Result<(), HandlerRefusal>;
 
-// The oldest byte that waits, and those behind it.
-#[derive(Clone, Copy)]
-struct OldestTaken {
-    behind: KeptBytes,
-    oldest: u8,
-}
-
 // The byte that a call takes, or that there is none; the script bytes used for it; and the bytes that still wait.
 #[derive(Clone, Copy)]
 struct TakenByte {
@@ -155,28 +148,19 @@ fn event_of(keycode: Keycode, scan_code: u8, modifiers: KeyboardModifiers) -> Ke
 }
 
 // Takes the oldest byte that waits: each byte behind it moves up by one place.
-fn take_oldest(waiting: WaitingBytes) -> OldestTaken
+fn take_oldest(waiting: WaitingBytes) -> (u8, KeptBytes)
     requires { (waiting.count ≤ kept_limit) × (waiting.count ≢ 0) }
-    ensures { (result.oldest ≡ get_or waiting.bytes 0 0) × (result.behind ≡ kept_of (bytes_from waiting.bytes 1 (waiting.count - 1))) }
+    ensures { (result.0 ≡ get_or waiting.bytes 0 0) × (result.1 ≡ kept_of (bytes_from waiting.bytes 1 (waiting.count - 1))) }
 {
-    let bytes = waiting.bytes;
-    let count = waiting.count;
-    let mut behind: [u8; KEPT_LIMIT] = [0; KEPT_LIMIT];
-    let mut oldest: u8 = 0;
-    let mut place = count as usize;
-    while 0 < place {
-        place -= 1;
-        behind[place] = oldest;
-        oldest = bytes[place];
-    }
-    OldestTaken {
-        behind: KeptBytes {
-            bytes: behind,
-            count: count - 1,
-            others: 0,
-        },
-        oldest,
-    }
+    let count = usize::from(waiting.count);
+    let mut bytes = [0; KEPT_LIMIT];
+    bytes[..count - 1].copy_from_slice(&waiting.bytes[1..count]);
+    let behind = KeptBytes {
+        bytes,
+        count: waiting.count - 1,
+        others: 0,
+    };
+    (waiting.bytes[0], behind)
 }
 
 // The byte that a call takes: the oldest that waits; where none waits, one is read without asking the status.
@@ -185,10 +169,10 @@ fn take_byte(waiting: WaitingBytes, script: &[u8]) -> TakenByte
     ensures { Takes (waiting_bytes waiting) script.now (ended result.answer) (used_of result.answer) result.kept }
 {
     if waiting.count != 0 {
-        let taken = take_oldest(waiting);
+        let (oldest, kept) = take_oldest(waiting);
         return TakenByte {
-            kept: taken.behind,
-            answer: Ok(Counted::new(taken.oldest)),
+            kept,
+            answer: Ok(Counted::new(oldest)),
         };
     }
     TakenByte {

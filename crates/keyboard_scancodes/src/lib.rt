@@ -112,7 +112,7 @@ impl From<KeptBytes> for WaitingBytes {
     ghost from_gives = { λ kept waiting. waiting ≡ waiting_in kept };
 
     fn from(kept: KeptBytes) -> WaitingBytes {
-        // Kept: the check of borrows covers no array that goes straight from one struct into another.
+        // Kept, tried: as `bytes: kept.bytes` the proof of `from` didn't close; the check of borrows covers no array that goes straight into a struct.
         let bytes = kept.bytes;
         WaitingBytes {
             bytes,

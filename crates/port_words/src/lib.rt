@@ -184,7 +184,7 @@ pub fn commanded_words(commanded: Commanded) -> KeptWords
     ensures { result ≡ kept_numbers (ended commanded.answer) (used_of commanded.answer) (pairs_of commanded.answer) commanded.kept }
 {
     let answer = answer_words(commanded.answer);
-    // Kept as a variable: the borrow checker takes no array straight from a field into a literal.
+    // Kept, tried: as `bytes: kept.bytes` the proof of `commanded_words` didn't close; the check of borrows covers no array that goes straight into a struct.
     let kept = commanded.kept;
     let bytes = kept.bytes;
     KeptWords {

@@ -5,7 +5,7 @@ use mathlib.Core.Bool.{not}
 use borrow.Author.Tests.{not-true}
 use Rattle.std.proofs.Common.{rules}
 use Rattle.std.specs.Prelude.{Err}
-use Rattle.exchange.specs.Answer.{Answer, gives}
+use Rattle.exchange.specs.Answer.{gives}
 use Rattle.ps2_answers.specs.Refusals.{success}
 use Rattle.keyboard_record.specs.Queue.{place, joined, said_room}
 use Rattle.keyboard_record.proofs.WellFormed.{call_is}

@@ -10,19 +10,10 @@ use Rattle.keyboard_scancodes.specs.declared.WaitingBytes.{WaitingBytes}
 use Rattle.keyboard_scancodes.proofs.Waiting.{length_bytes}
 use Rattle.keyboard.specs.KeyboardLamps.{port_rules}
 use Rattle.keyboard.specs.Outcomes.{still_waiting}
-use Rattle.keyboard.proofs.Outcomes.{takes_le, still_few, byte_used, byte_call, no_byte}
+use Rattle.keyboard.proofs.Outcomes.{still_few, byte_used, byte_call, no_byte}
 use Rattle.keyboard.proofs.key_call.Goals as goal
 
 -- at most 16 bytes wait
-pub take_byte-taken-requires : goal.take_byte-taken-requires
-take_byte-taken-requires c = c.requires
-
-pub slice_bounds-on_byte-count : goal.slice_bounds-on_byte-count
-slice_bounds-on_byte-count c = takes_le _ _ (rw c.in-Ok.is at c.take_byte-taken.ensures)
-
-pub slice_bounds-on_byte-start : goal.slice_bounds-on_byte-start
-slice_bounds-on_byte-start c = takes_le _ _ (rw c.in-Ok.is at c.take_byte-taken.ensures)
-
 few : (w : WaitingBytes) → w.count ≤ kept_limit → length (still_waiting (waiting_bytes w)) ≤ kept_limit
 few w h = still_few (waiting_bytes w) (rw (length_bytes w.bytes 0 w.count) h)
 

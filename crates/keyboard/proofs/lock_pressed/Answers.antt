@@ -1,7 +1,7 @@
 -- `keyboard::lock_pressed` meets its contract: the lamp exchange, then the event; a lack of a byte or room ends both.
 -- Assumes nothing.
 use native.Mathlib.Omega.{arith}
-use mathlib.Core.Path.{◌≡◌, refl, ap, ◌∙◌}
+use mathlib.Core.Path.{◌≡◌, refl, ap}
 use Rattle.ps2_answers.specs.Refusals.{refused}
 use Rattle.keyboard_scancodes.specs.declared.Profile.{Profile}
 use Rattle.keyboard.specs.KeyboardLamps.{port_rules}
