@@ -50,14 +50,20 @@ const KEYS: [u8; 128] = *b"\
     \x29\x1E\x30\x2E\x20\x12\x21\x22\x23\x17\x24\x25\x26\x32\x31\x18\
     \x19\x10\x13\x1F\x14\x16\x2F\x11\x2D\x15\x2C\x9A\xAB\x9B\xA9\x00";
 
+// The code's table, lent: an array that is indexed lies on the stack, once for a call, and not for each character.
+#[derive(Drop)]
+struct KeyTable {
+    keys: [u8; 128],
+    ghost tabulates: { Tabulates keys },
+}
+
 // Writes the scancodes of a text to the start of an output, and answers how many bytes they are: each key's press and release, with those of Shift around a key that needs it.
 // What is not written stays as it was; a refusal writes nothing.
 pub fn type_text(text: &[u8], out: &mut [u8]) -> Result<usize, TypingRefusal>
     ensures { told result out.new ≡ leaves out.old (typed (length out.old) text.now) }
 {
-    // Kept lent, for speed: an array that is indexed lies on the stack, once for the call, and not for each character.
-    let keys = KEYS;
-    let Some(shifted) = count_shifted(&keys, text) else {
+    let table = KeyTable { keys: KEYS };
+    let Some(shifted) = table.count_shifted(text) else {
         return Err(TypingRefusal::NoKey);
     };
     // A character takes two bytes, and two more with Shift.
@@ -65,69 +71,69 @@ pub fn type_text(text: &[u8], out: &mut [u8]) -> Result<usize, TypingRefusal>
     if room < text.len() || room - text.len() < shifted {
         return Err(TypingRefusal::OutputShort);
     }
-    Ok(put_keys(&keys, text, out))
+    Ok(table.put_keys(text, out))
 }
 
-// The key of a character, if it has one.
-fn key_of(keys: &[u8; 128], character: u8) -> Option<u8>
-    requires { Tabulates keys.now }
-    ensures { result ≡ numbered (key_of character) }
-{
-    if END_OF_KEYS <= character {
-        return None;
-    }
-    let key = key_in(keys, character);
-    if key == NO_KEY {
-        return None;
-    }
-    Some(key)
-}
-
-// What the table has for a character.
-fn key_in(keys: &[u8; 128], character: u8) -> u8
-    requires { Tabulates keys.now × (character < 0x80) }
-    ensures { result ≡ or_none (key_of character) }
-{
-    keys[usize::from(character)]
-}
-
-// Asks every character for its key, and counts those that need Shift, if none lacks a key.
-fn count_shifted(keys: &[u8; 128], text: &[u8]) -> Option<usize>
-    requires { Tabulates keys.now }
-    ensures { result ≡ count_of (keys_of text.now) }
-{
-    let mut shifted = 0;
-    for &character in text {
-        let key = key_of(keys, character)?;
-        if NEEDS_SHIFT <= key {
-            shifted += 1;
+impl KeyTable {
+    // The key of a character, if it has one.
+    fn key_of(&self, character: u8) -> Option<u8>
+        ensures { result ≡ numbered (key_of character) }
+    {
+        if END_OF_KEYS <= character {
+            return None;
         }
-    }
-    Some(shifted)
-}
-
-// Writes the scancodes of a text that is accepted, and answers how many they are. The table has every character of it.
-// Kept, a rule of the project: there is no heap, so the bytes go into a lent output, at a place that is counted.
-fn put_keys(keys: &[u8; 128], text: &[u8], out: &mut [u8]) -> usize
-    requires { Tabulates keys.now × Accepted (length out.old) text.now }
-    ensures { told (Ok result) out.new ≡ leaves out.old (typed (length out.old) text.now) }
-{
-    let mut at = 0;
-    for &character in text {
-        let key = key_in(keys, character);
-        if NEEDS_SHIFT <= key {
-            let code = key - NEEDS_SHIFT;
-            out[at..at + 4].copy_from_slice(&[
-                SHIFT_PRESSED,
-                code,
-                code + RELEASED,
-                SHIFT_RELEASED,
-            ]);
-            at += 4;
-        } else {
-            out[at..at + 2].copy_from_slice(&[key, key + RELEASED]);
-            at += 2;
+        let key = self.key_in(character);
+        if key == NO_KEY {
+            return None;
         }
+        Some(key)
     }
-    at
+
+    // What the table has for a character.
+    fn key_in(&self, character: u8) -> u8
+        requires { character < 0x80 }
+        ensures { result ≡ or_none (key_of character) }
+    {
+        self.keys[usize::from(character)]
+    }
+
+    // Asks every character for its key, and counts those that need Shift, if none lacks a key.
+    fn count_shifted(&self, text: &[u8]) -> Option<usize>
+        ensures { result ≡ count_of (keys_of text.now) }
+    {
+        let mut shifted = 0;
+        for &character in text {
+            let key = self.key_of(character)?;
+            if NEEDS_SHIFT <= key {
+                shifted += 1;
+            }
+        }
+        Some(shifted)
+    }
+
+    // Writes the scancodes of a text that is accepted, and answers how many they are. The table has every character of it.
+    // Kept, a rule of the project: there is no heap, so the bytes go into a lent output, at a place that is counted.
+    fn put_keys(&self, text: &[u8], out: &mut [u8]) -> usize
+        requires { Accepted (length out.old) text.now }
+        ensures { told (Ok result) out.new ≡ leaves out.old (typed (length out.old) text.now) }
+    {
+        let mut at = 0;
+        for &character in text {
+            let key = self.key_in(character);
+            if NEEDS_SHIFT <= key {
+                let code = key - NEEDS_SHIFT;
+                out[at..at + 4].copy_from_slice(&[
+                    SHIFT_PRESSED,
+                    code,
+                    code + RELEASED,
+                    SHIFT_RELEASED,
+                ]);
+                at += 4;
+            } else {
+                out[at..at + 2].copy_from_slice(&[key, key + RELEASED]);
+                at += 2;
+            }
+        }
+        at
+    }
 }

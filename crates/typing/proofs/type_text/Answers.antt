@@ -13,9 +13,9 @@ use Rattle.typing.proofs.Lengths.{typed_no_key, count_none, count_some, short_te
 use Rattle.typing.proofs.type_text.Goals as goal
 use Rattle.typing.proofs.type_text.Goals.{then-room-text-via-then-room-text, then-room-text-via-else-room-text+then-room-text-2}
 
-pub count_shifted-requires : goal.count_shifted-requires
+pub invariant_of-table : goal.invariant_of-table
 unfolding key_of lowest gives_it character_of keycodes bit odd put_bit xor
-count_shifted-requires c = tabulates
+invariant_of-table c = record { tabulates = tabulates }
 
 pub returns-in_default : goal.returns-in_default
 returns-in_default c = refused _ _ NoKey (typed_no_key _ _ (count_none _ (sym c.count_shifted.ensures ∙ c.in_default.is)))
@@ -29,6 +29,4 @@ returns-then-room-text c =
     ]
 
 pub put_keys-requires : goal.put_keys-requires
-unfolding key_of lowest gives_it character_of keycodes bit odd put_bit xor
-put_keys-requires c =
-    (tabulates, accepted (count_some _ _ (sym c.count_shifted.ensures ∙ c.in-Some.is)) _ c.if-room-text.false (omega arith))
+put_keys-requires c = accepted (count_some _ _ (sym c.count_shifted.ensures ∙ c.in-Some.is)) _ c.if-room-text.false (omega arith)

@@ -1,10 +1,10 @@
--- `typing::count_shifted` meets its contract: up to each place the characters that need Shift are counted.
+-- `typing::KeyTable::count_shifted` meets its contract: up to each place the characters that need Shift are counted.
 -- Assumes nothing.
 use borrow.Author.Rules.{rules}
 use mathlib.Core.Path.{sym, ◌∙◌}
 use Rattle.typing.proofs.Counting.{counting_stops, counting_shift, counting_plain, counting_ends}
-use Rattle.typing.proofs.count_shifted.Goals as goal
-use Rattle.typing.proofs.count_shifted.Goals.{else-key-ge-NEEDS_SHIFT, then-key-ge-NEEDS_SHIFT}
+use Rattle.typing.proofs.KeyTable.count_shifted.Goals as goal
+use Rattle.typing.proofs.KeyTable.count_shifted.Goals.{else-key-ge-NEEDS_SHIFT, then-key-ge-NEEDS_SHIFT}
 
 pub returns-in_err-key : goal.returns-in_err-key
 returns-in_err-key c =
