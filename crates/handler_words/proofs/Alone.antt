@@ -180,16 +180,16 @@ module _ (side : Side) (ws script : List ℕ) where
 
   module _ (h : length ws ≡ words_length) (w : call_formed side (state_of ws) ≡ true) (a : KeyAlone side (state_of ws) script) {flags : ℕ}
       (f : flags ≡ flags_after (followed Profile.Any) (stroke (get_or script 0 0) (keyboard_at side (state_of ws)).prefix) (keyboard_at side (state_of ws)).modifiers.bits) where
-    pub handled_alone : {at : ℕ} → at ≡ keyboard_from side → {k : KeyboardState} → k ≡ followed_by flags → {us : List ℕ} → (us ≡ with_keyboard_at at k ws) × Narrow k
+    pub handled_alone : {k : KeyboardState} → k ≡ followed_by flags → {us : List ℕ} → (us ≡ with_keyboard_at (keyboard_from side) k ws) × Narrow k
         → {left : HandlerState} → left ≡ with_keyboard side (followed_by flags) (state_of ws)
         → {n : ℕ} {ws' : List ℕ} → KeyQueued (queued side left (key_event (get_or script 0 0) flags) (gives success) 0) (free_place left) us n ws'
         → KeyHandled side ws script (byte_used n) ws'
-    handled_alone p q u l {n} {ws'} x =
+    handled_alone q u l {n} {ws'} x =
         let s = state_of ws in
         let b = get_or script 0 0 in
         let y : KeyQueued (outcome_alone side s b flags) (free_place s) _ n ws' = rw (l, free_place_with side (followed_by flags) s) at x in
         record {
           with_any = λ log.
-              moved_on side ws script log (effects_alone side s b flags) (alone_effects side s script w a f log) y.answers refl refl h y.moves p
+              moved_on side ws script log (effects_alone side s b flags) (alone_effects side s script w a f log) y.answers refl refl h y.moves
               (q ∙ sym (keyboard_left side (with_keyboard side (followed_by flags) s) (key_event b flags) ∙ keyboard_at_with side (followed_by flags) s)) u (y.writes, y.reads);
         }

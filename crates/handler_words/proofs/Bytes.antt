@@ -1,13 +1,16 @@
 -- Bytes in a number, found again.
 -- Assumes nothing.
 use mathlib.Core.Path.{◌≡◌, refl, sym, ap, ◌∙◌}
-use mathlib.Core.List.{List, [], ◌∷◌, ◌++◌}
-use Prim.Native.Nat.{ℕ, zero, suc, ◌+◌, ◌*◌, ◌/◌, ◌%◌, ◌<◌}
+use mathlib.Core.List.{List, ◌∷◌, ◌++◌}
+use Prim.Native.Nat.{ℕ, zero, suc, ◌+◌, ◌*◌, ◌/◌, ◌%◌, ◌^◌, ◌<◌}
+use native.Mathlib.Nat.{zero-add, mul_assoc, div-one, div-div-eq-div-mul, pow-suc, pow-succ', suc-add}
 use native.Mathlib.Omega.{arith}
 use lib.ListN.{length, get_or, drop, drop_of_length-le}
 use lib.Seq.{drop-cons}
+use Rattle.std.specs.Int.{w128, byte_at, bytes_low_first, to_le_bytes, from_le_bytes}
 use Rattle.keyboard_scancodes.specs.Waiting.{bytes_from}
 use Rattle.handler_words.specs.Words.{bytes_in, number_of_bytes}
+use Rattle.handler_words.specs.Parts.{InTwo}
 
 -- a byte below others is the first, and the others follow it
 pub byte_below : (n b w : ℕ) → b < 256 → bytes_in (suc n) (b + 256 * w) ≡ b ∷ bytes_in n w
@@ -24,41 +27,59 @@ bytes_found bytes at zero h = refl
 bytes_found bytes at (suc n) h =
     byte_below n (get_or bytes at 0) (number_of_bytes (bytes_from bytes (suc at) n)) (h at) ∙ ap (λ (l : List ℕ). get_or bytes at 0 ∷ l) (bytes_found bytes (suc at) n h)
 
--- a byte put below those that make a number
-byte_on : (n : ℕ) {b w v : ℕ} {l : List ℕ} → (v ≡ b + 256 * w) × (b < 256) → (w ≡ number_of_bytes l) × (bytes_in n w ≡ l)
-    → (v ≡ number_of_bytes (b ∷ l)) × (bytes_in (suc n) v ≡ b ∷ l)
-unfolding number_of_bytes
-byte_on n {b} {w} {v} {l} e q =
-    (e.0 ∙ ap (λ (m : ℕ). b + 256 * m) q.0, ap (bytes_in (suc n)) e.0 ∙ byte_below n b w e.1 ∙ ap (λ (r : List ℕ). b ∷ r) q.1)
+-- ---- sixteen bytes and two numbers
 
-no_bytes : (0 ≡ number_of_bytes []) × (bytes_in 0 0 ≡ [])
-unfolding bytes_in number_of_bytes
-no_bytes = (refl, refl)
+byte_is : (i n : ℕ) → byte_at i n ≡ n / 256 ^ i % 256
+byte_is zero n = ap (λ (m : ℕ). m % 256) (sym (div-one n))
+byte_is (suc i) n = refl
 
-module _ (bytes : List ℕ) (at : ℕ) where
-  eight_places : ◌≡◌ {A = List ℕ}
-      (get_or bytes at 0 ∷ get_or bytes (at + 1) 0 ∷ get_or bytes (at + 2) 0 ∷ get_or bytes (at + 3) 0 ∷ get_or bytes (at + 4) 0 ∷ get_or bytes (at + 5) 0 ∷ get_or bytes (at + 6) 0 ∷ get_or bytes (at + 7) 0 ∷ [])
-      (bytes_from bytes at 8)
-  unfolding bytes_from
-  eight_places =
-      let e1 : at + 1 ≡ suc at = omega arith in
-      let e2 : at + 2 ≡ suc (suc at) = omega arith in
-      let e3 : at + 3 ≡ suc (suc (suc at)) = omega arith in
-      let e4 : at + 4 ≡ suc (suc (suc (suc at))) = omega arith in
-      let e5 : at + 5 ≡ suc (suc (suc (suc (suc at)))) = omega arith in
-      let e6 : at + 6 ≡ suc (suc (suc (suc (suc (suc at))))) = omega arith in
-      let e7 : at + 7 ≡ suc (suc (suc (suc (suc (suc (suc at)))))) = omega arith in
-      rw (e1, e2, e3, e4, e5, e6, e7)
+-- the bytes of a number from one on, as the library has them
+le_bytes_in : (k i n : ℕ) → bytes_low_first i k n ≡ bytes_in k (n / 256 ^ i)
+unfolding bytes_in
+le_bytes_in zero i n = refl
+le_bytes_in (suc k) i n =
+    let e : n / 256 ^ i / 256 ≡ n / 256 ^ suc i = div-div-eq-div-mul n (256 ^ i) 256 ∙ ap (λ (m : ℕ). n / m) (sym (pow-suc 256 i)) in
+    ap (λ (b : ℕ). b ∷ bytes_low_first (suc i) k n) (byte_is i n) ∙ ap (λ (l : List ℕ). n / 256 ^ i % 256 ∷ l) (le_bytes_in k (suc i) n ∙ ap (bytes_in k) (sym e))
 
-  -- eight bytes, the last first
-  pub eight_on : {w7 w6 w5 w4 w3 w2 w1 w0 : ℕ} → (w7 ≡ get_or bytes (at + 7) 0 + 256 * 0) × (get_or bytes (at + 7) 0 < 256)
-      → (w6 ≡ get_or bytes (at + 6) 0 + 256 * w7) × (get_or bytes (at + 6) 0 < 256) → (w5 ≡ get_or bytes (at + 5) 0 + 256 * w6) × (get_or bytes (at + 5) 0 < 256)
-      → (w4 ≡ get_or bytes (at + 4) 0 + 256 * w5) × (get_or bytes (at + 4) 0 < 256) → (w3 ≡ get_or bytes (at + 3) 0 + 256 * w4) × (get_or bytes (at + 3) 0 < 256)
-      → (w2 ≡ get_or bytes (at + 2) 0 + 256 * w3) × (get_or bytes (at + 2) 0 < 256) → (w1 ≡ get_or bytes (at + 1) 0 + 256 * w2) × (get_or bytes (at + 1) 0 < 256)
-      → (w0 ≡ get_or bytes at 0 + 256 * w1) × (get_or bytes at 0 < 256) → (w0 ≡ number_of_bytes (bytes_from bytes at 8)) × (bytes_in 8 w0 ≡ bytes_from bytes at 8)
-  eight_on b7 b6 b5 b4 b3 b2 b1 b0 =
-      rw (← eight_places)
-      (byte_on 7 b0 (byte_on 6 b1 (byte_on 5 b2 (byte_on 4 b3 (byte_on 3 b4 (byte_on 2 b5 (byte_on 1 b6 (byte_on 0 b7 no_bytes))))))))
+-- a number above another
+bytes_above : (n m a b : ℕ) → a < 256 ^ n → bytes_in (n + m) (a + 256 ^ n * b) ≡ bytes_in n a ++ bytes_in m b
+unfolding bytes_in
+bytes_above zero m a b h =
+    let e : a + 256 ^ 0 * b ≡ b = omega (arith, h) in
+    ap (λ (k : ℕ). bytes_in k (a + 256 ^ 0 * b)) (zero-add m) ∙ ap (bytes_in m) e
+bytes_above (suc n) m a b h =
+    let p : 256 ^ suc n ≡ 256 * 256 ^ n = pow-succ' 256 n in
+    let e : 256 ^ suc n * b ≡ 256 * (256 ^ n * b) = ap (λ (x : ℕ). x * b) p ∙ mul_assoc 256 (256 ^ n) b in
+    let r : (a + 256 ^ suc n * b) % 256 ≡ a % 256 = omega (arith, e) in
+    let q : (a + 256 ^ suc n * b) / 256 ≡ a / 256 + 256 ^ n * b = omega (arith, e) in
+    let g : a / 256 < 256 ^ n = omega (arith, h, p) in
+    ap (λ (k : ℕ). bytes_in k (a + 256 ^ suc n * b)) (suc-add n m) ∙ rw (r, q, bytes_above n m (a / 256) b g)
+
+pub two_numbers : (low high : ℕ) → low < 2 ^ 64 → to_le_bytes w128 (low + high * 18446744073709551616) ≡ bytes_in 8 low ++ bytes_in 8 high
+two_numbers low high h =
+    let n = low + high * 18446744073709551616 in
+    let e : n / 256 ^ 0 ≡ low + 256 ^ 8 * high = omega arith in
+    le_bytes_in 16 0 n ∙ ap (bytes_in 16) e ∙ bytes_above 8 8 low high h
+
+module _ (bytes : List ℕ) (h : (i : ℕ) → get_or bytes i 0 < 256) {n : ℕ} (e : n ≡ from_le_bytes w128 bytes) where
+  halves : n ≡ number_of_bytes (bytes_from bytes 0 8) + 18446744073709551616 * number_of_bytes (bytes_from bytes 8 8)
+  unfolding number_of_bytes bytes_from
+  halves = omega (arith, e)
+
+  below : number_of_bytes (bytes_from bytes 0 8) < 18446744073709551616
+  unfolding number_of_bytes bytes_from
+  below = omega (arith, h 0, h 1, h 2, h 3, h 4, h 5, h 6, h 7)
+
+  pub in_two : InTwo bytes (n % 18446744073709551616) (n / 18446744073709551616)
+  in_two =
+      let low : n % 18446744073709551616 ≡ number_of_bytes (bytes_from bytes 0 8) = omega (arith, halves, below) in
+      let high : n / 18446744073709551616 ≡ number_of_bytes (bytes_from bytes 8 8) = omega (arith, halves, below) in
+      record {
+        low_is = low;
+        high_is = high;
+        low_found = ap (bytes_in 8) low ∙ bytes_found bytes 0 8 h;
+        high_found = ap (bytes_in 8) high ∙ bytes_found bytes 8 8 h;
+      }
 
 -- ---- all the bytes of a list
 

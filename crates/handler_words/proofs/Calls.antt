@@ -88,16 +88,16 @@ module _ (side : Side) (ws s l : List ℕ) (y : Effects) {l' : List ℕ} (made :
       record { answered = answer_is; leaves = sym (record_as_passed keyboard_lamps side (record_of ws) s l e); writes = rw e; logged = made.1 }
 
   module _ (h : length ws ≡ words_length) where
-    pub moved_on : eqb refusal 2 || (eqb refusal 3 || eqb refusal 21) ≡ false → {at : ℕ} → at ≡ keyboard_from side → {k : KeyboardState} → k ≡ keyboard_at side y.state
-        → {us : List ℕ} → (us ≡ with_keyboard_at at k ws) × Narrow k
+    pub moved_on : eqb refusal 2 || (eqb refusal 3 || eqb refusal 21) ≡ false → {k : KeyboardState} → k ≡ keyboard_at side y.state
+        → {us : List ℕ} → (us ≡ with_keyboard_at (keyboard_from side) k ws) × Narrow k
         → {ws' : List ℕ} → (ws' ≡ with_event (free_place (state_of ws)) y.state y.event us) × (reread y.event ≡ y.event)
         → SideHandled side ws s l answer ws' l'
     unfolding words_left handled
-    moved_on t p q {us} u {ws'} v =
+    moved_on t q {us} u {ws'} v =
         let x = effects keyboard_lamps side (state_of ws) s l in
         let e : ends2_3_21 x.end ≡ false = ap (λ (z : Effects). ends2_3_21 z.end) (sym made.0) ∙ (rw a at t) in
         let g : ws' ≡ with_event (free_place (state_of ws)) x.state x.event (with_keyboard_at (keyboard_from side) (keyboard_at side x.state) ws) =
-        v.0 ∙ (rw (u.0, p, q) (ap (λ (z : Effects). with_event (free_place (state_of ws)) z.state z.event (with_keyboard_at (keyboard_from side) (keyboard_at side z.state) ws)) made.0)) in
+        v.0 ∙ (rw (u.0, q) (ap (λ (z : Effects). with_event (free_place (state_of ws)) z.state z.event (with_keyboard_at (keyboard_from side) (keyboard_at side z.state) ws)) made.0)) in
         let m : Narrow (keyboard_at side x.state) = subst (λ (z : Effects). Narrow (keyboard_at side z.state)) made.0 (rw q at u.1) in
         let r : reread x.event ≡ x.event = subst (λ (z : Effects). reread z.event ≡ z.event) made.0 v.1 in
         record {
@@ -127,11 +127,11 @@ module _ (side : Side) (ws s l : List ℕ) (x : Effect) {state : HandlerState} (
     left_alone t = as_passed side ws s l (said_effect x) effect_is a b c t
 
     module _ (h : length ws ≡ words_length) where
-      pub written : eqb refusal 2 || (eqb refusal 3 || eqb refusal 21) ≡ false → {at : ℕ} → at ≡ keyboard_from side → {k : KeyboardState} → k ≡ keyboard_at side x.state
-          → {us : List ℕ} → (us ≡ with_keyboard_at at k ws) × Narrow k
+      pub written : eqb refusal 2 || (eqb refusal 3 || eqb refusal 21) ≡ false → {k : KeyboardState} → k ≡ keyboard_at side x.state
+          → {us : List ℕ} → (us ≡ with_keyboard_at (keyboard_from side) k ws) × Narrow k
           → {ws' : List ℕ} → (ws' ≡ with_event ((state.start + state.count) % 128) x.state (said_event x.event) us) × (reread (said_event x.event) ≡ said_event x.event)
           → SideHandled side ws s l (record { refusal = refusal; lamps = lamps; used = x.used; pairs = x.pairs; dropped = x.dropped; port = port }) ws' l'
-      written t p q u v = moved_on side ws s l (said_effect x) effect_is a b c h t p q u (rw is at v)
+      written t q u v = moved_on side ws s l (said_effect x) effect_is a b c h t q u (rw is at v)
 
 -- ---- by the side that a number stands for
 

@@ -1,10 +1,12 @@
 -- The number of an event stands for it.
 -- Assumes nothing.
-use mathlib.Core.Path.{◌≡◌, refl, sym, ap, ◌∙◌}
+use mathlib.Core.Path.{◌≡◌, refl, ap, ◌∙◌}
 use Prim.Native.Nat.{ℕ, ◌+◌, ◌*◌, ◌/◌, ◌%◌, ◌<◌}
 use native.Mathlib.Omega.{arith}
-use lib.Dec.{ltb, ltb→lt}
+use mathlib.Core.Bool.{Bool, true, false, cond, not}
+use lib.Dec.{eqb, ltb, ltb→lt}
 use Rattle.std.specs.Prelude.{Option, Result, Ok, Err}
+use Rattle.std.specs.Int.{from_bool}
 use Rattle.keycodes_ascii.specs.declared.Keycode.{Keycode}
 use Rattle.keycodes_ascii.specs.declared.KeyAction.{KeyAction}
 use Rattle.keycodes_ascii.specs.declared.KeyEvent.{KeyEvent}
@@ -25,6 +27,14 @@ action_in KeyAction.Released = omega arith
 action_back : (a : KeyAction) → action_of (action_number a) ≡ a
 action_back KeyAction.Pressed = refl
 action_back KeyAction.Released = refl
+
+-- an action's number is 1 where the byte above the keycode's is not 0
+by_release : (b : Bool) → from_bool (not b) ≡ action_number (cond b KeyAction.Pressed KeyAction.Released)
+by_release true = refl
+by_release false = refl
+
+pub action_weighed : (w : ℕ) → from_bool (not (eqb (w / 256 % 256) 0)) ≡ action_number (action_of (w / 256 % 256))
+action_weighed w = by_release (eqb (w / 256 % 256) 0)
 
 pub event_at_lem : (v : KeyEvent) → v.modifiers.bits < flags_limit → event_at (word_of v) ≡ v
 unfolding event_at word_of keycode_at

@@ -7,6 +7,5 @@ pub mod Calls
 pub mod Alone
 pub mod Plain
 pub mod Taken
-pub mod Cleared
 pub mod Fresh
 pub mod Runs

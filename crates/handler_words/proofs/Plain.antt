@@ -5,7 +5,7 @@ use mathlib.Core.Bool.{true}
 use mathlib.Core.List.{List}
 use mathlib.Core.Option.{some}
 use Prim.Native.Nat.{ℕ, ◌+◌}
-use lib.ListN.{get_or, set}
+use lib.ListN.{length, get_or, set}
 use Rattle.exchange.specs.Answer.{gives}
 use Rattle.ps2_answers.specs.Refusals.{success}
 use Rattle.keyboard_scancodes.specs.declared.KeyboardState.{KeyboardState}
@@ -21,7 +21,7 @@ use Rattle.keyboard_record.proofs.Ready.{ready_says}
 use Rattle.keyboard.specs.Byte.{key_event}
 use Rattle.keyboard.specs.Handler.{queued}
 use Rattle.handler_words.specs.declared.HandledWords.{HandledWords}
-use Rattle.handler_words.specs.Layout.{keyboard_from, count_at, places_from}
+use Rattle.handler_words.specs.Layout.{keyboard_from, count_at, places_from, words_length}
 use Rattle.handler_words.specs.Words.{event_at, word_of, state_of}
 use Rattle.handler_words.specs.Calls.{with_keyboard_at, with_sides, AtSide}
 use Rattle.handler_words.specs.Parts.{Narrow, followed_by, byte_used, PlainKey, KeyQueued, KeyHandled}
@@ -36,22 +36,22 @@ module _ (s : HandlerState) (k : KeyboardState) (b flags : ℕ) (us : List ℕ) 
   joined Side.First n any r w e = joins Side.First (with_keyboard Side.First k s) b flags (free_place s) us n any r w e
   joined Side.Second n any r w e = joins Side.Second (with_keyboard Side.Second k s) b flags (free_place s) us n any r w e
 
-module _ (side : Side) (ws script : List ℕ) (p : PlainKey side ws script) where
+module _ (side : Side) (ws script : List ℕ) (h : length ws ≡ words_length) (p : PlainKey side ws script) where
   abbrev flags_now : ℕ
   flags_now = (keyboard_at side (state_of ws)).modifiers.bits
 
-  pub plain_handled : {at : ℕ} → at ≡ keyboard_from side → {k : KeyboardState} → k ≡ followed_by flags_now → {us : List ℕ} → (us ≡ with_keyboard_at at k ws) × Narrow k
+  pub plain_handled : {k : KeyboardState} → k ≡ followed_by flags_now → {us : List ℕ} → (us ≡ with_keyboard_at (keyboard_from side) k ws) × Narrow k
       → {word : ℕ} → (word ≡ word_of (event_of (get_or script 0 0) flags_now)) × (event_at word ≡ event_of (get_or script 0 0) flags_now)
       → {ws' : List ℕ} → ws' ≡ with_sides (with_side side (state_of ws).count (state_of ws).sides) (set (set us (places_from + free_place (state_of ws)) word) count_at ((state_of ws).count + 1))
       → KeyHandled side ws script (byte_used 0) ws'
-  plain_handled a q {us} u w e =
+  plain_handled q {us} u w e =
       let s = state_of ws in
       let b = get_or script 0 0 in
       let r = ready_says side s p.ready in
-      handled_alone side ws script p.long r.0 p.alone (sym (plain_flags b p.plain (keyboard_at side s).prefix flags_now)) a q u refl
+      handled_alone side ws script h r.0 p.alone (sym (plain_flags b p.plain (keyboard_at side s).prefix flags_now)) q u refl
       (joined s (followed_by flags_now) b flags_now us side (plain_known b p.plain) p.alone.taken.any_key (sym r.1) w e)
 
 -- it is the call with any log, which it leaves as it is
-pub plain_at : {side : Side} {ws script log : List ℕ} {answer : HandledWords} {ws' : List ℕ} → PlainKey side ws script → KeyHandled side ws script answer ws'
+pub plain_at : {side : Side} {ws script log : List ℕ} {answer : HandledWords} {ws' : List ℕ} → length ws ≡ words_length → KeyHandled side ws script answer ws'
     → AtSide (some side) ws script log answer ws' log
-plain_at {log = log} p h = (λ _. h.with_any log, λ n. absurd (n p.long))
+plain_at {log = log} e h = (λ _. h.with_any log, λ n. absurd (n e))

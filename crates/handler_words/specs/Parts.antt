@@ -1,7 +1,7 @@
 -- What the parts of the code that have contracts of their own promise.
 -- Assumes nothing.
 use Rattle.std.proofs.Math.Option.{Option, none, some}
-use Rattle.std.specs.Prelude.{◌≡◌, ℕ, ◌<◌, ◌≤◌, Bool, true, false, ◌||◌, List, [], eqb, length, get_or, Option as Maybe, Some}
+use Rattle.std.specs.Prelude.{◌≡◌, ℕ, ◌<◌, ◌≤◌, Bool, true, false, ◌||◌, List, [], eqb, length, get_or, Option as Maybe, Some, None}
 use Rattle.exchange.specs.Answer.{number_answered}
 use Rattle.keycodes_ascii.specs.declared.KeyEvent.{KeyEvent}
 use Rattle.keyboard_scancodes.specs.declared.KeyboardState.{KeyboardState}
@@ -17,16 +17,21 @@ use Rattle.keyboard_record.specs.declared.HandlerState.{HandlerState}
 use Rattle.keyboard_record.specs.Limits.{queue_length}
 use Rattle.keyboard_record.specs.Record.{keyboard_at, is_ready}
 use Rattle.keyboard.specs.Handler.{Outcome}
-use Rattle.handler_words.specs.declared.FoundTable.{FoundTable}
 use Rattle.handler_words.specs.declared.HandledWords.{HandledWords}
-use Rattle.handler_words.specs.Layout.{words_length}
 use Rattle.handler_words.specs.Calls.{with_event, SideHandled}
-use Rattle.handler_words.specs.Words.{byte_limit, flags_limit, bytes_in, event_at, word_of, low_bytes, high_bytes, state_of}
+use Rattle.handler_words.specs.Words.{byte_limit, flags_limit, bytes_in, number_of_bytes, event_at, word_of, low_bytes, high_bytes, state_of}
 
--- The table that was found.
-abbrev pub said_table : FoundTable → Option Table
-said_table (FoundTable.Table table) = some table
-said_table FoundTable.Nothing = none
+-- The table that two numbers stand for, if any.
+abbrev pub said_table : Maybe Table → Option Table
+said_table (Some table) = some table
+said_table None = none
+
+-- The numbers of 16 bytes, in which they are found again: the first eight are in the first.
+pub record InTwo (bytes : List ℕ) (low high : ℕ) : Type 0 where
+  pub low_is : low ≡ number_of_bytes (bytes_from bytes 0 8)
+  pub high_is : high ≡ number_of_bytes (bytes_from bytes 8 8)
+  pub low_found : bytes_in 8 low ≡ bytes_from bytes 0 8
+  pub high_found : bytes_in 8 high ≡ bytes_from bytes 8 8
 
 -- A keyboard of the code: its numbers have their widths, so that they are found again in the record's.
 pub record Narrow (k : KeyboardState) : Type 0 where
@@ -68,9 +73,8 @@ followed_by flags = keyboard_of false flags (waiting_of [])
 abbrev pub byte_used : ℕ → HandledWords
 byte_used n = record { refusal = n; lamps = 0; used = 1; pairs = 0; dropped = 0; port = 0 }
 
--- Such a call on 144 numbers, whose byte is of a key that has no flag, where the record is ready for its event.
+-- Such a call, whose byte is of a key that has no flag, where the record is ready for its event.
 pub record PlainKey (side : Side) (ws script : List ℕ) : Type 0 where
-  pub long : length ws ≡ words_length
   pub alone : KeyAlone side (state_of ws) script
   pub plain : is_plain (get_or script 0 0) ≡ true
   pub ready : is_ready side (state_of ws) ≡ true

@@ -1,6 +1,5 @@
 -- `handler_words::handle_plain` meets its contract: the byte is followed, which changes no flag, and its event queued.
 -- Assumes nothing.
-use mathlib.Core.Path.{◌∙◌}
 use native.Mathlib.Omega.{arith}
 use Rattle.keyboard_scancodes.proofs.Plain.{plain_known}
 use Rattle.keyboard_record.proofs.Ready.{ready_says}
@@ -15,26 +14,23 @@ well c =
     let s = state_of c.args.words.now in
     rw c.state_in-state.ensures (call_is c.args.side s (ready_says c.args.side s c.requires.ready).0).1
 
-pub overflow_add-place : goal.overflow_add-place
-overflow_add-place c =
-    let w = well (goal.at.overflow_add-place c).After-state_in-state in
+pub overflow_add-state : goal.overflow_add-state
+overflow_add-state c =
+    let w = well (goal.at.overflow_add-state c).After-state_in-state in
     record { fits = omega (arith, w.start_in, w.count_in) }
 
-pub key_word-word-requires : goal.key_word-word-requires
-key_word-word-requires c = plain_known _ c.requires.plain
+pub key_word-requires : goal.key_word-requires
+key_word-requires c = plain_known _ c.requires.plain
 
-pub overflow_add-count : goal.overflow_add-count
-overflow_add-count c =
-    let w = well (goal.at.overflow_add-count c).After-state_in-state in
+pub overflow_add-state-2 : goal.overflow_add-state-2
+overflow_add-state-2 c =
+    let w = well (goal.at.overflow_add-state-2 c).After-state_in-state in
     record { fits = omega (arith, w.count_in) }
-
-pub put_place-requires : goal.put_place-requires
-put_place-requires c = (c.put_keyboard.auto.words ∙ c.requires.long, omega arith)
 
 pub returns : goal.returns
 returns c =
     let a = c.args in
     let t = c.state_in-state.ensures in
     rw c.byte_used.ensures
-    (plain_handled a.side a.words.now a.script.now c.requires c.keyboard_at.ensures.0 (rw (c.keyboard_at-keyboard.ensures, t) at c.followed.ensures) c.put_keyboard.ensures
-    (rw (c.keyboard_at-keyboard.ensures, t) at c.key_word-word.ensures) (rw (c.with_side.ensures, t) at c.put_place.ensures))
+    (plain_handled a.side a.words.now a.script.now c.told-words c.requires (rw (c.keyboard_at.ensures, t) at c.followed.ensures) c.put_keyboard.ensures
+    (rw (c.keyboard_at.ensures, t) at c.key_word.ensures) (rw (c.with_side.ensures, t) at c.put_place.ensures))

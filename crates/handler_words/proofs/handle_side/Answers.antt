@@ -4,10 +4,6 @@ use mathlib.Core.Path.{sym, ◌∙◌}
 use Rattle.handler_words.proofs.Calls.{placed, left_alone, written}
 use Rattle.handler_words.proofs.handle_side.Goals as goal
 
-pub handle_key-requires : goal.handle_key-requires
-handle_key-requires c =
-    (c.requires, c.is_key_alone.ensures.is_so c.if-is_key_alone.true)
-
 -- none waited, and a key's byte was followed
 pub returns-then-is_key_alone : goal.returns-then-is_key_alone
 returns-then-is_key_alone c = c.handle_key.ensures.with_any _
@@ -15,19 +11,16 @@ returns-then-is_key_alone c = c.handle_key.ensures.with_any _
 pub returns-then-is_as_passed : goal.returns-then-is_as_passed
 returns-then-is_as_passed c =
     let a = c.args in
-    left_alone a.side a.words.now a.script.now a.log.now c.effect_of-effect.result c.state_in-state.ensures c.effect_of-effect.ensures (c.wide_number-refusal.ensures ∙ c.number_of.ensures) c.lamps_number-lamps.ensures c.port_lacked-port.ensures
+    left_alone a.side a.words.now a.script.now a.log.now c.effect_of-effect.result c.state_in-state.ensures c.effect_of-effect.ensures (c.from-refusal.ensures ∙ c.number_of.ensures) c.lamps_number.ensures c.port_lacked.ensures
     (sym c.is_as_passed.ensures ∙ c.if-is_as_passed.true)
-
-pub put_keyboard-requires : goal.put_keyboard-requires
-put_keyboard-requires c = (c.requires, c.keyboard_at.ensures.1)
 
 pub put_new-requires : goal.put_new-requires
 put_new-requires c =
     let a = c.args in
-    (c.put_keyboard.auto.words ∙ c.requires, placed a.side a.words.now a.script.now a.log.now c.effect_of-effect.result c.state_in-state.ensures c.effect_of-effect.ensures)
+    placed a.side a.words.now a.script.now a.log.now c.effect_of-effect.result c.state_in-state.ensures c.effect_of-effect.ensures
 
 pub returns : goal.returns
 returns c =
     let a = c.args in
-    written a.side a.words.now a.script.now a.log.now c.effect_of-effect.result c.state_in-state.ensures c.effect_of-effect.ensures (c.wide_number-refusal.ensures ∙ c.number_of.ensures) c.lamps_number-lamps.ensures c.port_lacked-port.ensures c.requires
-    (sym c.is_as_passed.ensures ∙ c.if-is_as_passed.false) c.keyboard_at.ensures.0 c.keyboard_at-2.ensures c.put_keyboard.ensures c.put_new.ensures
+    written a.side a.words.now a.script.now a.log.now c.effect_of-effect.result c.state_in-state.ensures c.effect_of-effect.ensures (c.from-refusal.ensures ∙ c.number_of.ensures) c.lamps_number.ensures c.port_lacked.ensures c.told-words
+    (sym c.is_as_passed.ensures ∙ c.if-is_as_passed.false) c.keyboard_at.ensures c.put_keyboard.ensures c.put_new.ensures

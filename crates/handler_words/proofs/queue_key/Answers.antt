@@ -19,26 +19,23 @@ returns-then-scan_code-gt-LAST_KEYCODE c =
 known : (c : Else-scan_code-gt-LAST_KEYCODE) → is_known c.args.scan_code ≡ true
 known c = le-leb (low_part c.args.scan_code) last_keycode c.if-scan_code-gt-LAST_KEYCODE.false
 
-pub key_word-word-requires : goal.key_word-word-requires
-key_word-word-requires c = known (goal.at.key_word-word-requires c).Else-scan_code-gt-LAST_KEYCODE
-
 pub returns-in-Ok : goal.returns-in-Ok
 returns-in-Ok c =
     let a = c.args in
-    joins a.side a.left a.scan_code a.modifiers.bits (free_place a.left) a.words.now (known (goal.at.returns-in-Ok c).Else-scan_code-gt-LAST_KEYCODE) c.requires.2 (sym (ap said_room c.in-Ok.is) ∙ c.room_of.ensures) c.key_word-word.ensures
+    joins a.side a.left a.scan_code a.modifiers.bits (free_place a.left) a.words.now (known (goal.at.returns-in-Ok c).Else-scan_code-gt-LAST_KEYCODE) c.requires.1 (sym (ap said_room c.in-Ok.is) ∙ c.room_of.ensures) c.key_word.ensures
     (rw c.with_side.ensures at c.put_place.ensures)
 
 pub returns-in-Err-OutsideProfile : goal.returns-in-Err-OutsideProfile
 returns-in-Err-OutsideProfile c =
     let a = c.args in
-    kept_out a.side a.left a.scan_code a.modifiers.bits (free_place a.left) a.words.now (known (goal.at.returns-in-Err-OutsideProfile c).Else-scan_code-gt-LAST_KEYCODE) c.requires.2 (sym (ap said_room (rw c.in-Err-OutsideProfile.field-0-is at c.in-Err-OutsideProfile.is)) ∙ c.room_of.ensures) refl
+    kept_out a.side a.left a.scan_code a.modifiers.bits (free_place a.left) a.words.now (known (goal.at.returns-in-Err-OutsideProfile c).Else-scan_code-gt-LAST_KEYCODE) c.requires.1 (sym (ap said_room (rw c.in-Err-OutsideProfile.field-0-is at c.in-Err-OutsideProfile.is)) ∙ c.room_of.ensures) refl
 
 pub returns-in-Err-SideFull : goal.returns-in-Err-SideFull
 returns-in-Err-SideFull c =
     let a = c.args in
-    kept_out a.side a.left a.scan_code a.modifiers.bits (free_place a.left) a.words.now (known (goal.at.returns-in-Err-SideFull c).Else-scan_code-gt-LAST_KEYCODE) c.requires.2 (sym (ap said_room (rw c.in-Err-SideFull.field-0-is at c.in-Err-SideFull.is)) ∙ c.room_of.ensures) refl
+    kept_out a.side a.left a.scan_code a.modifiers.bits (free_place a.left) a.words.now (known (goal.at.returns-in-Err-SideFull c).Else-scan_code-gt-LAST_KEYCODE) c.requires.1 (sym (ap said_room (rw c.in-Err-SideFull.field-0-is at c.in-Err-SideFull.is)) ∙ c.room_of.ensures) refl
 
 pub returns-in-Err-QueueFull : goal.returns-in-Err-QueueFull
 returns-in-Err-QueueFull c =
     let a = c.args in
-    kept_out a.side a.left a.scan_code a.modifiers.bits (free_place a.left) a.words.now (known (goal.at.returns-in-Err-QueueFull c).Else-scan_code-gt-LAST_KEYCODE) c.requires.2 (sym (ap said_room (rw c.in-Err-QueueFull.field-0-is at c.in-Err-QueueFull.is)) ∙ c.room_of.ensures) refl
+    kept_out a.side a.left a.scan_code a.modifiers.bits (free_place a.left) a.words.now (known (goal.at.returns-in-Err-QueueFull c).Else-scan_code-gt-LAST_KEYCODE) c.requires.1 (sym (ap said_room (rw c.in-Err-QueueFull.field-0-is at c.in-Err-QueueFull.is)) ∙ c.room_of.ensures) refl
