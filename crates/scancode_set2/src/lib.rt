@@ -55,6 +55,7 @@ pub fn convert(stream: &[u8], out: &mut [u8]) -> Conversion
     while used < stream.len() {
         let code = stream[used];
         let after = used + 1;
+        // Kept, no plainer: as one `let (key, next, shift)` each branch would give three values without their names.
         let key: u8;
         let next: usize;
         let shift: u32;
