@@ -339,9 +339,14 @@ fn refused(refusal: u32) -> HandledWords
 fn byte_used(refusal: u32) -> HandledWords
     ensures { result ≡ byte_used refusal }
 {
+    // Kept written out: with `..refused(refusal)` the answer is copied once more.
     HandledWords {
+        refusal,
+        lamps: 0,
         used: 1,
-        ..refused(refusal)
+        pairs: 0,
+        dropped: 0,
+        port: 0,
     }
 }
 
@@ -379,6 +384,9 @@ fn handle_side(words: &mut Words, side: Side, script: &[u8], log: &mut [u8]) -> 
         return handle_key(words, side, script);
     }
     let state = state_in(words);
+    // Kept as variables: read after the call, they would want a copy of the state.
+    let start = state.start;
+    let count = state.count;
     let effect = effect_of(state, side, script, log);
     let refusal = u32::from(number_of(effect.answer));
     let handled = HandledWords {
@@ -393,7 +401,7 @@ fn handle_side(words: &mut Words, side: Side, script: &[u8], log: &mut [u8]) -> 
         return handled;
     }
     put_keyboard(words, side, effect.state.keyboard_at(side));
-    put_new(words, state.start, state.count, effect.state, effect.event);
+    put_new(words, start, count, effect.state, effect.event);
     handled
 }
 
@@ -422,8 +430,7 @@ fn is_plain_key(words: &Words, side: Side, script: &[u8]) -> bool
     is_from_script(words, side, script) && is_plain(script[0]) && state_in(words).is_ready(side)
 }
 
-// A handler call on a lent record, for a side: 21 where it has not 144 numbers. It is compiled into each of its callers, which know the side: most of what a call asks goes by it.
-#[inline(always)]
+// A handler call on a lent record, for a side: 21 where it has not 144 numbers. A function with two callers is compiled into neither, and a large answer copied from one to the other: so the dispatcher, which knows the side, calls this one and not the next.
 pub fn handle_at(words: &mut [u64], side: Side, script: &[u8], log: &mut [u8]) -> HandledWords
     ensures { AtSide (some side) words.old script.now log.old result words.new log.new }
 {
@@ -440,9 +447,26 @@ pub fn handle_at(words: &mut [u64], side: Side, script: &[u8], log: &mut [u8]) -
 pub fn handle_words(words: &mut [u64], side: u32, script: &[u8], log: &mut [u8]) -> HandledWords
     ensures { WordsHandled words.old side script.now log.old result words.new log.new }
 {
+    let Some(words) = words.as_mut_array() else {
+        return refused(match side {
+            1 | 2 => 21,
+            _ => MEANS_NOTHING,
+        });
+    };
+    // Kept as two equal arms, each side by itself: most of what a call asks goes by the side. By `handle_at`, made `inline(always)`, a plain key took 15 ns and not 10.
     match side {
-        1 => handle_at(words, Side::First, script, log),
-        2 => handle_at(words, Side::Second, script, log),
+        1 => {
+            if is_plain_key(words, Side::First, script) {
+                return handle_plain(words, Side::First, script);
+            }
+            handle_side(words, Side::First, script, log)
+        }
+        2 => {
+            if is_plain_key(words, Side::Second, script) {
+                return handle_plain(words, Side::Second, script);
+            }
+            handle_side(words, Side::Second, script, log)
+        }
         _ => refused(MEANS_NOTHING),
     }
 }
