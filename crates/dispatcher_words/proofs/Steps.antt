@@ -3,6 +3,7 @@
 use mathlib.Core.Path.{◌≡◌, refl}
 use mathlib.Core.List.{List}
 use Rattle.std.specs.Prelude.{Option, None, Some}
+use Rattle.std.specs.Array.{IsWholeChunk}
 use Prim.Native.Nat.{ℕ}
 use lib.ListN.{get_or}
 use Rattle.keyboard_sides.specs.declared.Side.{Side}
@@ -10,15 +11,15 @@ use Rattle.keyboard.specs.KeyboardLamps.{keyboard_lamps}
 use Rattle.dispatcher.specs.declared.Source.{Source}
 use Rattle.dispatcher.specs.declared.Waits.{Waits}
 use Rattle.dispatcher.specs.Turns.{served}
-use Rattle.dispatcher.specs.Sources.{Scripts, script_of, waits_now}
+use Rattle.dispatcher.specs.Sources.{Scripts, scripts, script_of, waits_now}
 use Rattle.dispatcher.specs.Step.{Stepped, serve_mouse, serve_keyboard, serve, step_of}
 use Rattle.dispatcher.specs.Said.{wait_in}
 use Rattle.dispatcher.specs.Runs.{service_of}
 use Rattle.dispatcher.proofs.Serving.{step_served}
 use Rattle.dispatcher_words.specs.declared.StepWords.{StepWords}
-use Rattle.dispatcher_words.specs.Layout.{last_at}
+use Rattle.dispatcher_words.specs.Layout.{last_at, dispatcher_length}
 use Rattle.dispatcher_words.specs.Words.{last_of, dispatcher_of}
-use Rattle.dispatcher_words.specs.Steps.{no_call, words_stepped, Made, StepOn}
+use Rattle.dispatcher_words.specs.Steps.{no_call, words_stepped, Made, StepOn, StepMade}
 use Rattle.dispatcher_words.specs.Parts.{SideServed, MouseServed}
 
 module _ (ws : List ℕ) (s : Scripts) (log : List ℕ) (w : Waits) (is : (source : Source) → wait_in w source ≡ waits_now (dispatcher_of ws) s source)
@@ -53,3 +54,8 @@ module _ (ws : List ℕ) (s : Scripts) (log : List ℕ) (w : Waits) (is : (sourc
 
   pub idle_step : t ≡ None → {answer : StepWords} → answer ≡ no_call 0 → StepOn ws s log answer ws log
   idle_step e a = made_by e (record { answered = a; leaves = refl; writes = refl; logged = refl })
+
+-- a step on the numbers as they were lent at their length, is the one on the numbers that were passed
+pub step_made : {ws us first second third log : List ℕ} {answer : StepWords} {ws' log' : List ℕ} → IsWholeChunk ws us dispatcher_length
+    → StepOn us (scripts first second third) log answer ws' log' → StepMade ws first second third log answer ws' log'
+step_made w x = record { long = λ _. rw w.same at x; other = λ n. absurd (n w.long) }

@@ -14,14 +14,14 @@ use Rattle.ps2_bytes.specs.declared.response.MouseId.{MouseId}
 use Rattle.ps2_packet.specs.declared.SignedPacket.{SignedPacket}
 use Rattle.ps2_packet_reading.specs.Reading.{read_signed_packet}
 use Rattle.port_words.specs.declared.PacketWords.{PacketWords}
-use Rattle.port_words.specs.ToldPacket.{told_packet, refusing_packet}
+use Rattle.port_words.specs.ToldPacket.{told_packet}
 use Rattle.keyboard_sides.specs.declared.Side.{Side}
 use Rattle.keyboard.specs.Handler.{handled, log_left}
 use Rattle.keyboard.specs.KeyboardLamps.{keyboard_lamps}
 use Rattle.handler_words.specs.declared.HandledWords.{HandledWords}
 use Rattle.handler_words.specs.Layout.{words_length}
 use Rattle.handler_words.specs.Words.{record_of}
-use Rattle.handler_words.specs.Calls.{refusing, SideHandled, AtSide}
+use Rattle.handler_words.specs.Calls.{SideHandled, AtSide}
 use Rattle.dispatcher.specs.declared.Places.{Places}
 use Rattle.dispatcher.specs.declared.Source.{Source}
 use Rattle.dispatcher.specs.Sources.{place_of, with_place, unused}
@@ -29,7 +29,8 @@ use Rattle.dispatcher.specs.Step.{keyed, packet, call_answered, Stepped, stepped
 use Rattle.dispatcher.proofs.Serving.{called_used_le, mouse_used_le, mouse_served}
 use Rattle.dispatcher_words.specs.Layout.{mouse_at, dispatcher_length}
 use Rattle.dispatcher_words.specs.Words.{identity_of, source_number, handler_in, place_in, dispatcher_of}
-use Rattle.dispatcher_words.specs.Steps.{with_turn, with_call}
+use Rattle.dispatcher_words.specs.declared.StepWords.{StepWords}
+use Rattle.dispatcher_words.specs.Steps.{no_call, with_turn, with_call}
 use Rattle.dispatcher_words.specs.Parts.{SideServed, MouseServed}
 use Rattle.dispatcher_words.proofs.Words.{handler_length, handler_stands, turn_stands, turn_alone}
 
@@ -53,7 +54,7 @@ bytes_in source ws script = unused (place_in source ws) script
 -- ---- a side's turn
 
 module _ (side : Side) (ws script log : List ℕ) (n : length ws ≡ dispatcher_length) (place from : ℕ) (at : place ≡ place_in (Source.Keyboard side) ws)
-    (is : unused from script ≡ unused place script) {number : ℕ} (k : number ≡ source_number (Source.Keyboard side)) {call : HandledWords} {us log' : List ℕ}
+    (is : unused from script ≡ unused place script) {call : HandledWords} {us log' : List ℕ}
     (w : AtSide (some side) (handler_in ws) (part from script) log call us log') where
   given_bytes : part from script ≡ bytes_in (Source.Keyboard side) ws script
   given_bytes = part_drop from script ∙ is ∙ ap (λ (m : ℕ). unused m script) at
@@ -78,10 +79,10 @@ module _ (side : Side) (ws script log : List ℕ) (n : length ws ≡ dispatcher_
   unfolding serve_keyboard
   side_turn_lem = rw (place_stands (Source.Keyboard side) ws, handler_stands ws)
 
-  pub keyboard_turn : length us ≡ length (handler_in ws) → {none : PacketWords} → none ≡ refusing_packet 0
+  pub keyboard_turn : length us ≡ length (handler_in ws) → {number : ℕ} → number ≡ source_number (Source.Keyboard side) → {none : StepWords} → none ≡ no_call 0
       → {ws' : List ℕ} → ws' ≡ with_turn (Source.Keyboard side) (place + call.used) (us ++ drop words_length ws)
-      → SideServed side ws script log (record { refusal = call.refusal; source = number; call = call; packet = none }) ws' log'
-  keyboard_turn h p u =
+      → SideServed side ws script log (record { refusal = call.refusal; source = number; call = call; packet = none.packet }) ws' log'
+  keyboard_turn h k p u =
       let source = Source.Keyboard side in
       let a = handled_side.answered in
       rw side_turn_lem
@@ -114,8 +115,8 @@ module _ (ws script : List ℕ) (n : length ws ≡ dispatcher_length) (place fro
       ≡ stepped (packet (record { end = e; used = u; pairs = w })) (served_one Source.Mouse u (dispatcher_of ws).handler (dispatcher_of ws)) log
   mouse_is log = sym (mouse_served (dispatcher_of ws) script from unread reading log refl refl)
 
-  pub mouse_turn : (log : List ℕ) {number : ℕ} → number ≡ source_number Source.Mouse → {call : HandledWords} → call ≡ refusing 0 → {ws' : List ℕ} → ws' ≡ with_turn Source.Mouse (place + told.used) ws
-      → MouseServed ws script log (record { refusal = told.refusal; source = number; call = call; packet = told }) ws' log
+  pub mouse_turn : (log : List ℕ) {number : ℕ} → number ≡ source_number Source.Mouse → {none : StepWords} → none ≡ no_call 0 → {ws' : List ℕ} → ws' ≡ with_turn Source.Mouse (place + told.used) ws
+      → MouseServed ws script log (record { refusal = told.refusal; source = number; call = none.call; packet = told }) ws' log
   mouse_turn log k c t =
       rw (mouse_is log)
       (record {

@@ -2,8 +2,7 @@
 -- Assumes nothing.
 use mathlib.Core.Path.{◌≡◌, refl, sym, ap, ◌∙◌}
 use mathlib.Core.List.{List, [], ◌∷◌, ◌++◌}
-use Prim.Native.Nat.{ℕ, ◌+◌}
-use native.Mathlib.Nat.{suc-add, zero-add}
+use Prim.Native.Nat.{ℕ, ◌+◌, ◌-◌, ◌≤◌}
 use native.Mathlib.Omega.{arith}
 use lib.ListN.{length, get_or, drop, set, length-map, take-append-drop, drop_of_length-le}
 use lib.Seq.{length-take-le, take_at, drop-cons, get_or-append-add, get_or-drop}
@@ -16,11 +15,12 @@ use Rattle.handler_words.specs.Words.{record_of, word_of, words_of}
 use Rattle.handler_words.proofs.Words.{record_words}
 use Rattle.dispatcher.specs.declared.Dispatcher.{Dispatcher}
 use Rattle.std.specs.Prelude.{Option, None, Some}
+use Rattle.std.proofs.lemmas.List.{set-append_right}
 use Rattle.dispatcher.specs.declared.Places.{Places}
 use Rattle.dispatcher.specs.declared.Source.{Source}
 use Rattle.dispatcher.specs.Sources.{with_place}
 use Rattle.dispatcher.specs.Step.{with_handler, turn_over}
-use Rattle.dispatcher_words.specs.Layout.{dispatcher_length}
+use Rattle.dispatcher_words.specs.Layout.{last_at, dispatcher_length}
 use Rattle.dispatcher_words.specs.Steps.{with_turn}
 use Rattle.dispatcher_words.specs.Words.{identity_of, source_number, last_of, handler_in, last_number, dispatcher_of, words_of_dispatcher, DispatcherFits}
 
@@ -44,16 +44,9 @@ same_dispatcher h i p l = cc
 
 -- ---- the numbers behind a record's
 
-set_behind : (us rest : List ℕ) (n v : ℕ) → set (us ++ rest) (length us + n) v ≡ us ++ set rest n v
-set_behind [] rest n v = rw zero-add
-set_behind (u ∷ us) rest n v = ap (λ (k : ℕ). set (u ∷ (us ++ rest)) k v) (suc-add (length us) n) ∙ ap (λ (l : List ℕ). u ∷ l) (set_behind us rest n v)
-
 module _ (us : List ℕ) (h : length us ≡ words_length) (rest : List ℕ) where
   word_at : (n : ℕ) → get_or (us ++ rest) (words_length + n) 0 ≡ get_or rest n 0
   word_at n = ap (λ (k : ℕ). get_or (us ++ rest) (k + n) 0) (sym h) ∙ get_or-append-add us rest n 0
-
-  pub word_set : (n v : ℕ) → set (us ++ rest) (words_length + n) v ≡ us ++ set rest n v
-  word_set n v = ap (λ (k : ℕ). set (us ++ rest) (k + n) v) (sym h) ∙ set_behind us rest n v
 
   -- a record's numbers and those behind it stand for this state
   pub stands : dispatcher_of (us ++ rest)
@@ -66,8 +59,8 @@ module _ (us : List ℕ) (h : length us ≡ words_length) (rest : List ℕ) wher
   unfolding dispatcher_of
   stands = rw (take_at us rest words_length h, word_at 0, word_at 1, word_at 2, word_at 3, word_at 4)
 
-  turn_set : (n v m w : ℕ) → set (set (us ++ rest) (words_length + n) v) (words_length + m) w ≡ us ++ set (set rest n v) m w
-  turn_set n v m w = ap (λ (l : List ℕ). set l (words_length + m) w) (word_set n v) ∙ ap (λ (k : ℕ). set (us ++ set rest n v) (k + m) w) (sym h) ∙ set_behind us (set rest n v) m w
+  turn_set : (n v w : ℕ) → words_length ≤ n → set (set (us ++ rest) n v) last_at w ≡ us ++ set (set rest (n - words_length) v) 4 w
+  turn_set n v w le = rw (set-append_right us rest words_length n v h le, set-append_right us (set rest (n - words_length) v) words_length last_at w h (omega arith))
 
 -- "its inverse": the numbers of a state, whose handler's record fits them, stand for this state
 pub dispatcher_words : (d : Dispatcher) → DispatcherFits d → dispatcher_of (words_of_dispatcher d) ≡ d
@@ -110,9 +103,9 @@ module _ (us : List ℕ) (h : length us ≡ words_length) where
         places = with_place source place (record { first = b; second = c; mouse = d });
         last = Some source;
       }
-  turned (Source.Keyboard Side.First) place a b c d e = ap dispatcher_of (turn_set us h (a ∷ b ∷ c ∷ d ∷ e ∷ []) 1 place 4 1) ∙ stands us h _
-  turned (Source.Keyboard Side.Second) place a b c d e = ap dispatcher_of (turn_set us h (a ∷ b ∷ c ∷ d ∷ e ∷ []) 2 place 4 2) ∙ stands us h _
-  turned Source.Mouse place a b c d e = ap dispatcher_of (turn_set us h (a ∷ b ∷ c ∷ d ∷ e ∷ []) 3 place 4 3) ∙ stands us h _
+  turned (Source.Keyboard Side.First) place a b c d e = ap dispatcher_of (turn_set us h (a ∷ b ∷ c ∷ d ∷ e ∷ []) 145 place 1 (omega arith)) ∙ stands us h _
+  turned (Source.Keyboard Side.Second) place a b c d e = ap dispatcher_of (turn_set us h (a ∷ b ∷ c ∷ d ∷ e ∷ []) 146 place 2 (omega arith)) ∙ stands us h _
+  turned Source.Mouse place a b c d e = ap dispatcher_of (turn_set us h (a ∷ b ∷ c ∷ d ∷ e ∷ []) 147 place 3 (omega arith)) ∙ stands us h _
 
   -- another handler's numbers, and a source's turn over, in a dispatcher's numbers
   pub turn_stands : (ws : List ℕ) → length ws ≡ dispatcher_length → (source : Source) (place : ℕ)

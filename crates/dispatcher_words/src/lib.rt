@@ -38,7 +38,7 @@ const LAST_AT: usize = HANDLER_WORDS + 4;
 // The numbers of a dispatcher.
 pub const DISPATCHER_WORDS: usize = HANDLER_WORDS + 5;
 
-// What a step answers, as numbers: the refusal of the call that it made, 0 where there is none; who was served, 0 where nobody waited, 1 or 2 the side, 3 the mouse; and that call's answer, with 0 everywhere in the other.
+// Kept as numbers: C gets it so. What a step answers: the refusal of the call that it made, 0 where there is none; who was served, 0 where nobody waited, 1 or 2 the side, 3 the mouse; and that call's answer, with 0 everywhere in the other.
 #[repr(C)]
 #[derive(Clone, Copy)]
 pub struct StepWords {
@@ -49,40 +49,31 @@ pub struct StepWords {
 }
 
 // Stores what stands behind the handler's record where nobody was served yet.
-fn put_unserved(words: &mut [u64], id: MouseId)
-    requires { length words.old ≡ dispatcher_length }
+fn put_unserved(words: &mut [u64; DISPATCHER_WORDS], id: MouseId)
     ensures { words.new ≡ handler_in words.old ++ unserved id }
 {
-    words[MOUSE_AT] = u64::from(u8::from(id));
-    words[FIRST_PLACE_AT] = 0;
-    words[SECOND_PLACE_AT] = 0;
-    words[MOUSE_PLACE_AT] = 0;
-    words[LAST_AT] = 0;
+    words[MOUSE_AT..].copy_from_slice(&[u64::from(u8::from(id)), 0, 0, 0, 0]);
 }
 
-// Makes a lent dispatcher a fresh one, with a fresh record for a table, as `fresh_words` has it, and a mouse of identity 0, 3 or 4: 21 where there are not 149 numbers.
+// Kept as a slice, here and in a step: C passes how many numbers there are. Makes a lent dispatcher a fresh one, with a fresh record for a table, as `fresh_words` has it, and a mouse of identity 0, 3 or 4: 21 where there are not 149 numbers.
 pub fn dispatcher_fresh(words: &mut [u64], keyboards: u32, profile: u32, identity: u32) -> u32
     ensures { MadeFresh words.old keyboards profile identity result words.new }
 {
-    let found = identity_of(identity);
-    match found {
-        Some(id) => {
-            // a record of no numbers is refused as this one is: the table is asked, and then 21 answered
-            if words.len() != DISPATCHER_WORDS {
-                return fresh_words(&mut words[..0], keyboards, profile);
-            }
-            let answer = fresh_words(&mut words[..HANDLER_WORDS], keyboards, profile);
-            if answer != 0 {
-                return answer;
-            }
-            put_unserved(words, id);
-            0
-        }
-        None => MEANS_NOTHING,
+    let Some(id) = identity_of(identity) else {
+        return MEANS_NOTHING;
+    };
+    let Some(lent) = words.as_mut_array::<DISPATCHER_WORDS>() else {
+        // a record of no numbers is refused as this one is: the table is asked, and then 21 answered
+        return fresh_words(&mut [], keyboards, profile);
+    };
+    let answer = fresh_words(&mut lent[..HANDLER_WORDS], keyboards, profile);
+    if answer == 0 {
+        put_unserved(lent, id);
     }
+    answer
 }
 
-// The mouse's identity that a dispatcher's number says: 3 or 4, and any other 0.
+// The mouse's identity that a dispatcher's number says: 3 or 4, and any other 0. Kept as a match, as the next: no number is refused here, so `TryFrom` says less.
 fn identity_in(word: u64) -> MouseId
     ensures { result ≡ identity_of word }
 {
@@ -105,6 +96,7 @@ fn last_in(word: u64) -> Option<Source>
     }
 }
 
+// Kept as a match, as the next: `Source::Keyboard` carries a side, so there is no discriminant to cast.
 fn source_number(source: Source) -> u32
     ensures { result ≡ source_number source }
 {
@@ -126,16 +118,14 @@ fn place_at(source: Source) -> usize
     }
 }
 
-fn place_in(words: &[u64], source: Source) -> usize
-    requires { length words.now ≡ dispatcher_length }
+fn place_in(words: &[u64; DISPATCHER_WORDS], source: Source) -> usize
     ensures { result ≡ place_in source words.now }
 {
     words[place_at(source)] as usize
 }
 
 // Which sources wait.
-fn waits_in(words: &[u64], first: &[u8], second: &[u8], third: &[u8]) -> Waits
-    requires { length words.now ≡ dispatcher_length }
+fn waits_in(words: &[u64; DISPATCHER_WORDS], first: &[u8], second: &[u8], third: &[u8]) -> Waits
     ensures { (source : Source) → wait_in result source ≡ waits_now (dispatcher_of words.now) (scripts first.now second.now third.now) source }
 {
     let one = place_in(words, Source::Keyboard(Side::First));
@@ -150,8 +140,7 @@ fn waits_in(words: &[u64], first: &[u8], second: &[u8], third: &[u8]) -> Waits
 }
 
 // Stores that a source was served, and its place then.
-fn put_turn(words: &mut [u64], source: Source, place: usize)
-    requires { length words.old ≡ dispatcher_length }
+fn put_turn(words: &mut [u64; DISPATCHER_WORDS], source: Source, place: usize)
     ensures { words.new ≡ with_turn source place words.old }
 {
     words[place_at(source)] = place as u64;
@@ -159,53 +148,44 @@ fn put_turn(words: &mut [u64], source: Source, place: usize)
 }
 
 // A side's turn: one handler call on its unused bytes, on the handler's numbers. A refused call uses the turn too.
-fn serve_keyboard(words: &mut [u64], side: Side, script: &[u8], log: &mut [u8]) -> StepWords
-    requires { length words.old ≡ dispatcher_length }
+fn serve_keyboard(
+    words: &mut [u64; DISPATCHER_WORDS],
+    side: Side,
+    script: &[u8],
+    log: &mut [u8],
+) -> StepWords
     ensures { SideServed side words.old script.now log.old result words.new log.new }
 {
     let source = Source::Keyboard(side);
-    let number = source_number(source);
     let place = place_in(words, source);
-    let from = start(place, script);
-    let call = handle_at(&mut words[..HANDLER_WORDS], side, &script[from..], log);
+    let call = handle_at(
+        &mut words[..HANDLER_WORDS],
+        side,
+        &script[start(place, script)..],
+        log,
+    );
     put_turn(words, source, place + call.used);
     StepWords {
         refusal: call.refusal,
-        source: number,
+        source: source_number(source),
         call,
-        packet: refusing_packet_words(0),
+        ..no_call(0)
     }
 }
 
 // The mouse's turn: one packet of its unread bytes.
-fn serve_mouse(words: &mut [u64], script: &[u8]) -> StepWords
-    requires { length words.old ≡ dispatcher_length }
+fn serve_mouse(words: &mut [u64; DISPATCHER_WORDS], script: &[u8]) -> StepWords
     ensures { (log : List ℕ) → MouseServed words.old script.now log result words.new log }
 {
     let id = identity_in(words[MOUSE_AT]);
     let place = place_in(words, Source::Mouse);
-    let from = start(place, script);
-    let packet = packet_words(read_signed_packet(id, &script[from..]));
+    let packet = packet_words(read_signed_packet(id, &script[start(place, script)..]));
     put_turn(words, Source::Mouse, place + packet.used);
     StepWords {
         refusal: packet.refusal,
         source: source_number(Source::Mouse),
-        call: no_handler_call(),
         packet,
-    }
-}
-
-// What stands for a handler call where none was made.
-fn no_handler_call() -> HandledWords
-    ensures { result ≡ refusing 0 }
-{
-    HandledWords {
-        refusal: 0,
-        lamps: 0,
-        used: 0,
-        pairs: 0,
-        dropped: 0,
-        port: 0,
+        ..no_call(0)
     }
 }
 
@@ -216,7 +196,14 @@ fn no_call(refusal: u32) -> StepWords
     StepWords {
         refusal,
         source: 0,
-        call: no_handler_call(),
+        call: HandledWords {
+            refusal: 0,
+            lamps: 0,
+            used: 0,
+            pairs: 0,
+            dropped: 0,
+            port: 0,
+        },
         packet: refusing_packet_words(0),
     }
 }
@@ -231,14 +218,14 @@ pub fn dispatcher_step(
 ) -> StepWords
     ensures { StepMade words.old first.now second.now third.now log.old result words.new log.new }
 {
-    if words.len() != DISPATCHER_WORDS {
+    let Some(lent) = words.as_mut_array::<DISPATCHER_WORDS>() else {
         return no_call(21);
-    }
-    let waits = waits_in(words, first, second, third);
-    match waits.serves(last_in(words[LAST_AT])) {
-        Some(Source::Keyboard(Side::First)) => serve_keyboard(words, Side::First, first, log),
-        Some(Source::Keyboard(Side::Second)) => serve_keyboard(words, Side::Second, second, log),
-        Some(Source::Mouse) => serve_mouse(words, third),
+    };
+    let waits = waits_in(lent, first, second, third);
+    match waits.serves(last_in(lent[LAST_AT])) {
+        Some(Source::Keyboard(Side::First)) => serve_keyboard(lent, Side::First, first, log),
+        Some(Source::Keyboard(Side::Second)) => serve_keyboard(lent, Side::Second, second, log),
+        Some(Source::Mouse) => serve_mouse(lent, third),
         None => no_call(0),
     }
 }

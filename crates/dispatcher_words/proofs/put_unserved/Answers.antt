@@ -1,13 +1,9 @@
 -- `dispatcher_words::put_unserved` meets its contract.
 -- Assumes nothing.
 use native.Mathlib.Omega.{arith}
-use lib.ListN.{length-set}
-use Rattle.dispatcher_words.proofs.Fresh.{unserved_stored}
+use lib.ListN.{drop, drop_of_length-le, length-drop}
 use Rattle.dispatcher_words.proofs.put_unserved.Goals as goal
-
-pub bounds-words-148 : goal.bounds-words-148
-bounds-words-148 c = simp length-set (omega (arith, c.requires))
 
 pub returns : goal.returns
 returns c =
-    rw (c.from-2.ensures, c.from.ensures) (unserved_stored c.args.words.now c.requires _)
+    rw (c.copy_from_slice.ensures.after, c.from-2.ensures, c.from.ensures, drop_of_length-le (drop 144 c.args.words.now) {i = 5} (omega (arith, length-drop 144 c.args.words.now, c.told-words)))

@@ -6,8 +6,8 @@ use Rattle.dispatcher_words.proofs.serve_mouse.Goals as goal
 
 pub overflow_add-place : goal.overflow_add-place
 overflow_add-place c =
-    omega (arith, mouse_used c.args.words.now c.args.script.now c.requires c.place_in-place.result c.start-from.result c.place_in-place.ensures c.start-from.ensures.rest c.identity_in-id.ensures c.read_signed_packet.ensures c.packet_words-packet.ensures, c.well_formed)
+    omega (arith, mouse_used c.args.words.now c.args.script.now c.told-words c.place_in-place.result c.start.result c.place_in-place.ensures c.start.ensures.rest c.identity_in-id.ensures c.read_signed_packet.ensures c.packet_words-packet.ensures, c.well_formed)
 
 pub returns : goal.returns
 returns c log =
-    mouse_turn c.args.words.now c.args.script.now c.requires c.place_in-place.result c.start-from.result c.place_in-place.ensures c.start-from.ensures.rest c.identity_in-id.ensures c.read_signed_packet.ensures c.packet_words-packet.ensures log c.source_number.ensures c.no_handler_call.ensures c.put_turn.ensures
+    mouse_turn c.args.words.now c.args.script.now c.told-words c.place_in-place.result c.start.result c.place_in-place.ensures c.start.ensures.rest c.identity_in-id.ensures c.read_signed_packet.ensures c.packet_words-packet.ensures log c.source_number.ensures c.no_call.ensures c.put_turn.ensures
