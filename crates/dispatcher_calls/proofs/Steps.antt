@@ -3,8 +3,7 @@
 use mathlib.Core.Path.{◌≡◌, ap, ◌∙◌}
 use mathlib.Core.List.{List}
 use native.Mathlib.Numerals.{add-one}
-use native.Mathlib.Omega.{arith}
-use Prim.Native.Nat.{ℕ, ◌+◌, ◌≤◌}
+use Prim.Native.Nat.{ℕ, ◌+◌}
 use Rattle.ps2_mouse.specs.declared.PS2Mouse.{PS2Mouse}
 use Rattle.ps2_mouse.specs.Answers.{fresh_mouse}
 use Rattle.keyboard_record.specs.declared.KeyboardHandler.{KeyboardHandler}
@@ -27,11 +26,3 @@ pub one_more_made : (n : ℕ) (s : Scripts) (x : Left) {d d' : Dispatcher} {l l'
     → left d' l' ≡ made (n + 1) s x
 unfolding made
 one_more_made n s x so_far e = rw (add-one n) (e ∙ ap (one_more s) so_far)
-
--- what the exported function answers, once no step is left
-pub all_made : (n times : ℕ) (s : Scripts) (x : Left) {d : Dispatcher} {l : List ℕ} → left d l ≡ made n s x → n ≤ times → times ≤ n
-    → (d.handler.state.count ≡ (made times s x).state.handler.state.count) × (l ≡ (made times s x).log)
-all_made n times s x so_far le ge =
-    let all : n ≡ times = omega (arith, le, ge) in
-    let done : left _ _ ≡ made times s x = so_far ∙ ap (λ (k : ℕ). made k s x) all in
-    (ap (λ (y : Left). y.state.handler.state.count) done, ap (λ (y : Left). y.log) done)

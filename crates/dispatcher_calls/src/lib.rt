@@ -23,9 +23,7 @@ fn one_step(
 ) -> Dispatcher
     ensures { left result log.new ≡ one_more (scripts first.now second.now third.now) (left state log.old) }
 {
-    let done = state.step(first, second, third, log);
-    let next = done.state;
-    next
+    state.step(first, second, third, log).state
 }
 
 // So many steps at a table with two keyboards, from a fresh state on; answers how many events then wait.
@@ -37,7 +35,7 @@ pub extern "C" fn dispatcher_steps(
     log: &mut [u8],
     times: usize,
 ) -> usize
-    ensures { (result ≡ (made times (scripts first.now second.now third.now) (left (new_dispatcher (fresh two_keyboards) fresh_mouse) log.old)).state.handler.state.count) × (log.new ≡ (made times (scripts first.now second.now third.now) (left (new_dispatcher (fresh two_keyboards) fresh_mouse) log.old)).log) }
+    ensures { let after = made times (scripts first.now second.now third.now) (left (new_dispatcher (fresh two_keyboards) fresh_mouse) log.old) in (result ≡ after.state.handler.state.count) × (log.new ≡ after.log) }
 {
     let mut state = Dispatcher::new(
         KeyboardHandler::fresh(Table {
@@ -46,11 +44,8 @@ pub extern "C" fn dispatcher_steps(
         }),
         PS2Mouse::new(),
     );
-    let mut i: usize = 0;
-    while i < times {
-        let next = one_step(state, first, second, third, log);
-        state = next;
-        i += 1;
+    for _ in 0..times {
+        state = one_step(state, first, second, third, log);
     }
     state.handler.state.count
 }

@@ -8,9 +8,9 @@ use Rattle.dispatcher_calls.specs.Steps.{left, made}
 use Rattle.dispatcher_calls.proofs.Steps.{at_first}
 use Rattle.dispatcher_calls.proofs.dispatcher_steps.Given as goal
 
-abbrev pub invariant-loop-i : goal.invariant-loop-i
-invariant-loop-i l =
-    (l.i ≤ l.times) × (length l.log ≡ length l.initial.log) × (left l.state l.log ≡ made l.i (scripts l.first l.second l.third) (left at_first l.initial.log))
+abbrev pub invariant-loop : goal.invariant-loop
+invariant-loop l =
+    (l.counter ≤ l.times) × (length l.log ≡ length l.initial.log) × (left l.state l.log ≡ made l.counter (scripts l.first l.second l.third) (left at_first l.initial.log))
 
-abbrev pub decreases-loop-i : goal.decreases-loop-i
-decreases-loop-i l = l.times - l.i
+abbrev pub decreases-loop : goal.decreases-loop
+decreases-loop l = l.times - l.counter
