@@ -1,14 +1,12 @@
 -- A step by its parts: the bytes that a call is given, what a call makes of the state, and whom the step serves.
 -- Assumes nothing.
 use mathlib.Core.Path.{◌≡◌, sym, ap, ◌∙◌}
-use mathlib.Core.Bool.{Bool, true}
+use mathlib.Core.Bool.{Bool}
 use mathlib.Core.List.{List, []}
 use Rattle.std.specs.Prelude.{Option}
-use Prim.Native.Nat.{ℕ, ◌+◌, ◌-◌, ◌≤◌, ◌<◌}
+use Prim.Native.Nat.{ℕ, ◌+◌, ◌-◌, ◌≤◌}
 use native.Mathlib.Omega.{arith}
-use lib.Dec.{ltb}
 use lib.ListN.{length, length-drop}
-use borrow.Author.Tests.{lt-ltb, le-ltb}
 use Rattle.exchange.specs.Exchange.{Exchange, End, Played, played, play, Reads}
 use Rattle.exchange.specs.Answer.{Answer}
 use Rattle.exchange.specs.Parts.{part}
@@ -82,13 +80,6 @@ module _ (d : Dispatcher) (script : List ℕ) (from : ℕ) (is : unused from scr
   mouse_served log p t = rw (t, p, r.no_pairs) (ap (read_step log) read_is)
 
 -- ---- who waits
-
-module _ (place : ℕ) (script : List ℕ) (waiting : ℕ) where
-  pub bytes_wait : place < length script → true ≡ keyboard_waits (unused place script) waiting
-  bytes_wait h = rw (length-drop place script, lt-ltb 0 (length script - place) (omega arith))
-
-  pub no_bytes_wait : length script ≤ place → ltb 0 waiting ≡ keyboard_waits (unused place script) waiting
-  no_bytes_wait h = rw (length-drop place script, le-ltb 0 (length script - place) (omega arith))
 
 pub waits_are : (d : Dispatcher) (s : Scripts) {first second mouse : Bool} → first ≡ keyboard_waits (unused d.places.first s.first) d.handler.state.first.waiting.count
     → second ≡ keyboard_waits (unused d.places.second s.second) d.handler.state.second.waiting.count → mouse ≡ mouse_waits (unused d.places.mouse s.mouse) d.mouse.id

@@ -50,7 +50,7 @@ pub struct Dispatcher {
     pub handler: KeyboardHandler,
 }
 
-// What a handler call answers, as `Handled` has it without the record.
+// What a handler call answers, as `Handled` has it without the record. Kept: `lamps_failed` is document 01's 14, shown beside the answer and not in its place.
 #[derive(Clone, Copy)]
 pub struct CallAnswer {
     pub answer: HandlerAnswer,
