@@ -1,16 +1,16 @@
 -- Texts that are put into a buffer one after another, and what the buffer then holds.
 -- Assumes nothing.
-use mathlib.Core.Bool.{Bool, true, false}
 use mathlib.Core.Path.{◌≡◌, refl, ap, ap₂, sym, ◌∙◌}
 use mathlib.Core.List.{List, [], ◌∷◌, ◌++◌, append-nil, append_assoc}
 use Prim.Native.Nat.{ℕ, ◌+◌, ◌<◌, ◌≤◌}
 use native.Mathlib.Nat.{add-zero, zero-add}
 use native.Mathlib.Omega.{arith}
 use lib.ListN.{length, set, take, drop, length-append}
-use lib.Dec.{ltb}
-use lib.Seq.{take-nil, take-set-le, set-append_seam}
+use lib.Seq.{take-nil, set-append_seam}
 use borrow.Author.Tests.{lt-ltb, le-ltb}
 use Rattle.buffer.specs.Buffer.{Holds, Place, place, put_byte, put}
+use Rattle.buffer.specs.declared.Writer.{Writer}
+use Rattle.buffer.specs.Writer.{place_of, Puts}
 
 -- ---- one text after another
 
@@ -26,6 +26,15 @@ put-append (b ∷ t) u p = put-append t u (put_byte b p)
 pub put_then : {q r : Place} (t u : List ℕ) (p : Place) → q ≡ put t p → r ≡ put u q → r ≡ put (t ++ u) p
 put_then t u p e f = f ∙ ap (put u) e ∙ sym (put-append t u p)
 
+-- ---- by a writer
+
+pub puts_none : {w : Writer} → Puts [] w w
+puts_none {w} = record { puts = sym (put_none (place_of w)); same_buffer = (refl, refl) }
+
+pub puts_then : {t u : List ℕ} {w x y : Writer} → Puts t w x → Puts u x y → Puts (t ++ u) w y
+puts_then {t} {u} {w} a b =
+    record { puts = put_then t u (place_of w) a.puts b.puts; same_buffer = (b.same_buffer.0 ∙ a.same_buffer.0, b.same_buffer.1 ∙ a.same_buffer.1) }
+
 -- ---- one byte
 
 pub put_room : (b at : ℕ) (out : List ℕ) → at < length out → place (at + 1) (set out at b) ≡ put (b ∷ []) (place at out)
@@ -35,22 +44,6 @@ put_room b at out h = rw (lt-ltb at (length out) h)
 pub put_full : (b at : ℕ) (out : List ℕ) → length out ≤ at → place at out ≡ put (b ∷ []) (place at out)
 unfolding put
 put_full b at out h = rw (le-ltb at (length out) h)
-
--- ---- what stands before the place
-
-byte_front : (b : ℕ) (p : Place) (k : ℕ) → k ≤ p.at → (room : Bool) → ltb p.at (length p.bytes) ≡ room
-    → (take k (put_byte b p).bytes ≡ take k p.bytes) × (k ≤ (put_byte b p).at)
-byte_front b p k h true e = rw e (take-set-le k p.bytes p.at b h, omega arith)
-byte_front b p k h false e = rw e (refl, h)
-
--- it stays, and the next place is no lower
-pub put_front : (text : List ℕ) (p : Place) (k : ℕ) → k ≤ p.at → (take k (put text p).bytes ≡ take k p.bytes) × (k ≤ (put text p).at)
-unfolding put
-put_front [] p k h = (refl, h)
-put_front (b ∷ text) p k h =
-    let one = byte_front b p k h (ltb p.at (length p.bytes)) refl in
-    let more = put_front text (put_byte b p) k one.1 in
-    (more.0 ∙ one.0, more.1)
 
 -- ---- the whole
 
@@ -81,6 +74,6 @@ put_holds text buffer e =
     let n = ap (λ (p : Place). p.at) w ∙ zero-add (length (take (length buffer) text)) in
     record { counted = n; bytes = ap (λ (p : Place). p.bytes) w ∙ ap (λ (k : ℕ). take (length buffer) text ++ drop k buffer) (sym n) }
 
--- no more bytes are counted than the buffer has
-pub holds_le : {text buffer : List ℕ} {count : ℕ} {after : List ℕ} → Holds text buffer count after → count ≤ length after
-holds_le {text} {buffer} {count} h = omega (arith, h.counted, ap length h.bytes, length-append (take (length buffer) text) (drop count buffer))
+-- and by a writer that was made at the start of a buffer
+pub puts_holds : {text buffer after : List ℕ} {w x : Writer} → Puts text w x → w.next ≡ 0 → w.out.now ≡ buffer → after ≡ x.out.now → Holds text buffer x.next after
+puts_holds {text} {buffer} p s b a = put_holds text buffer (rw a (p.puts ∙ rw (s, b)))

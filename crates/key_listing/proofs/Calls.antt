@@ -1,7 +1,7 @@
 -- The calls of a listing, one after another: for each that another follows one byte fewer is left, of the script or waiting.
 -- Assumes nothing.
 use mathlib.Core.Path.{◌≡◌, refl, ap, ap₂, sym, subst, ◌∙◌}
-use mathlib.Core.Bool.{true, false, true≢false}
+use mathlib.Core.Bool.{Bool, true, false, cond, true≢false}
 use mathlib.Core.List.{List, [], ◌∷◌, ◌++◌, append-nil}
 use mathlib.Core.Logic.{⊎_elim}
 use mathlib.Core.Option.{Option, some}
@@ -10,8 +10,9 @@ use native.Mathlib.Nat.{le_refl}
 use native.Mathlib.Omega.{arith}
 use lib.Dec.{eqb}
 use lib.ListN.{length, drop, length-append, length-take, length-drop}
-use lib.Seq.{drop-drop}
 use borrow.Author.Tests.{eq-eqb, ne_eqb, eqb-true, eqb-false}
+use Rattle.std.specs.Prelude.{Some, None}
+use Rattle.std.specs.Prelude as prelude
 use Rattle.exchange.specs.Exchange.{Played}
 use Rattle.exchange.specs.Parts.{part}
 use Rattle.exchange.proofs.Kept.{used_le}
@@ -43,8 +44,9 @@ use Rattle.keyboard.proofs.Formed.{left_at}
 use Rattle.keyboard.proofs.Counted.{answer_end, lack_ends}
 use Rattle.keyboard.proofs.Refused.{malformed_handled}
 use Rattle.keyboard.proofs.Waiting.{waits_left}
-use Rattle.buffer.specs.Buffer.{Place, put}
-use Rattle.buffer.proofs.Buffer.{put-append}
+use Rattle.buffer.specs.declared.Writer.{Writer}
+use Rattle.buffer.specs.Writer.{Puts}
+use Rattle.buffer.proofs.Buffer.{puts_then}
 use Rattle.key_listing.specs.Lines.{taken_line, refusal_line}
 use Rattle.key_listing.specs.Listing.{free_log, call_on, call_text, record_after, bytes_left, calls_text, listing_from}
 use Rattle.key_listing.proofs.Used.{same_took, used_behind, behind_le, left_behind, caught-le}
@@ -219,36 +221,34 @@ module _ (h : KeyboardHandler) (s : List ℕ) (i : 0 < bytes_left h s) where
       ∙ ap (λ (t : List ℕ). call_text h s ++ t)
       (calls_enough fewer (bytes_left (record_after h s) rest) (record_after h s) rest (omega arith) (le_refl (bytes_left (record_after h s) rest)))
 
--- ---- a turn of the code's loop: a call on what is left of the script, at the next place of a buffer
+-- ---- a turn of the code's loop: a call on what is left of the script
 
-module _ (s : List ℕ) (h : KeyboardHandler) (u : ℕ) (i : 0 < bytes_left h (drop u s)) where
-  abbrev left : List ℕ
-  left = part u s
+-- what the code's call answers: the bytes it used, if another follows
+goes_on : (last : Bool) (n : ℕ) {u : ℕ} → Some u ≡ cond last None (Some n) → (last ≡ false) × (u ≡ n)
+goes_on false n e = (refl, cc)
+goes_on true n e = cc
 
-  some_left : 0 < bytes_left h left
-  some_left = rw (part_drop u s) i
+is_over : (last : Bool) (n : ℕ) → None ≡ cond last None (Some n) → last ≡ true
+is_over true n e = refl
+is_over false n e = cc
 
-  pub turn_used : u ≤ length s → u + (call_on h left).used ≤ length s
-  turn_used l = omega (arith, ap length (part_drop u s), length-drop u s, call_used-le h left)
+module _ (h : KeyboardHandler) (s : List ℕ) where
+  abbrev answer : prelude.Option ℕ
+  answer = cond (ends2_3_21 (call_on h s).end) None (Some (call_on h s).used)
 
-  drop-left : drop (call_on h left).used left ≡ drop (u + (call_on h left).used) s
-  drop-left = ap (drop (call_on h left).used) (part_drop u s) ∙ drop-drop (call_on h left).used u s
+  went_on : {u : ℕ} → Some u ≡ answer → (ends2_3_21 (call_on h s).end ≡ false) × (u ≡ (call_on h s).used)
+  went_on e = goes_on (ends2_3_21 (call_on h s).end) (call_on h s).used e
 
-  pub turn_fewer : ends2_3_21 (call_on h left).end ≡ false → bytes_left (record_after h left) (drop (call_on h left).used left) < bytes_left h (drop u s)
-  turn_fewer e =
-      subst (λ (x : List ℕ). bytes_left (record_after h left) (drop (call_on h left).used left) < bytes_left h x) (part_drop u s) (fewer_left h left e)
+  pub turn_used : {u : ℕ} → Some u ≡ answer → u ≤ length s
+  turn_used e = rw (went_on e).1 (call_used-le h s)
 
-  pub turn_left : bytes_left (record_after h left) (drop (call_on h left).used left) ≡ bytes_left (record_after h left) (drop (u + (call_on h left).used) s)
-  turn_left = ap (bytes_left (record_after h left)) drop-left
+  pub turn_fewer : {u : ℕ} → Some u ≡ answer → bytes_left (record_after h s) (part u s) < bytes_left h s
+  turn_fewer {u} e = rw (part_drop u s, (went_on e).1) (fewer_left h s (went_on e).0)
 
-  module _ (p : Place) {q : Place} (e : q ≡ put (call_text h left) p) where
-    pub turn_last : ends2_3_21 (call_on h left).end ≡ true → put (listing_from h (drop u s)) p ≡ q
-    turn_last l = rw (← part_drop u s, listing_last h left some_left l) (sym e)
+  module _ (i : 0 < bytes_left h s) where
+    pub turn_last : {p q : Writer} → None ≡ answer → Puts (call_text h s) p q → Puts (listing_from h s) p q
+    turn_last e t = rw (listing_last h s i (is_over (ends2_3_21 (call_on h s).end) (call_on h s).used e)) t
 
-    pub turn_more : ends2_3_21 (call_on h left).end ≡ false
-        → put (listing_from h (drop u s)) p ≡ put (listing_from (record_after h left) (drop (u + (call_on h left).used) s)) q
-    turn_more l =
-        let next = listing_from (record_after h left) (drop (call_on h left).used left) in
-        ap (λ (t : List ℕ). put (listing_from h t) p) (sym (part_drop u s))
-        ∙ ap (λ (t : List ℕ). put t p) (listing_more h left some_left l) ∙ put-append (call_text h left) next p ∙ ap (put next) (sym e)
-        ∙ ap (λ (t : List ℕ). put (listing_from (record_after h left) t) q) drop-left
+    pub turn_more : {p q w : Writer} {u : ℕ} → Some u ≡ answer → Puts (call_text h s) p q → Puts (listing_from (record_after h s) (part u s)) q w → Puts (listing_from h s) p w
+    turn_more {u = u} e t r =
+        rw (listing_more h s i (went_on e).0) (puts_then t (rw (part_drop u s, (went_on e).1) at r))

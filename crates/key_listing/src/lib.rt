@@ -1,17 +1,18 @@
 // The listing of key events that the program tablekeys prints: the handler of the one keyboard is called on a script until it is used and no byte waits, and each event is taken at once.
 #![tactic(auto)]
 
-ghost use Rattle.std.specs.Prelude.{◌≡◌, [], ◌∷◌, ◌<◌, drop};
+ghost use Rattle.std.specs.Prelude.{◌≡◌, [], ◌∷◌, ◌<◌, Some, None, cond};
 ghost use Rattle.exchange.specs.Answer.{number_ended};
 ghost use Rattle.keyboard.specs.Answers.{said_call, ends2_3_21};
 ghost use Rattle.keyboard_record.specs.Taking.{said_taken};
 ghost use Rattle.key_listing.specs.Text.{digit as Text·digit, digits, decimal};
 ghost use Rattle.key_listing.specs.Lines.{action_text, character_text, event_line, taken_line, refusal_line};
 ghost use Rattle.key_listing.specs.Listing.{at_first, call_on, call_text, record_after, bytes_left, listing_from, listing};
-ghost use Rattle.buffer.specs.Buffer.{Holds, place, put};
+ghost use Rattle.buffer.specs.Buffer.{Holds};
+ghost use Rattle.buffer.specs.Writer.{Puts};
 
-use buffer::{put_byte, put_text};
-use keyboard::{HandlerAnswer, HandlerRefusal, handle, number_of};
+use buffer::Writer;
+use keyboard::{HandlerAnswer, HandlerRefusal, handle};
 use keyboard_record::{KeyboardHandler, Keyboards, Table, TakenEvent, take_event};
 use keyboard_scancodes::Profile;
 use keyboard_sides::Side;
@@ -20,205 +21,157 @@ use keycodes_ascii::{KeyAction, KeyEvent};
 // The most script bytes that are read.
 const SCRIPT_LIMIT: usize = 65536;
 
-// What one handler call leaves: whether it is the last one, the script bytes used, the bytes that are left for the calls after it, the next place of the listing, and the record.
-#[derive(Clone, Copy)]
-struct Called {
-    is_last: bool,
-    used: usize,
-    left: usize,
-    at: usize,
-    handler: KeyboardHandler,
-}
-
 // Puts the listing of a script into `out`, as much of it as there is room for, and answers how many bytes that is.
 pub fn list_keys(script: &[u8], out: &mut [u8]) -> usize
     ensures { Holds (listing script.now) out.old result out.new }
 {
-    if SCRIPT_LIMIT < script.len() {
-        return list_calls(&script[..SCRIPT_LIMIT], out);
-    }
-    list_calls(script, out)
+    let mut writer = Writer { out, next: 0 };
+    list_calls(&script[..SCRIPT_LIMIT.min(script.len())], &mut writer);
+    writer.next
 }
 
-// The same of a script that is used to its end. The bytes that are left are those of the script and those that wait.
-fn list_calls(script: &[u8], out: &mut [u8]) -> usize
-    ensures { place result out.new ≡ put (listing_from at_first script.now) (place 0 out.old) }
+// The same of a script that is used to its end.
+fn list_calls(script: &[u8], out: &mut Writer<'_>)
+    ensures { Puts (listing_from at_first script.now) out.old out.new }
 {
     let table = Table {
         keyboards: Keyboards::One,
         profile: Profile::Any,
     };
     let mut handler = KeyboardHandler::fresh(table);
-    let mut used: usize = 0;
-    let mut left = script.len();
-    let mut at: usize = 0;
-    while 0 < left {
-        let call = call_once(handler, &script[used..], out, at);
-        at = call.at;
-        if call.is_last {
-            return at;
-        }
-        let next = call.handler;
-        handler = next;
-        left = call.left;
-        used += call.used;
+    let mut rest = script;
+    // Kept, no plainer: what a call uses and leaves waiting says how many there are, so a `for` over as many as there are bytes would want both tests all the same.
+    while 0 < bytes_left(&handler, rest) {
+        let Some(used) = call_once(&mut handler, rest, out) else {
+            return;
+        };
+        rest = &rest[used..];
     }
-    at
 }
 
-// One handler call on what is left of the script, and the taking after it. What they print is put into `out` from `at` on.
-fn call_once(handler: KeyboardHandler, script: &[u8], out: &mut [u8], at: usize) -> Called
-    ensures { (result.is_last ≡ ends2_3_21 (call_on handler script.now).end) × (result.used ≡ (call_on handler script.now).used) × (result.left ≡ bytes_left (record_after handler script.now) (drop (call_on handler script.now).used script.now)) × (result.handler ≡ record_after handler script.now) × (place result.at out.new ≡ put (call_text handler script.now) (place at out.old)) }
+// How many bytes are left for calls to take: of the script, and waiting.
+fn bytes_left(handler: &KeyboardHandler, script: &[u8]) -> usize
+    ensures { result ≡ bytes_left handler.now script.now }
+{
+    script.len() + usize::from(handler.state.first.waiting.count)
+}
+
+// One handler call on what is left of the script, and the taking after it; what they print is put into `out`. Answers how many bytes the call used, if another is to follow.
+fn call_once(handler: &mut KeyboardHandler, script: &[u8], out: &mut Writer<'_>) -> Option<usize>
+    ensures used { result ≡ cond (ends2_3_21 (call_on handler.old script.now).end) None (Some (call_on handler.old script.now).used) }
+    ensures left { handler.new ≡ record_after handler.old script.now }
+    ensures puts { Puts (call_text handler.old script.now) out.old out.new }
 {
     let mut log = [0u8; 16];
-    let call = handle(handler, Side::First, script, &mut log);
-    let used = call.used;
-    let answer = call.answer;
-    let left = call.handler;
-    let taken = take_event(left);
-    let event = taken.event;
-    let next = taken.handler;
-    let waiting = next.state.first.waiting.count as usize;
-    let bytes_left = script.len() - used + waiting;
-    let refused = put_refusal(out, at, answer);
-    let listed = put_taken(out, refused, event);
-    let last = is_last(answer);
-    Called {
-        is_last: last,
-        used,
-        left: bytes_left,
-        at: listed,
-        handler: next,
-    }
+    let call = handle(*handler, Side::First, script, &mut log);
+    let taken = take_event(call.handler);
+    *handler = taken.handler;
+    put_refusal(out, call.answer);
+    put_taken(out, taken.event);
+    (!is_last(call.answer)).then_some(call.used)
 }
 
 // Whether no call follows one that is answered so.
 fn is_last(answer: HandlerAnswer) -> bool
     ensures { result ≡ ends2_3_21 (said_call answer) }
 {
-    match answer {
-        Ok(()) => false,
-        Err(refusal) => match refusal {
-            HandlerRefusal::Lacking(_) => true,
-            HandlerRefusal::UnknownScancode => false,
-            HandlerRefusal::QueueFull => false,
-            HandlerRefusal::MalformedRecord => true,
-            HandlerRefusal::SideFull => false,
-            HandlerRefusal::OutsideProfile => false,
-        },
-    }
+    matches!(
+        answer,
+        Err(HandlerRefusal::Lacking(_) | HandlerRefusal::MalformedRecord)
+    )
 }
 
 // Puts the number of a refusal; an answer that is none puts nothing.
-fn put_refusal(out: &mut [u8], at: usize, answer: HandlerAnswer) -> usize
-    ensures { place result out.new ≡ put (refusal_line (number_ended (said_call answer))) (place at out.old) }
+fn put_refusal(out: &mut Writer<'_>, answer: HandlerAnswer)
+    ensures { Puts (refusal_line (number_ended (said_call answer))) out.old out.new }
 {
-    let number = number_of(answer);
-    if number == 0 {
-        return at;
+    if let Err(refusal) = answer {
+        out.put_text(b"refused ");
+        put_decimal(out, refusal.number());
+        out.put_byte(b'\n');
     }
-    let word = put_text(out, at, b"refused ");
-    let digits = put_decimal(out, word, widened(number));
-    put_byte(out, digits, b'\n')
 }
 
 // Puts the line of an event that was taken, without its side; where none was, nothing.
-fn put_taken(out: &mut [u8], at: usize, event: TakenEvent) -> usize
-    ensures { place result out.new ≡ put (taken_line (said_taken event)) (place at out.old) }
+#[tactic(auto, using(buffer::proofs::Buffer::puts_none))]
+fn put_taken(out: &mut Writer<'_>, event: TakenEvent)
+    ensures { Puts (taken_line (said_taken event)) out.old out.new }
 {
     match event {
-        Ok(taken) => match taken {
-            Some(e) => put_event(out, at, e.event),
-            None => at,
-        },
-        Err(_) => at,
+        Ok(Some(taken)) => put_event(out, taken.event),
+        Ok(None) | Err(_) => {}
     }
 }
 
 // Puts the line of an event: keycode, P or R, flags, character.
-fn put_event(out: &mut [u8], at: usize, event: KeyEvent) -> usize
-    ensures { place result out.new ≡ put (event_line event) (place at out.old) }
+fn put_event(out: &mut Writer<'_>, event: KeyEvent)
+    ensures { Puts (event_line event) out.old out.new }
 {
-    let keycode = event.keycode;
-    let action = event.action;
-    let modifiers = event.modifiers;
-    let code = put_two_digits(out, at, u8::from(keycode));
-    let space = put_byte(out, code, b' ');
-    let letter = put_action(out, space, action);
-    let space2 = put_byte(out, letter, b' ');
-    let flags = put_three_digits(out, space2, modifiers.bits);
-    let space3 = put_byte(out, flags, b' ');
-    let character = put_character(out, space3, keycode.to_ascii(modifiers));
-    put_byte(out, character, b'\n')
+    put_two_digits(out, u8::from(event.keycode));
+    out.put_byte(b' ');
+    put_action(out, event.action);
+    out.put_byte(b' ');
+    put_three_digits(out, event.modifiers.bits);
+    out.put_byte(b' ');
+    put_character(out, event.keycode.to_ascii(event.modifiers));
+    out.put_byte(b'\n');
 }
 
 // Puts P for a press, R for a release.
-fn put_action(out: &mut [u8], at: usize, action: KeyAction) -> usize
-    ensures { place result out.new ≡ put (action_text action) (place at out.old) }
+fn put_action(out: &mut Writer<'_>, action: KeyAction)
+    ensures { Puts (action_text action) out.old out.new }
 {
     match action {
-        KeyAction::Pressed => put_byte(out, at, b'P'),
-        KeyAction::Released => put_byte(out, at, b'R'),
+        KeyAction::Pressed => out.put_byte(b'P'),
+        KeyAction::Released => out.put_byte(b'R'),
     }
 }
 
 // Puts a character's number in decimal, or - where there is none.
-fn put_character(out: &mut [u8], at: usize, character: Option<u8>) -> usize
-    ensures { place result out.new ≡ put (character_text character) (place at out.old) }
+fn put_character(out: &mut Writer<'_>, character: Option<u8>)
+    ensures { Puts (character_text character) out.old out.new }
 {
     match character {
-        Some(c) => put_decimal(out, at, widened(c)),
-        None => put_byte(out, at, b'-'),
+        Some(c) => put_decimal(out, c),
+        None => out.put_byte(b'-'),
     }
 }
 
-fn widened(byte: u8) -> u16
-    ensures { result ≡ byte }
+// Puts a byte's number in decimal.
+// Kept in this and the next three, no plainer: printed text is a string on the heap, and a crate that prints into a buffer has no capital digits and wants a law that its text is `decimal`.
+fn put_decimal(out: &mut Writer<'_>, n: u8)
+    ensures { Puts (decimal n) out.old out.new }
 {
-    byte as u16
-}
-
-// Puts a number below 1000 in decimal.
-fn put_decimal(out: &mut [u8], at: usize, n: u16) -> usize
-    ensures { place result out.new ≡ put (decimal n) (place at out.old) }
-{
-    if n < 10 {
-        return put_digit(out, at, n % 10);
+    if 100 <= n {
+        put_digit(out, n / 10 / 10);
     }
-    if n < 100 {
-        let tens = put_digit(out, at, n / 10 % 10);
-        return put_digit(out, tens, n % 10);
+    if 10 <= n {
+        put_digit(out, n / 10 % 10);
     }
-    let hundreds = put_digit(out, at, n / 10 / 10 % 10);
-    let tens = put_digit(out, hundreds, n / 10 % 10);
-    put_digit(out, tens, n % 10)
+    put_digit(out, n % 10);
 }
 
 // Puts a byte as two hexadecimal digits.
-fn put_two_digits(out: &mut [u8], at: usize, byte: u8) -> usize
-    ensures { place result out.new ≡ put (digits 16 2 byte) (place at out.old) }
+fn put_two_digits(out: &mut Writer<'_>, byte: u8)
+    ensures { Puts (digits 16 2 byte) out.old out.new }
 {
-    let n = byte as u16;
-    let high = put_digit(out, at, n / 16 % 16);
-    put_digit(out, high, n % 16)
+    put_digit(out, byte / 16);
+    put_digit(out, byte % 16);
 }
 
 // Puts the last three hexadecimal digits of a word.
-fn put_three_digits(out: &mut [u8], at: usize, n: u16) -> usize
-    ensures { place result out.new ≡ put (digits 16 3 n) (place at out.old) }
+fn put_three_digits(out: &mut Writer<'_>, n: u16)
+    ensures { Puts (digits 16 3 n) out.old out.new }
 {
-    let first = put_digit(out, at, n / 16 / 16 % 16);
-    let second = put_digit(out, first, n / 16 % 16);
-    put_digit(out, second, n % 16)
+    put_digit(out, (n / 16 / 16 % 16) as u8);
+    put_digit(out, (n / 16 % 16) as u8);
+    put_digit(out, (n % 16) as u8);
 }
 
 // Puts a digit: 0 to 9, then A to F.
-fn put_digit(out: &mut [u8], at: usize, d: u16) -> usize
+fn put_digit(out: &mut Writer<'_>, d: u8)
     requires { d < 16 }
-    ensures { place result out.new ≡ put (Text·digit d ∷ []) (place at out.old) }
+    ensures { Puts (Text·digit d ∷ []) out.old out.new }
 {
-    if d < 10 {
-        return put_byte(out, at, b'0' + d as u8);
-    }
-    put_byte(out, at, b'A' + (d - 10) as u8)
+    out.put_byte(if d < 10 { b'0' + d } else { b'A' + (d - 10) });
 }

@@ -1,19 +1,15 @@
--- `key_listing::list_keys` meets its contract: at most 65,536 bytes are used.
+-- `key_listing::list_keys` meets its contract: at most 65,536 bytes are used, and what the writer left in the buffer its lender has.
 -- Assumes nothing.
-use mathlib.Core.Path.{sym}
-use native.Mathlib.Nat.{le_of_lt}
-use lib.Seq.{take_all, length-take-le}
+use mathlib.Core.Path.{◌≡◌, refl}
+use lib.ListN.{take}
+use Rattle.std.proofs.Common.{rules}
+use Rattle.std.proofs.lemmas.List.{take_min}
 use Rattle.key_listing.specs.Listing.{script_limit, listing}
-use Rattle.buffer.proofs.Buffer.{put_holds}
+use Rattle.buffer.proofs.Buffer.{puts_holds}
 use Rattle.key_listing.proofs.list_keys.Goals as goal
-
-pub returns-then-script-gt-SCRIPT_LIMIT : goal.returns-then-script-gt-SCRIPT_LIMIT
-unfolding listing
-returns-then-script-gt-SCRIPT_LIMIT c = put_holds _ _ c.list_calls.ensures
-
-pub slice_bounds-list_calls-end : goal.slice_bounds-list_calls-end
-slice_bounds-list_calls-end c = sym (length-take-le script_limit c.args.script.now (le_of_lt c.if-script-gt-SCRIPT_LIMIT.true))
 
 pub returns : goal.returns
 unfolding listing
-returns c = rw (take_all script_limit _ c.if-script-gt-SCRIPT_LIMIT.false) (put_holds _ _ c.list_calls-2.ensures)
+returns c =
+    let cut : take c.min.result c.args.script.now ≡ take script_limit c.args.script.now = rw (c.min.ensures, take_min) refl in
+    rw (← cut) (puts_holds c.list_calls.ensures refl refl (search rules))

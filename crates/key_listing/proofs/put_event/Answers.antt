@@ -1,6 +1,6 @@
 -- `key_listing::put_event` meets its contract: its parts one after another.
 -- Assumes nothing.
-use Rattle.buffer.proofs.Buffer.{put_then}
+use Rattle.buffer.proofs.Buffer.{puts_then}
 use Rattle.key_listing.specs.Lines.{event_line}
 use Rattle.key_listing.proofs.put_event.Goals as goal
 
@@ -8,8 +8,8 @@ pub returns : goal.returns
 unfolding event_line
 returns c =
     rw (← c.from.ensures, ← c.to_ascii.ensures)
-    (put_then _ _ _ (put_then _ _ _ (put_then _ _ _ (put_then _ _ _ (put_then _ _ _ (put_then _ _ _ (put_then _ _ _
-    c.put_two_digits-code.ensures c.put_byte-space.ensures)
-    c.put_action-letter.ensures) c.put_byte-space2.ensures)
-    c.put_three_digits-flags.ensures) c.put_byte-space3.ensures)
-    c.put_character-character.ensures) c.put_byte.ensures)
+    (puts_then (puts_then (puts_then (puts_then (puts_then (puts_then (puts_then
+    c.put_two_digits.ensures c.put_byte.ensures)
+    c.put_action.ensures) c.put_byte-2.ensures)
+    c.put_three_digits.ensures) c.put_byte-3.ensures)
+    c.put_character.ensures) c.put_byte-4.ensures)

@@ -1,11 +1,8 @@
--- `Writer::put_text` meets its contract: what is left of the text, put at the next place, is the whole put at the first.
+-- `Writer::put_text` meets its contract: so far it has put as much of the text as the loop has come.
 -- Assumes nothing.
-use mathlib.Core.Path.{◌≡◌}
-use lib.ListN.{drop}
-use Rattle.buffer.specs.Buffer.{put}
-use Rattle.buffer.specs.Writer.{place_of, SameBuffer}
+use lib.ListN.{take}
+use Rattle.buffer.specs.Writer.{Puts}
 use Rattle.buffer.proofs.Writer.put_text.Given as goal
 
 abbrev pub invariant-loop-byte : goal.invariant-loop-byte
-invariant-loop-byte l =
-    SameBuffer l.initial.self l.self × (put l.text (place_of l.initial.self) ≡ put (drop l.byte-index l.text) (place_of l.self))
+invariant-loop-byte l = Puts (take l.byte-index l.text) l.initial.self l.self
