@@ -92,7 +92,7 @@ pub struct Effect {
 }
 
 impl HandlerRefusal {
-    // The number that documents 01 and 02 give to a refusal.
+    // The number that documents 01 and 02 give to a refusal. Kept a method, no plainer: `u8::from(refusal)` says less, and what a call lacks has numbers of its own.
     pub fn number(self) -> u8
         ensures { result ≡ number_ended (said_call (Err self)) }
     {
@@ -107,7 +107,7 @@ impl HandlerRefusal {
     }
 }
 
-// The number of how a call ends, and 0 where it is done.
+// The number of how a call ends, and 0 where it is done: the documents number every answer.
 pub fn number_of(answer: HandlerAnswer) -> u8
     ensures { result ≡ number_ended (said_call answer) }
 {
@@ -147,7 +147,7 @@ fn event_of(keycode: Keycode, scan_code: u8, modifiers: KeyboardModifiers) -> Ke
     }
 }
 
-// Takes the oldest byte that waits: each byte behind it moves up by one place.
+// Takes the oldest byte that waits: each byte behind it moves up by one place. How many wait is asked here and below, and said by no type: a caller's record may have any number there, and 21 is its answer.
 // Kept a `while`, speed: as one `copy_from_slice` it proved, but the press of a lock took 80 ns in place of 41, although none waited.
 fn take_oldest(waiting: WaitingBytes) -> (u8, KeptBytes)
     requires { (waiting.count ≤ kept_limit) × (waiting.count ≢ 0) }
@@ -223,6 +223,7 @@ fn after_lamps(
     }
 }
 
+// Script and log are kept as two slices, and the bytes that are taken, the keyboard and the flags as arguments of their own in three steps of one call: document 01 has a call take a script and a log, and a struct for the others would be taken apart in each step.
 // The press of a lock that is followed, with the flags just after it: the lamps are set, and its event is given whether they could be or not. What the lamp exchange throws away waits behind the bytes that wait already.
 fn lock_pressed(
     port: DevicePort,
@@ -340,7 +341,7 @@ fn key_call(
     }
 }
 
-// The port of a side's keyboard.
+// The port of a side's keyboard. Kept, no plainer: neither type is this crate's, so there is no `From`.
 fn port_of(side: Side) -> DevicePort
     ensures { result ≡ port_of side }
 {

@@ -147,7 +147,7 @@ impl HandlerState {
         self.table.keyboards.has(side) && self.well_formed()
     }
 
-    // The same, and that one more event of the side finds a place even if all that wait are the side's, so that none has to be counted.
+    // The same, and that one more event of the side finds a place even if all that wait are the side's, so that none has to be counted: which is why the tests stand here again, with smaller bounds.
     pub fn is_ready(self, side: Side) -> bool
         ensures { result ≡ is_ready side self }
     {

@@ -27,7 +27,7 @@ const ACKNOWLEDGE: u8 = 0xFA;
 // The low seven bits of a scancode are its key's press code.
 const LOW_PART: u8 = 0x7F;
 
-// The press codes of the keys that have a flag, under the names that the Rust's `Keycode` has for them.
+// The press codes of the keys that have a flag, under the names that the Rust's `Keycode` has for them. Kept as bytes, no plainer: a scancode is compared with them, and would be looked up as a `Keycode` first.
 const CONTROL: u8 = 0x1D;
 
 const ALT: u8 = 0x38;
@@ -195,7 +195,7 @@ impl Profile {
     }
 }
 
-// Whether rated games allow a key, by its number.
+// Whether rated games allow a key, by its number. Kept beside `is_plain`, no plainer: a code beyond their words is plain for the one by its low part and allowed by the other never.
 fn is_tournament_key(code: u8) -> bool
     ensures { result ≡ is_tournament_code code }
 {
