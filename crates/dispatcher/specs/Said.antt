@@ -5,20 +5,18 @@ use Rattle.ps2_packet.specs.declared.SignedPacket.{SignedPacket}
 use Rattle.ps2_answers.specs.declared.Counted.{Counted}
 use Rattle.ps2_answers.specs.declared.Refusal.{Refusal}
 use Rattle.ps2_answers.specs.Answers.{ended, used_of, pairs_of}
-use Rattle.keyboard_sides.specs.declared.Side.{Side}
 use Rattle.keyboard.specs.Answers.{said_call, said_lamps}
 use Rattle.dispatcher.specs.declared.CallAnswer.{CallAnswer}
 use Rattle.dispatcher.specs.declared.Dispatched.{Dispatched}
 use Rattle.dispatcher.specs.declared.Served.{Served}
 use Rattle.dispatcher.specs.declared.Source.{Source}
-use Rattle.dispatcher.specs.declared.Waits.{Waits}
+use Rattle.dispatcher.specs.declared.Each.{Each}
+use Rattle.dispatcher.specs.Sources.{value_at}
 use Rattle.dispatcher.specs.Step.{CallAnswered, PacketAnswered, Service, keyed, packet, idle, Stepped}
 
 -- The three waits, by source.
-abbrev pub wait_in : Waits → Source → Bool
-wait_in w (Source.Keyboard Side.First) = w.first
-wait_in w (Source.Keyboard Side.Second) = w.second
-wait_in w Source.Mouse = w.mouse
+abbrev pub wait_in : Each Bool → Source → Bool
+wait_in w source = value_at source w
 
 abbrev pub said_call_answer : CallAnswer → CallAnswered
 said_call_answer x = record { end = said_call x.answer; lamps = said_lamps x.lamps_failed; used = x.used; pairs = x.pairs; dropped = x.dropped }

@@ -5,7 +5,7 @@ ghost use Rattle.std.specs.Prelude.{List, ◌≡◌, ℕ, ◌≤◌, length};
 ghost use Rattle.keyboard.specs.KeyboardLamps.{keyboard_lamps};
 ghost use Rattle.ps2_answers.specs.Answers.{used_of, pairs_of};
 ghost use Rattle.dispatcher.specs.Turns.{next, asked_first, served};
-ghost use Rattle.dispatcher.specs.Sources.{scripts, place_of, with_place, unused, keyboard_waits, mouse_waits, waits_now};
+ghost use Rattle.dispatcher.specs.Sources.{scripts, value_at, with_place, unused, keyboard_waits, mouse_waits, waits_now};
 ghost use Rattle.dispatcher.specs.Step.{new_dispatcher, with_handler, turn_over, serve_mouse, serve_keyboard, step_of};
 ghost use Rattle.dispatcher.specs.Said.{wait_in, said_step};
 
@@ -25,21 +25,19 @@ pub enum Source {
     Mouse,
 }
 
-// Where in its script each source is: the number of its bytes that are used.
+// A value for each source.
 #[derive(Clone, Copy)]
-pub struct Places {
-    pub first: usize,
-    pub second: usize,
-    pub mouse: usize,
+pub struct Each<T> {
+    pub first: T,
+    pub second: T,
+    pub mouse: T,
 }
 
+// Where in its script each source is: the number of its bytes that are used.
+pub type Places = Each<usize>;
+
 // Which sources wait.
-#[derive(Clone, Copy)]
-pub struct Waits {
-    pub first: bool,
-    pub second: bool,
-    pub mouse: bool,
-}
+pub type Waits = Each<bool>;
 
 // The dispatcher's state: who was served last, if a source was; the places in the three scripts, the handler record and the mouse's.
 #[derive(Clone, Copy)]
@@ -100,10 +98,10 @@ pub fn asked_first(last: Option<Source>) -> Source
     }
 }
 
-impl Waits {
-    // Whether a source waits.
-    pub fn at(self, source: Source) -> bool
-        ensures { result ≡ wait_in self source }
+impl<T: Copy> Each<T> {
+    // The value of a source.
+    pub fn at(self, source: Source) -> T
+        ensures { result ≡ value_at source self }
     {
         match source {
             Source::Keyboard(Side::First) => self.first,
@@ -111,7 +109,9 @@ impl Waits {
             Source::Mouse => self.mouse,
         }
     }
+}
 
+impl Waits {
     // Whom a step serves: the first that waits, going round from the one after the last served.
     pub fn serves(self, last: Option<Source>) -> Option<Source>
         ensures { result ≡ served (wait_in self) last }
@@ -133,17 +133,6 @@ impl Waits {
 }
 
 impl Places {
-    // The place of a source.
-    pub fn at(self, source: Source) -> usize
-        ensures { result ≡ place_of source self }
-    {
-        match source {
-            Source::Keyboard(Side::First) => self.first,
-            Source::Keyboard(Side::Second) => self.second,
-            Source::Mouse => self.mouse,
-        }
-    }
-
     // The places with another for one source.
     pub fn with_place(self, source: Source, place: usize) -> Places
         ensures { result ≡ with_place source place self }

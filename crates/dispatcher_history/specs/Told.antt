@@ -11,7 +11,7 @@ use Rattle.keyboard.specs.Handler.{handled}
 use Rattle.keyboard_history.specs.Past.{Past, nothing, ◌▸◌}
 use Rattle.keyboard_history.specs.Counted.{Call, handling, taking, waits_of}
 use Rattle.keyboard_history.specs.Run.{after}
-use Rattle.dispatcher.specs.declared.Places.{Places}
+use Rattle.dispatcher.specs.declared.Each.{Each}
 use Rattle.dispatcher.specs.declared.Source.{Source}
 use Rattle.dispatcher.specs.Turns.{served}
 use Rattle.dispatcher.specs.Sources.{Scripts, script_of, place_of, with_place, unused, keyboard_waits, mouse_waits}
@@ -21,7 +21,7 @@ use Rattle.dispatcher.specs.Runs as Runs
 -- Who was served last, the places in the three scripts, and the handler calls and takings made.
 pub record Told : Type 0 where
   pub last : Option Source
-  pub places : Places
+  pub places : Each ℕ
   pub calls : Past Call
 
 -- Before any step nobody was served, and the places are the starts of the scripts.

@@ -9,7 +9,7 @@ use lib.ListN.{get_or}
 use Rattle.keyboard_sides.specs.declared.Side.{Side}
 use Rattle.keyboard.specs.KeyboardLamps.{keyboard_lamps}
 use Rattle.dispatcher.specs.declared.Source.{Source}
-use Rattle.dispatcher.specs.declared.Waits.{Waits}
+use Rattle.dispatcher.specs.declared.Each.{Each}
 use Rattle.dispatcher.specs.Turns.{served}
 use Rattle.dispatcher.specs.Sources.{Scripts, scripts, script_of, waits_now}
 use Rattle.dispatcher.specs.Step.{Stepped, serve_mouse, serve_keyboard, serve, step_of}
@@ -22,7 +22,7 @@ use Rattle.dispatcher_words.specs.Words.{last_of, dispatcher_of}
 use Rattle.dispatcher_words.specs.Steps.{no_call, words_stepped, Made, StepOn, StepMade}
 use Rattle.dispatcher_words.specs.Parts.{SideServed, MouseServed}
 
-module _ (ws : List ℕ) (s : Scripts) (log : List ℕ) (w : Waits) (is : (source : Source) → wait_in w source ≡ waits_now (dispatcher_of ws) s source)
+module _ (ws : List ℕ) (s : Scripts) (log : List ℕ) (w : Each Bool) (is : (source : Source) → wait_in w source ≡ waits_now (dispatcher_of ws) s source)
     {last : Option Source} (l : last ≡ last_of (get_or ws last_at 0)) {t : Option Source} (q : t ≡ served (wait_in w) last) where
   abbrev by : Option Source → Stepped
   by o = serve keyboard_lamps (dispatcher_of ws) s log o

@@ -22,7 +22,7 @@ use Rattle.handler_words.specs.declared.HandledWords.{HandledWords}
 use Rattle.handler_words.specs.Layout.{words_length}
 use Rattle.handler_words.specs.Words.{record_of}
 use Rattle.handler_words.specs.Calls.{SideHandled, AtSide}
-use Rattle.dispatcher.specs.declared.Places.{Places}
+use Rattle.dispatcher.specs.declared.Each.{Each}
 use Rattle.dispatcher.specs.declared.Source.{Source}
 use Rattle.dispatcher.specs.Sources.{place_of, with_place, unused}
 use Rattle.dispatcher.specs.Step.{keyed, packet, call_answered, Stepped, stepped, turn_over, served_one, serve_mouse, serve_keyboard}
@@ -36,7 +36,7 @@ use Rattle.dispatcher_words.proofs.Words.{handler_length, handler_stands, turn_s
 
 -- ---- places
 
-place_with : (source : Source) (n : ℕ) (p : Places) → place_of source (with_place source n p) ≡ n
+place_with : (source : Source) (n : ℕ) (p : Each ℕ) → place_of source (with_place source n p) ≡ n
 place_with (Source.Keyboard Side.First) n p = refl
 place_with (Source.Keyboard Side.Second) n p = refl
 place_with Source.Mouse n p = refl

@@ -16,7 +16,7 @@ use Rattle.handler_words.proofs.Words.{record_words}
 use Rattle.dispatcher.specs.declared.Dispatcher.{Dispatcher}
 use Rattle.std.specs.Prelude.{Option, None, Some}
 use Rattle.std.proofs.lemmas.List.{set-append_right}
-use Rattle.dispatcher.specs.declared.Places.{Places}
+use Rattle.dispatcher.specs.declared.Each.{Each}
 use Rattle.dispatcher.specs.declared.Source.{Source}
 use Rattle.dispatcher.specs.Sources.{with_place}
 use Rattle.dispatcher.specs.Step.{with_handler, turn_over}
@@ -38,7 +38,7 @@ last_back : (last : Option Source) → last_of (last_number last) ≡ last
 last_back None = refl
 last_back (Some source) = served_back source
 
-pub same_dispatcher : {h k : KeyboardHandler} {i j : MouseId} {p q : Places} {l m : Option Source} → h ≡ k → i ≡ j → p ≡ q → l ≡ m
+pub same_dispatcher : {h k : KeyboardHandler} {i j : MouseId} {p q : Each ℕ} {l m : Option Source} → h ≡ k → i ≡ j → p ≡ q → l ≡ m
     → ◌≡◌ {A = Dispatcher} (record { handler = h; mouse = record { id = i }; places = p; last = l }) (record { handler = k; mouse = record { id = j }; places = q; last = m })
 same_dispatcher h i p l = cc
 
