@@ -1,12 +1,12 @@
 // Packed calls and answers, as tests/traces/README.md tells them: read from one stream, answered on another.
 #![tactic(auto)]
 
-ghost use Rattle.std.specs.Prelude.{get_or, min, ◌*◌, ◌++◌, [], ◌≤◌, ◌<◌, ◌≡◌, List, IfOk, OnOk, Some, None, length, take, vec_items};
+ghost use Rattle.std.specs.Prelude.{get_or, min, ◌+◌, ◌-◌, ◌*◌, ◌++◌, [], ◌≤◌, ◌<◌, ◌≡◌, List, IfOk, OnOk, Some, None, length, take, vec_items};
 ghost use Rattle.std.specs.declared.option.Option.{Option};
 ghost use Rattle.std.specs.Io.KnownBytes.{Appends};
 ghost use Rattle.packed_calls.specs.declared.Instruction.{Instruction};
 ghost use Rattle.packed_calls.specs.Packed.{field, unpacked, packed};
-ghost use Rattle.packed_calls.specs.Replaying.{Taken, TakenInstruction, HandedOne, HandedAll, part_start, PutFrom, Dropped, call_op, held, where_held, answer_bytes, ending};
+ghost use Rattle.packed_calls.specs.Replaying.{Taken, TakenInstruction, HandedOne, HandedAll, part_start, ReadBehind, repeated, PartRead, call_op, held, where_held, answer_bytes, ending};
 
 use std::alloc::Global;
 use std::io::{Read, Result, Write};
@@ -41,7 +41,7 @@ pub struct Instruction {
     pub times: u32,
 }
 
-// Kept as numbers: the four of an answer in tests/traces' format. A number is any refusal's, of every operation.
+// Kept as numbers, a rule of the project: they are the four of an answer in tests/traces' format. A number is any refusal's, of every operation.
 /// How a call ended: the refusal's number, 0, `SILENT` or `NO_CALL`; a byte of what it leaves; what it used and wrote; and its value.
 #[derive(Clone, Copy)]
 pub struct Outcome {
@@ -121,7 +121,7 @@ fn unpack(head: &[u8]) -> Instruction
 }
 
 // Reads until the bytes are full or the input ends, and tells how many were read.
-// Kept a `while`, no plainer: a turn goes as far as the reader says, so a `for` would count turns and keep this place beside them.
+// Kept a `while`, no plainer: how far a turn goes is the reader's to say, and no range counts it.
 fn read_full<R: Read>(input: &mut R, bytes: &mut [u8]) -> Result<usize>
     ensures bound { IfOk result (λ n. n ≤ length bytes.new) }
     ensures taken { IfOk result (λ n. Taken (length bytes.old) (R.remaining input.old) (R.remaining input.new) (take n bytes.new)) }
@@ -140,36 +140,37 @@ fn read_full<R: Read>(input: &mut R, bytes: &mut [u8]) -> Result<usize>
 fn read_instruction<R: Read>(input: &mut R) -> Result<Instruction>
     ensures { IfOk result (λ i. TakenInstruction (R.remaining input.old) (R.remaining input.new) i) }
 {
-    // Kept cut, no plainer: an input may end within an instruction, which `read_exact` makes an error, and a `match` would turn back.
+    // Kept cut, no plainer: an input may end within an instruction, and no such bytes are one.
     let mut head = [0u8; INSTRUCTION_BYTES];
     let got = read_full(input, &mut head)?;
     Ok(unpack(&head[..got]))
 }
 
-// Reads so many bytes behind those that the script has. What it has no space for is dropped.
-fn read_behind<R: Read>(input: &mut R, script: &mut Vec<u8>, count: u16) -> Result<()>
-    ensures put { OnOk result (PutFrom (length script.old.items) script.old.items script.new.items) }
-    ensures taken { OnOk result (Dropped count (R.remaining input.old) (R.remaining input.new)) }
+// Reads a part's bytes behind those that the script has, as many as it has space for, and tells how many it has then. What it has no space for stays in the input.
+// Kept a `requires`, no plainer: it is private, and a part begins within the script.
+fn read_behind<R: Read>(input: &mut R, script: &mut [u8], from: usize, count: u16) -> Result<usize>
+    requires { from ≤ length script.old }
+    ensures { IfOk result (λ end. ReadBehind (min count (length script.old - from)) from (R.remaining input.old) (R.remaining input.new) script.old end script.new) }
 {
-    let from = script.len();
-    script.resize(from + usize::from(count), 0)?;
-    let got = read_full(input, &mut script.as_mut_slice()[from..])?;
-    script.truncate(from + got.min(SCRIPT_SPACE.saturating_sub(from)));
-    Ok(())
+    let room = usize::from(count).min(script.len() - from);
+    let got = read_full(input, &mut script[from..from + room])?;
+    Ok(from + got)
 }
 
-// Fills so many bytes behind a part that ends the script, as far as there is space: the part over and over.
-fn repeat(script: &mut Vec<u8>, part: usize, times: u32) -> Result<()>
-    ensures { OnOk result (PutFrom (length script.old.items) script.old.items script.new.items) }
+// Fills so many bytes behind a part that ends the script, as far as there is space, and tells how many it has then: the part over and over; behind an empty
+// one what its places held before.
+// Kept a `requires`, no plainer: it is private, and a part ends behind where it begins.
+fn repeat(script: &mut [u8], part: usize, end: usize, times: u32) -> usize
+    requires { (part ≤ end) × (end ≤ length script.old) }
+    ensures end { result ≡ min (length script.old) (end + times) }
+    ensures bytes { script.new ≡ repeated (result - end) part end script.old }
 {
-    for i in 0..times {
-        if script.len() >= SCRIPT_SPACE {
-            break;
-        }
-        let byte = byte_at(script.as_slice(), part.saturating_add(i as usize));
-        script.push(byte)?;
+    let back = end - part;
+    let full = end.saturating_add(times as usize).min(script.len());
+    for to in end..full {
+        script[to] = script[to - back];
     }
-    Ok(())
+    full
 }
 
 // Where a part of the script begins: behind what there is, or anew where the argument is 1.
@@ -179,16 +180,21 @@ fn part_start(argument: u8, length: usize) -> usize
     if argument == 1 { 0 } else { length }
 }
 
-// Reads a part of the script, which lengthens it, or begins it anew where the argument is 1. Its state is its length, and its times are the
-// bytes that it fills beyond that.
-fn read_part<R: Read>(input: &mut R, script: &mut Vec<u8>, i: Instruction) -> Result<()>
-    ensures put { OnOk result (PutFrom (part_start i.argument (length script.old.items)) script.old.items script.new.items) }
-    ensures taken { OnOk result (Dropped i.state (R.remaining input.old) (R.remaining input.new)) }
+// Reads a part of the script, which lengthens it, or begins it anew where the argument is 1, and tells how many bytes it has then. Its state is its
+// length, and its times are the bytes that it fills beyond that.
+// Kept a `requires`, no plainer: it is private, and the bytes that count are within the space.
+fn read_part<R: Read>(
+    input: &mut R,
+    script: &mut [u8],
+    bytes: usize,
+    i: Instruction,
+) -> Result<usize>
+    requires { bytes ≤ length script.old }
+    ensures { IfOk result (λ after. PartRead i bytes (R.remaining input.old) (R.remaining input.new) script.old after script.new) }
 {
-    script.truncate(part_start(i.argument, script.len()));
-    let from = script.len();
-    read_behind(input, script, i.state)?;
-    repeat(script, from, i.times)
+    let from = part_start(i.argument, bytes);
+    let end = read_behind(input, script, from, i.state)?;
+    Ok(repeat(script, from, end, i.times))
 }
 
 /// Hands a session every call of an input, with the script as it then stands.
@@ -200,14 +206,18 @@ pub fn replay<S: Session, R: Read, W: Write>(
 ) -> Result<()>
     ensures { OnOk result (HandedAll (S.handed session.old) u64.MAX (R.remaining input.old) (S.handed session.new)) }
 {
-    let mut script = Vec::new(alloc);
+    // Kept a space with the number of its bytes that count, a rule of the format: a part of no bytes is filled with what its places held before.
+    let mut space = Vec::new(alloc);
+    space.resize(SCRIPT_SPACE, 0)?;
+    let script = space.as_mut_slice();
+    let mut bytes = 0;
     for _ in 0..u64::MAX {
         let i = read_instruction(input)?;
-        // Kept as numbers: they are tests/traces' format.
+        // Kept as numbers, a rule of the project: they are tests/traces' format.
         match i.op {
             END => return Ok(()),
-            PART => read_part(input, &mut script, i)?,
-            _ => session.answer(i, script.as_slice(), out)?,
+            PART => bytes = read_part(input, script, bytes, i)?,
+            _ => session.answer(i, &script[..bytes], out)?,
         }
     }
     Ok(())
