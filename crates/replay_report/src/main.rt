@@ -6,7 +6,7 @@ mod numbers;
 use keyboard_modifiers::KeyboardModifiers;
 use keycodes_ascii::{KeyAction, KeyEvent, Keycode};
 use numbers::{narrow, tell, told};
-use packed_calls::{Instruction, NO_CALL, Session, ending, replay, where_held, write_answer};
+use packed_calls::{Instruction, NO_CALL, Session, ending, replay, write_answer};
 use ps2_bytes::MouseId;
 use report::{Report, Season, answer_number};
 use report_long::LongReport;
@@ -29,7 +29,7 @@ const LONG_ASKED: u8 = 65;
 
 const WIDEN: u8 = 66;
 
-// Room for the events of a session, in tests/traces' format. Kept an array: it is as long as this at once.
+// Room for the events of a session, in tests/traces' format. Kept an array, no plainer: it is as long as this at once, and a `Vec` would have to be made and may fail.
 const EVENTS: usize = 65536;
 
 // What is no event's code.
@@ -41,10 +41,6 @@ struct Reports {
     narrow: Report,
     long: LongReport,
     codes: [u8; EVENTS],
-}
-
-fn id_of(byte: u8) -> Option<MouseId> {
-    MouseId::try_from(byte).ok()
 }
 
 // An event, which is told by its keycode and its action, as a report takes it.
@@ -71,7 +67,7 @@ fn take_codes(input: &[u8], codes: &mut [u8]) {
 impl Reports {
     // The number that the report of a width answers to a session, which it has afterwards where it takes it.
     fn add(&mut self, i: Instruction, input: &[u8]) -> Option<u8> {
-        let id = id_of(i.argument)?;
+        let id = MouseId::try_from(i.argument).ok()?;
         let count = usize::from(i.state).min(input.len() / 2).min(EVENTS);
         take_codes(input, &mut self.codes[..count]);
         let mouse = &input[2 * count..];
@@ -86,8 +82,7 @@ impl Reports {
 
 impl Session for Reports {
     fn answer<W: Write>(&mut self, i: Instruction, input: &[u8], out: &mut W) -> Result<()> {
-        let i = where_held(i, input, 0, &[]);
-        // Kept as numbers: they are tests/traces' format.
+        // Kept as numbers, a rule of the project: they are tests/traces' format.
         match i.op {
             NARROW => {
                 self.narrow = narrow(told(input));

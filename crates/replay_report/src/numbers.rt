@@ -48,7 +48,7 @@ pub fn told(bytes: &[u8]) -> Totals {
     }
 }
 
-// Kept: `as` has to be proved to lose nothing, so that the low bits are named by a remainder.
+// Kept, no plainer: a cast has to fit, so the low bits are named by a remainder.
 // The low bits of a count, and of how far a sum is from 0.
 fn narrow_count(count: u64) -> u32 {
     (count % (1 << 32)) as u32
@@ -64,12 +64,8 @@ fn narrow_sum(sum: i64) -> i32 {
 
 // The report of 32 bits with these numbers.
 pub fn narrow(totals: Totals) -> Report {
-    let mut presses = [0u32; 94];
-    for (press, count) in presses.iter_mut().zip(&totals.presses) {
-        *press = narrow_count(*count);
-    }
     Report {
-        presses,
+        presses: totals.presses.map(narrow_count),
         packets: narrow_count(totals.packets),
         x: narrow_sum(totals.x),
         y: narrow_sum(totals.y),
@@ -77,7 +73,7 @@ pub fn narrow(totals: Totals) -> Report {
 }
 
 // What has a number, or none: the answer's own number is 0, and 1 where a number is below 0, which is told as far as it is from -1 then.
-pub fn told_number(number: u64) -> Outcome {
+fn told_number(number: u64) -> Outcome {
     ending(0, 0, 0, number)
 }
 

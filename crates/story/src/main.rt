@@ -112,8 +112,10 @@ fn tell_full_queue(rt: &impl Print) -> Result<()> {
     let fresh = KeyboardHandler::fresh(table_of(Keyboards::One));
     let held = after_byte(fresh, Side::First, CONTROL_PRESSED);
     let full = fill(held, Side::First, 127).handler;
-    let waiting = full.state.count;
-    println!(rt; "Control is pressed, then A 127 times: {waiting} events wait.")?;
+    println!(rt;
+        "Control is pressed, then A 127 times: {} events wait.",
+        full.state.count
+    )?;
     let release = handle_byte(full, Side::First, CONTROL_RELEASED);
     let event = if matches!(release.answer, Err(HandlerRefusal::QueueFull)) {
         "refused 20, its event is lost"
@@ -122,8 +124,7 @@ fn tell_full_queue(rt: &impl Print) -> Result<()> {
     };
     println!(rt; "Control is released: {event}.")?;
     let emptied = empty(release.handler);
-    let taken = emptied.taken;
-    println!(rt; "The queue is emptied: {taken} events are taken.")?;
+    println!(rt; "The queue is emptied: {} events are taken.", emptied.taken)?;
     tell_t(rt, emptied.handler)
 }
 
@@ -131,18 +132,17 @@ fn tell_full_queue(rt: &impl Print) -> Result<()> {
 fn tell_two_sides(rt: &impl Print) -> Result<()> {
     let fresh = KeyboardHandler::fresh(table_of(Keyboards::Two));
     let filled = fill(fresh, Side::First, 200);
-    let waiting = filled.handler.state.count;
-    let refused = filled.refused;
     println!(rt;
-        "Two keyboards; side 1 presses A 200 times: {waiting} events wait, {refused} are refused 31."
+        "Two keyboards; side 1 presses A 200 times: {} events wait, {} are refused 31.",
+        filled.handler.state.count, filled.refused
     )?;
     let heard = after_byte(filled.handler, Side::Second, T_PRESSED);
-    let waiting = heard.state.count;
-    println!(rt; "Side 2 presses T: {waiting} events wait.")?;
+    println!(rt; "Side 2 presses T: {} events wait.", heard.state.count)?;
     let emptied = empty(heard);
-    let taken = emptied.taken;
-    let of_second = emptied.of_second;
-    println!(rt; "The queue is emptied: {taken} events are taken, {of_second} of them of side 2.")
+    println!(rt;
+        "The queue is emptied: {} events are taken, {} of them of side 2.",
+        emptied.taken, emptied.of_second
+    )
 }
 
 fn main(rt: HostRuntime) {

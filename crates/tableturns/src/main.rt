@@ -12,13 +12,13 @@ use ps2_packet::MousePacket;
 use std::io::Result;
 
 // Side 1 presses Caps Lock, and A during its lamp exchange; then releases A.
-const FIRST: [u8; 10] = [0x3A, 0x00, 0x01, 0x1E, 0x01, 0xFA, 0x00, 0x01, 0xFA, 0x9E];
+const FIRST: &[u8] = &[0x3A, 0x00, 0x01, 0x1E, 0x01, 0xFA, 0x00, 0x01, 0xFA, 0x9E];
 
 // Side 2 presses B and releases it.
-const SECOND: [u8; 2] = [0x30, 0xB0];
+const SECOND: &[u8] = &[0x30, 0xB0];
 
 // The mouse moves with its left button pressed, then with none.
-const THIRD: [u8; 6] = [0x09, 0x05, 0x00, 0x08, 0x00, 0x05];
+const THIRD: &[u8] = &[0x09, 0x05, 0x00, 0x08, 0x00, 0x05];
 
 // More steps than the scripts allow.
 const STEPS: usize = 100;
@@ -30,25 +30,27 @@ fn name_of(side: Side) -> &'static str {
     }
 }
 
+// Kept functions, here and below, no plainer: a program writes no `Display` for the types of other crates.
 // A call's refusal, if it is refused; its event is told when it is taken.
 fn tell_call(rt: &impl Print, side: Side, call: CallAnswer) -> Result<()> {
     let number = number_of(call.answer);
     if number == 0 {
         return Ok(());
     }
-    let name = name_of(side);
-    println!(rt; "{name}: refused {number}")
+    println!(rt; "{}: refused {number}", name_of(side))
 }
 
 fn tell_event(rt: &impl Print, e: SideEvent) -> Result<()> {
-    let name = name_of(e.side);
-    let keycode = u8::from(e.event.keycode);
-    let flags = e.event.modifiers.bits;
     let action = match e.event.action {
         KeyAction::Pressed => 'P',
         KeyAction::Released => 'R',
     };
-    println!(rt; "{name}: {keycode:02x} {action} {flags:03x}")
+    println!(rt;
+        "{}: {:02x} {action} {:03x}",
+        name_of(e.side),
+        u8::from(e.event.keycode),
+        e.event.modifiers.bits
+    )
 }
 
 // A packet: its left button, and which way it moved.
@@ -137,9 +139,9 @@ fn show(
 
 fn show_both(rt: &impl Print) -> Result<()> {
     println!(rt; "A table with two keyboards:")?;
-    show(rt, Keyboards::Two, &FIRST, &SECOND, &THIRD)?;
+    show(rt, Keyboards::Two, FIRST, SECOND, THIRD)?;
     println!(rt; "A table with one, where bytes come for side 2:")?;
-    show(rt, Keyboards::One, &SECOND, &SECOND, &THIRD)
+    show(rt, Keyboards::One, SECOND, SECOND, THIRD)
 }
 
 fn main(rt: HostRuntime) {
