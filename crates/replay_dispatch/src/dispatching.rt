@@ -3,13 +3,14 @@ use dispatcher::{CallAnswer, Dispatcher, Served, Source};
 use keyboard::number_of;
 use keyboard_record::{KeyboardHandler, take_event};
 use keyboard_sides::Side;
-use packed_calls::{Instruction, NO_CALL, Outcome, SILENT, ending};
+use packed_calls::{Instruction, NO_CALL, Outcome, ending};
 use ps2_answers::Answer;
 use ps2_bytes::MouseId;
 use ps2_mouse::PS2Mouse;
 use ps2_packet::SignedPacket;
 use replay_records::{
-    packet_number, record_after, record_end, record_told, table_of, taken_outcome,
+    Turn, packet_number, record_after, record_end, record_told, silent, table_of, taken_outcome,
+    told,
 };
 use std::ops::ControlFlow;
 
@@ -27,19 +28,7 @@ pub struct Dispatching {
     parts: Parts,
 }
 
-// How a turn ended, and whether it is its instruction's last.
-pub type Turn = ControlFlow<Outcome, Outcome>;
-
-// A turn that answers nothing, and is its instruction's last.
-fn silent() -> Turn {
-    ControlFlow::Break(ending(SILENT, 0, 0, 0))
-}
-
-// A turn that answers a number, and is its instruction's last.
-fn told(number: u64) -> Turn {
-    ControlFlow::Break(ending(0, 0, 0, number))
-}
-
+// Kept functions, here and below, no plainer: a program writes no `From` for the types of other crates, and `try_from` would refuse what the format lets through.
 // The source of a number: 1 and 2 are the sides, any other the mouse.
 fn source_of(number: u8) -> Source {
     match number {
@@ -175,7 +164,7 @@ impl Dispatching {
 
     // A turn of an instruction on the dispatcher: 30 to 32, 43, 50 and 51 tell something of the record, at each turn anew, 36 takes, 37 and 42 answer what is left of it; 53 and 54 tell something of the dispatcher, 55 where a script begins, 56 is a step, and 57 answers it.
     pub fn turn(&mut self, i: Instruction, script: &[u8], log: &mut [u8]) -> Turn {
-        // Kept as numbers: they are tests/traces' format, whose table names each.
+        // Kept as numbers, a rule of the project: they are tests/traces' format, whose table names each.
         match i.op {
             30..=32 | 43 | 50 | 51 => {
                 self.state.handler = record_after(i, self.state.handler);

@@ -2,7 +2,9 @@
 #![tactic(auto)]
 
 ghost use Rattle.std.specs.Prelude.{◌≡◌, ◌≤◌};
+ghost use Rattle.std.specs.ControlFlow.{IsBreakAnd};
 ghost use Rattle.bits.specs.Bits.{weigh};
+ghost use Rattle.packed_calls.specs.Replaying.{ending};
 ghost use Rattle.keycodes_ascii.specs.Keycode.{keycode_of};
 ghost use Rattle.replay_records.specs.After.{side_of, table_of, begun, with_flags, with_waiting, one_more, with_byte, with_count, with_event, with_start, with_events, action_of, event_of, record_after, record_end};
 ghost use Rattle.replay_records.specs.Packets.{movement, packet_number};
@@ -15,6 +17,24 @@ use keyboard_sides::Side;
 use keycodes_ascii::{KeyAction, KeyEvent, Keycode};
 use packed_calls::{Instruction, NO_CALL, Outcome, SILENT, ending};
 use ps2_packet::MousePacket;
+use std::ops::ControlFlow;
+
+/// How a turn of an instruction ended, and whether it is the instruction's last.
+pub type Turn = ControlFlow<Outcome, Outcome>;
+
+/// A turn that answers nothing, and is its instruction's last.
+pub fn silent() -> Turn
+    ensures { IsBreakAnd result (λ o. o ≡ ending 254 0 0 0) }
+{
+    ControlFlow::Break(ending(SILENT, 0, 0, 0))
+}
+
+/// A turn that answers a number, and is its instruction's last.
+pub fn told(number: u64) -> Turn
+    ensures { IsBreakAnd result (λ o. o ≡ ending 0 0 0 number) }
+{
+    ControlFlow::Break(ending(0, 0, 0, number))
+}
 
 // Kept, no plainer, here and below: these numbers are of tests/traces' format, and each `match` is its table; a `TryFrom` would refuse what they let through.
 /// The side of a number: 0 is the first.
@@ -117,7 +137,7 @@ fn with_count(handler: KeyboardHandler, side: Side, count: u8) -> KeyboardHandle
 fn with_event(handler: KeyboardHandler, side: Side, event: KeyEvent) -> KeyboardHandler
     ensures { result ≡ with_event side event handler }
 {
-    // Kept, no plainer: it is read seven times.
+    // Kept a name of its own, no plainer: the state is read seven times below.
     let state = handler.state;
     if 128 <= state.count {
         return handler;
@@ -160,7 +180,7 @@ fn with_events(handler: KeyboardHandler, count: u16) -> KeyboardHandler
     }
 }
 
-/// The keycode of a byte, where it has one. Kept: three callers rest on its equation.
+/// The keycode of a byte, where it has one. Kept beside `try_from`, no plainer: each of its three callers would spell both calls, and prove their equation.
 pub fn keycode_of(byte: u8) -> Option<Keycode>
     ensures { result ≡ keycode_of byte }
 {
@@ -187,12 +207,12 @@ fn event_of(i: Instruction) -> KeyEvent
     }
 }
 
-// Kept a `match` on numbers: they are operations of tests/traces' format.
+// Kept a `match` on numbers, a rule of the project: they are operations of tests/traces' format.
 /// The record after an instruction that tells something of it: 30 begins one, 31 adds an event, 32 a byte that waits, 43 says how many wait, 50 tells the second side's prefix and flags, 51 the queue's start or count.
 pub fn record_after(i: Instruction, handler: KeyboardHandler) -> KeyboardHandler
     ensures { result ≡ record_after i handler }
 {
-    // Kept as numbers: they are tests/traces' format, whose table names each.
+    // Kept as numbers, a rule of the project: they are tests/traces' format, whose table names each.
     match i.op {
         30 => begun(i.argument, i.state),
         31 => with_event(handler, side_of(i.room / 2), event_of(i)),
@@ -227,7 +247,7 @@ fn waiting_byte(waiting: WaitingBytes, place: usize) -> u8
     }
 }
 
-// Eight of the bytes that wait as a number, from a place on, the low one first. Kept a `requires`: it is private, and 0 and 8 are the places.
+// Eight of the bytes that wait as a number, from a place on, the low one first. Kept a `requires`, no plainer: it is private, its places are 0 and 8, and a sum that stops would say less.
 fn waiting_number(waiting: WaitingBytes, from: usize) -> u64
     requires { from ≤ 8 }
     ensures { result ≡ waiting_number waiting from }
@@ -363,7 +383,7 @@ fn movement(number: i16) -> u64
     2 * u64::from(number.unsigned_abs()) + u64::from(number < 0)
 }
 
-// A bit as a number. Kept beside `u64::from`, which says the value alone: the bound is what a sum of six of them rests on.
+// A bit as a number. Kept beside `u64::from`: tried without it, `packet_number`'s goals `overflow_add-result` did not close, and the bound here closes them.
 fn flag(is_set: bool) -> u64
     ensures value { result ≡ weigh is_set }
     ensures upper_bound { result ≤ 1 }
