@@ -11,7 +11,9 @@ pub const WRITE_PREFERENCES: u8 = 45;
 
 pub const READ_PREFERENCES: u8 = 46;
 
-// The bytes of five fields.
+// The bytes of four fields and of five.
+const FOUR_FIELDS: usize = 16;
+
 const FIVE_FIELDS: usize = 20;
 
 // What is behind a start, which a number says: all at 0. A call whose input hangs so on the call before is taken out of a loop by no compiler.
@@ -71,7 +73,7 @@ fn number_of<T>(read: &Result<T, ReadRefusal>) -> u8 {
     }
 }
 
-// The reading by each reader, as often as is told.
+// The reading by each reader, as often as is told. Kept two, no plainer: over a reader that is passed in, each call would want a `requires` that it may be made.
 fn read_times_1(input: &[u8], times: u32) -> Result<Fields, ReadRefusal> {
     let mut read = read_preferences_1(input);
     for _ in 1..times {
@@ -88,57 +90,25 @@ fn read_times_2(input: &[u8], times: u32) -> Result<Preferences, ReadRefusal> {
     read
 }
 
-// A reading's number, and the fields that it gives.
-#[derive(Clone, Copy)]
-struct Told {
-    number: u8,
-    fields: [u32; 5],
-    count: u8,
-}
-
-fn told_fields(fields: Fields, repeat: u32, count: u8) -> Told {
-    Told {
-        number: 0,
-        fields: [
-            fields.set,
-            fields.rate,
-            fields.resolution,
-            fields.lamps,
-            repeat,
-        ],
-        count,
-    }
-}
-
-fn told_refusal(number: u8) -> Told {
-    Told {
-        number,
-        fields: [0; 5],
-        count: 0,
-    }
-}
-
-fn told_1(read: Result<Fields, ReadRefusal>) -> Told {
-    match read {
-        Ok(fields) => told_fields(fields, 0, 4),
-        Err(refusal) => told_refusal(refusal.number()),
-    }
-}
-
-fn told_2(read: Result<Preferences, ReadRefusal>) -> Told {
-    match read {
-        Ok(Preferences::Version1(fields)) => told_fields(fields, 0, 4),
-        Ok(Preferences::Version2(fields, repeat)) => told_fields(fields, repeat, 5),
-        Err(refusal) => told_refusal(refusal.number()),
-    }
-}
-
-// Puts the fields into the output, each as four bytes.
-fn put_fields(output: &mut [u8], told: &Told) {
+// Puts fields into the output, each as four bytes.
+fn put_fields(output: &mut [u8], fields: &[u32]) {
     let (rooms, _) = output.as_chunks_mut::<4>();
-    let fields = &told.fields[..usize::from(told.count).min(told.fields.len())];
     for (room, field) in rooms.iter_mut().zip(fields) {
         *room = field.to_le_bytes();
+    }
+}
+
+// Puts the fields of a record into the output, and tells how many bytes they are.
+fn put_record(output: &mut [u8], preferences: Preferences) -> usize {
+    match preferences {
+        Preferences::Version1(f) => {
+            put_fields(output, &[f.set, f.rate, f.resolution, f.lamps]);
+            FOUR_FIELDS
+        }
+        Preferences::Version2(f, repeat) => {
+            put_fields(output, &[f.set, f.rate, f.resolution, f.lamps, repeat]);
+            FIVE_FIELDS
+        }
     }
 }
 
@@ -153,17 +123,15 @@ pub fn answer_reading<W: Write>(
         return write_answer(out, i.op, ending(NO_CALL, 0, 0, 0), output);
     }
     output.fill(FILLER);
-    let told = if i.argument == 1 {
-        told_1(read_times_1(input, i.times))
+    let read = if i.argument == 1 {
+        read_times_1(input, i.times).map(Preferences::Version1)
     } else {
-        told_2(read_times_2(input, i.times))
+        read_times_2(input, i.times)
     };
-    put_fields(output, &told);
-    let outcome = ending(
-        told.number,
-        0,
-        4 * usize::from(told.count),
-        output.len() as u64,
-    );
+    let (number, count) = match read {
+        Ok(preferences) => (0, put_record(output, preferences)),
+        Err(refusal) => (refusal.number(), 0),
+    };
+    let outcome = ending(number, 0, count, output.len() as u64);
     write_whole(out, i.op, outcome, output)
 }

@@ -13,7 +13,7 @@ use salvaging::{SALVAGE, answer_salvage};
 use std::io::{Result, Write};
 use type_texts::{TYPE_TEXT, answer_typing};
 
-// Room for the longest output, in tests/traces' format. Kept an array: it is as long as this at once.
+// Room for the longest output, in tests/traces' format. Kept an array, no plainer: it is as long as this at once, and a `Vec` would have to be made and may fail.
 const OUTPUT_SPACE: usize = 65536;
 
 // The calls on lent bytes, with the output that each is lent.
@@ -30,7 +30,7 @@ impl Session for LentBytes {
         }
         let room = usize::from(i.room).min(OUTPUT_SPACE);
         let output = &mut self.output[..room];
-        // Kept as numbers: they are tests/traces' format.
+        // Kept as numbers, a rule of the project: they are tests/traces' format.
         match i.op {
             CONVERT_SET2 => answer_conversion(i, input, output, out),
             TYPE_TEXT => answer_typing(i, input, output, out),

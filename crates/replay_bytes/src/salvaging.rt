@@ -14,10 +14,6 @@ const PLACES: usize = 4096;
 // What every position holds before a call. A position is never so large.
 const POSITION_FILLER: u64 = u64::MAX;
 
-fn id_of(byte: u8) -> Option<MouseId> {
-    MouseId::try_from(byte).ok()
-}
-
 // What a pass answered: the value is the packets' bytes, and above them how many positions follow. The byte left is 1 where a place was changed that was not written.
 fn outcome(s: Salvaged, is_changed: bool) -> Outcome {
     let number = s.answer.err().map_or(0, |refusal| refusal.number());
@@ -54,7 +50,7 @@ fn write_positions<W: Write>(
 }
 
 // Makes a pass into a part of each output, and answers it: first what it came to with the packets' bytes, then each position.
-// The rest of an output is there to be looked at.
+// Kept cut, no plainer: the rest of an output is there to be looked at.
 fn answer_pass<W: Write>(
     id: MouseId,
     i: Instruction,
@@ -79,8 +75,8 @@ pub fn answer_salvage<W: Write>(
     output: &mut [u8],
     out: &mut W,
 ) -> Result<()> {
-    match id_of(i.argument) {
-        Some(id) if usize::from(i.state) <= PLACES => answer_pass(id, i, bytes, output, out),
+    match MouseId::try_from(i.argument) {
+        Ok(id) if usize::from(i.state) <= PLACES => answer_pass(id, i, bytes, output, out),
         _ => write_answer(out, SALVAGE, ending(NO_CALL, 0, 0, 0), output),
     }
 }
