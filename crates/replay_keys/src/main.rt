@@ -8,7 +8,7 @@ use runs::Run;
 use std::io::{Result, Write};
 use std::ops::ControlFlow;
 
-// Room for the longest log, in tests/traces' format. Kept an array: it is as long as this at once.
+// Room for the longest log, in tests/traces' format. Kept an array, no plainer: it is as long as this at once, and a `Vec` would have to be made and may fail.
 const LOG_SPACE: usize = 4096;
 
 // A run, and the room of the log that its calls are lent, as keyboard initialisation, 28, or a run's begin, 30, told it last.
@@ -27,6 +27,7 @@ impl Session for Keys {
         let mut space = [0; LOG_SPACE];
         let i = where_held(i, script, self.room, &space);
         let log = &mut space[..self.room.min(LOG_SPACE)];
+        // Kept a loop in both programs that make turns, no plainer: one for both would be public, over a trait, and would have to promise what each turn writes.
         for _ in 0..i.times.max(1) {
             match self.run.turn(i, script, log) {
                 ControlFlow::Continue(outcome) => write_answer(out, i.op, outcome, log)?,

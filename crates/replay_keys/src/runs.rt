@@ -5,10 +5,10 @@ use keyboard_modifiers::KeyboardModifiers;
 use keyboard_record::{KeyboardHandler, take_event};
 use keyboard_sides::Side;
 use keycodes_ascii::{KeyAction, KeyEvent, Keycode};
-use packed_calls::{Instruction, NO_CALL, Outcome, SILENT, ending};
+use packed_calls::{Instruction, NO_CALL, Outcome, ending};
 use replay_records::{
-    keycode_of, record_after, record_end, record_number, record_told, side_of, table_of,
-    taken_outcome,
+    Turn, keycode_of, record_after, record_end, record_number, record_told, side_of, silent,
+    table_of, taken_outcome, told,
 };
 use std::ops::ControlFlow;
 
@@ -26,19 +26,6 @@ struct Reading {
 pub struct Run {
     handler: KeyboardHandler,
     at: Option<Reading>,
-}
-
-// How a turn ended, and whether it is its instruction's last.
-pub type Turn = ControlFlow<Outcome, Outcome>;
-
-// A turn that answers nothing, and is its instruction's last.
-fn silent() -> Turn {
-    ControlFlow::Break(ending(SILENT, 0, 0, 0))
-}
-
-// A turn that answers a number, and is its instruction's last.
-fn told(number: u64) -> Turn {
-    ControlFlow::Break(ending(0, 0, 0, number))
 }
 
 impl Reading {
@@ -192,7 +179,7 @@ impl Run {
         ControlFlow::Continue(outcome)
     }
 
-    // The record is told something of, by a turn that goes on: an event or a byte that waits is added at each.
+    // The record is told of an event or of a byte that waits, which is added at each turn.
     fn tell(&mut self, i: Instruction) -> Turn {
         self.handler = record_after(i, self.handler);
         ControlFlow::Continue(ending(record_end(i), 0, 0, 0))
@@ -200,18 +187,21 @@ impl Run {
 
     // A turn of an instruction on the record: 28 is keyboard initialisation, 29 asks for a character, 33 and 34 are handler calls, 35 and 36 takings; 30 to 32, 43, 50 and 51 tell something of the record, 37 and 42 answer what is left of it, and 52 tells where the second side's script begins.
     pub fn turn(&mut self, i: Instruction, script: &[u8], log: &mut [u8]) -> Turn {
-        // Kept as numbers: they are tests/traces' format, whose table names each.
+        // Kept as numbers, a rule of the project: they are tests/traces' format, whose table names each.
         match i.op {
             28 => {
                 let table = table_of(i.argument);
                 ControlFlow::Break(initialized(keyboard_init(table, script, log)))
             }
             29 => ControlFlow::Break(call_to_ascii(i)),
-            30 => {
-                self.at = Some(Reading::from_split(None));
-                self.tell(i)
+            30 | 43 | 50 | 51 => {
+                if i.op == 30 {
+                    self.at = Some(Reading::from_split(None));
+                }
+                self.handler = record_after(i, self.handler);
+                silent()
             }
-            31 | 32 | 43 | 50 | 51 => self.tell(i),
+            31 | 32 => self.tell(i),
             33 | 34 => self.handle(i, script, log),
             35 | 36 => self.take(i.op),
             37 | 42 => told(record_told(i, self.handler)),
