@@ -62,7 +62,8 @@ fn call_on_state(state: HandlerState, side: Side, script: &[u8], log: &mut [u8])
     effect_of(state, side, script, log).state
 }
 
-// Kept: three loops of one shape, since a choice between the calls inside one loop copies the record once more and would be measured with it; script and log are two slices, as a call of document 01 takes them.
+// Kept three loops of one shape, no plainer: a choice between the calls within one loop would copy the record once more and be measured with it, and a call handed in as a closure would want its promise handed in too.
+// Kept two slices, a rule of the project: so document 01 has every call.
 // So many handler calls by value for a side, from a fresh record on for one keyboard or two; answers how many events then wait.
 #[unsafe(no_mangle)]
 pub extern "C" fn keyboard_calls_by_value(

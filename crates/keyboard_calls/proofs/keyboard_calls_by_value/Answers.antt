@@ -8,15 +8,9 @@ use Rattle.keyboard_calls.proofs.keyboard_calls_by_value.Goals as goal
 pub loop-init : goal.loop-init
 loop-init c = none_called _ _ _ _ _ (rw (sym c.table_of.ensures) c.fresh-handler.ensures)
 
-pub loop-smaller : goal.loop-smaller
-loop-smaller c = omega arith
-
 pub loop-preserved : goal.loop-preserved
 loop-preserved c =
     one_more_called _ _ _ _ _ c.loop.invariant (omega arith) c.side_of-side.ensures c.call_by_value-handler.ensures.0 c.call_by_value-handler.ensures.1 c.call_by_value-handler.auto.log
-
-pub shape_of-log : goal.shape_of-log
-shape_of-log c = c.loop.invariant.1
 
 pub returns : goal.returns
 returns c =

@@ -1,6 +1,5 @@
 -- `keyboard_calls::keyboard_calls_by_value` meets its contract: after i turns the record and the log are what i calls leave.
 -- Assumes nothing.
-use Prim.Native.Nat.{◌-◌}
 use Rattle.keyboard_record.specs.Record.{fresh}
 use Rattle.keyboard_sides.specs.Sides.{side_of}
 use Rattle.keyboard_calls.specs.Calls.{table_of}
@@ -9,6 +8,3 @@ use Rattle.keyboard_calls.proofs.keyboard_calls_by_value.Given as goal
 
 abbrev pub invariant-loop : goal.invariant-loop
 invariant-loop l = Reached (side_of l.second) l.script (fresh (table_of l.two)) l.initial.log l.times l.handler l.log l.counter
-
-abbrev pub decreases-loop : goal.decreases-loop
-decreases-loop l = l.times - l.counter

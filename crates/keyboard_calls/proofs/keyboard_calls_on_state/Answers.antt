@@ -9,15 +9,9 @@ use Rattle.keyboard_calls.proofs.keyboard_calls_on_state.Goals as goal
 pub loop-init : goal.loop-init
 loop-init c = none_called_on _ _ _ _ _ (rw (sym c.table_of.ensures) (ap (λ (h : KeyboardHandler). h.state) c.fresh.ensures))
 
-pub loop-smaller : goal.loop-smaller
-loop-smaller c = omega arith
-
 pub loop-preserved : goal.loop-preserved
 loop-preserved c =
     one_more_called_on _ _ _ _ _ c.loop.invariant (omega arith) c.side_of-side.ensures c.call_on_state-state.ensures.0 c.call_on_state-state.ensures.1 c.call_on_state-state.auto.log
-
-pub shape_of-log : goal.shape_of-log
-shape_of-log c = c.loop.invariant.1
 
 pub returns : goal.returns
 returns c =
