@@ -1,4 +1,4 @@
-// One call of an operation on the ports, by numbers. Kept as numbers, and not as an enum of the operations: they are the table of tests/traces/README.md,
+// One call of an operation on the ports, by numbers. Kept as numbers, a rule of the project, and not as an enum of the operations: they are the table of tests/traces/README.md,
 // each is named there, and an enum between would name each twice more. `script, log` stay two parameters: so document 01 has every call.
 use packed_calls::{Instruction, NO_CALL, Outcome, ending};
 use ps2_answers::Answer;
@@ -34,6 +34,7 @@ pub fn completed(answer: Answer<()>) -> Outcome {
     answered(answer.map(|done| done.with(0)))
 }
 
+// Kept functions, here and below, no plainer: a program writes no `From` or `TryFrom` for the types of other crates.
 // A controller's record by its bits: initialised, keyboard, mouse.
 fn controller_of(state: u16) -> PS2Controller {
     PS2Controller {
@@ -121,12 +122,7 @@ fn signed_read(read: Answer<SignedPacket>) -> Outcome {
     ))))
 }
 
-// What an argument tells, where it tells anything.
-
-fn set_of(number: u8) -> Option<ScancodeSet> {
-    ScancodeSet::try_from(number).ok()
-}
-
+// What an argument tells, where it tells anything. Kept a function, no plainer: `LEDState` takes any byte, and here 8 and more tell nothing.
 fn leds_of(number: u8) -> Option<LEDState> {
     let leds = LEDState::new()
         .with_scroll_lock(number & 1 != 0)
@@ -154,16 +150,8 @@ fn keyboard_value(op: u8, argument: u8) -> Option<HostToKeyboardCommandOrData> {
     Some(match op {
         8 => HostToKeyboardCommandOrData::KeyboardCommand(keyboard_command(argument)?),
         10 | 11 => HostToKeyboardCommandOrData::LEDState(leds_of(argument)?),
-        _ => HostToKeyboardCommandOrData::ScancodeSet(set_of(argument)?),
+        _ => HostToKeyboardCommandOrData::ScancodeSet(ScancodeSet::try_from(argument).ok()?),
     })
-}
-
-fn rate_of(number: u8) -> Option<MouseSampleRate> {
-    MouseSampleRate::try_from(number).ok()
-}
-
-fn resolution_of(number: u8) -> Option<MouseResolution> {
-    MouseResolution::try_from(number).ok()
 }
 
 fn mouse_command(byte: u8) -> Option<HostToMouseCommand> {
@@ -191,13 +179,9 @@ fn mouse_command(byte: u8) -> Option<HostToMouseCommand> {
 fn mouse_value(op: u8, argument: u8) -> Option<HostToMouseCommandOrData> {
     Some(match op {
         12 => HostToMouseCommandOrData::MouseCommand(mouse_command(argument)?),
-        13 | 15 => HostToMouseCommandOrData::SampleRate(rate_of(argument)?),
-        _ => HostToMouseCommandOrData::MouseResolution(resolution_of(argument)?),
+        13 | 15 => HostToMouseCommandOrData::SampleRate(MouseSampleRate::try_from(argument).ok()?),
+        _ => HostToMouseCommandOrData::MouseResolution(MouseResolution::try_from(argument).ok()?),
     })
-}
-
-fn id_of(byte: u8) -> Option<MouseId> {
-    MouseId::try_from(byte).ok()
 }
 
 // The operations that end with no value, 1 to 7.
@@ -209,7 +193,7 @@ fn complete(op: u8, argument: u8, script: &[u8], log: &mut [u8]) -> Option<Answe
         3 => test_port2(script, log),
         4 => polling_send(script, log, HostToDevice::Keyboard(value)),
         5 => reset_keyboard(script, log),
-        6 => set_keyboard_scancode_set(script, log, set_of(argument)?),
+        6 => set_keyboard_scancode_set(script, log, ScancodeSet::try_from(argument).ok()?),
         _ => PS2Mouse::reset(script, log),
     })
 }
@@ -227,8 +211,12 @@ pub fn command(op: u8, argument: u8, script: &[u8], log: &mut [u8]) -> Option<Co
 // The settings of the mouse, 15 to 18.
 fn setting(op: u8, argument: u8, script: &[u8], log: &mut [u8]) -> Option<Answer<()>> {
     Some(match op {
-        15 => PS2Mouse::set_mouse_sampling_rate(script, log, rate_of(argument)?),
-        16 => PS2Mouse::mouse_resolution(script, log, resolution_of(argument)?),
+        15 => PS2Mouse::set_mouse_sampling_rate(
+            script,
+            log,
+            MouseSampleRate::try_from(argument).ok()?,
+        ),
+        16 => PS2Mouse::mouse_resolution(script, log, MouseResolution::try_from(argument).ok()?),
         17 => PS2Mouse::enable_mouse_packet_streaming(script, log),
         _ => PS2Mouse::disable_mouse_packet_streaming(script, log),
     })
@@ -271,7 +259,7 @@ fn call(i: Instruction, script: &[u8], log: &mut [u8]) -> Option<Outcome> {
             mouse_value(i.op, i.argument)?;
             ask(i.op, i.state, script, log)
         }
-        26 | 27 | 38 => on_mouse(i.op, id_of(i.argument)?, script, log),
+        26 | 27 | 38 => on_mouse(i.op, MouseId::try_from(i.argument).ok()?, script, log),
         _ => return None,
     })
 }

@@ -1,9 +1,8 @@
 // A call that hands back the bytes that it threw away, by numbers.
 use crate::calls::{command, completed, received};
-use packed_calls::{Instruction, NO_CALL, ending, write_answer};
-use ps2_command::Commanded;
+use packed_calls::{Instruction, NO_CALL, Outcome, ending, write_answer};
 use ps2_kept::KeptBytes;
-use ps2_polling::{Received, polling_receive};
+use ps2_polling::polling_receive;
 use std::io::{Result, Write};
 
 // The packed call. Its state is the operation, and its argument that of the operation.
@@ -25,15 +24,8 @@ fn write_kept<W: Write>(out: &mut W, kept: KeptBytes) -> Result<()> {
 }
 
 // A call with the bytes that it handed back.
-fn answer_receive<W: Write>(c: Received, log: &[u8], out: &mut W) -> Result<()> {
-    let kept = c.kept;
-    write_answer(out, KEEPING, received(c), log)?;
-    write_kept(out, kept)
-}
-
-fn answer_command<W: Write>(c: Commanded, log: &[u8], out: &mut W) -> Result<()> {
-    let kept = c.kept;
-    write_answer(out, KEEPING, completed(c.answer), log)?;
+fn answer_kept<W: Write>(outcome: Outcome, kept: KeptBytes, log: &[u8], out: &mut W) -> Result<()> {
+    write_answer(out, KEEPING, outcome, log)?;
     write_kept(out, kept)
 }
 
@@ -46,10 +38,11 @@ pub fn answer_keeping<W: Write>(
 ) -> Result<()> {
     let [op, _] = i.state.to_le_bytes();
     if op == RECEIVE {
-        return answer_receive(polling_receive(script), log, out);
+        let c = polling_receive(script);
+        return answer_kept(received(c), c.kept, log, out);
     }
     match command(op, i.argument, script, log) {
-        Some(c) => answer_command(c, log, out),
+        Some(c) => answer_kept(completed(c.answer), c.kept, log, out),
         None => write_answer(out, KEEPING, ending(NO_CALL, 0, 0, 0), log),
     }
 }
