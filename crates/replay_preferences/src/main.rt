@@ -7,7 +7,7 @@ use applying::{APPLYING, answer_applying};
 use packed_calls::{Instruction, NO_CALL, Session, ending, replay, where_held, write_answer};
 use std::io::{Result, Write};
 
-// Room for the longest log, in tests/traces' format. Kept an array: it is as long as this at once.
+// Room for the longest log, in tests/traces' format. Kept an array, no plainer: it is as long as this at once, and a `Vec` would have to be made and may fail.
 const LOG_SPACE: usize = 4096;
 
 // The applications, with the log that each is lent.
