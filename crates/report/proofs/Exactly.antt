@@ -1,9 +1,9 @@
 -- A session is accepted exactly when every number is within its limits at the session's end; otherwise the report stays.
 -- Assumes nothing.
 use mathlib.Core.Path.{◌≡◌, refl}
-use mathlib.Core.Bool.{Bool, true, false, cond}
+use mathlib.Core.Bool.{Bool, true, false, cond, and-eq-true_iff}
 use mathlib.Core.Logic.{◌↔◌}
-use Prim.Native.Nat.{ℕ, ◌+◌, ◌<◌}
+use Prim.Native.Nat.{◌+◌, ◌<◌}
 use native.Mathlib.Omega.{arith}
 use lib.Dec.{T}
 use lib.IntN.{ℤ}
@@ -16,23 +16,20 @@ use Rattle.report_totals.specs.Totals.{Session, totals_of}
 use Rattle.report_totals.proofs.Keys.{at_key}
 use Rattle.report.specs.declared.Limits.{Limits}
 use Rattle.std.specs.Prelude.{Ok, Err}
+use Rattle.std.proofs.lemmas.Float.{T_from_true}
 use Rattle.report.specs.Adding.{Settled, out_of_range, plus, at_most, between, in_range, added}
 use Rattle.report.specs.Within.{Within}
-use Rattle.report.proofs.Ranges.{and_true_both, at_most_at, at_most_all, in_range_lem}
-
-true_t : (b : Bool) → b ≡ true → T b
-true_t true e = tt
-true_t false e = absurd (let n : ◌≡◌ {A = ℕ} 0 1 = cc in omega arith)
+use Rattle.report.proofs.Ranges.{at_most_at, at_most_all, in_range_lem}
 
 t_true : (b : Bool) → T b → b ≡ true
 t_true true t = refl
 t_true false t = absurd t
 
 low : (l h z : ℤ) → between l h z ≡ true → l ≤ℤ z
-low l h z e = le_z_yes (true_t (le_z l z) (and_true_both (le_z l z) _ e).0)
+low l h z e = le_z_yes (T_from_true (le_z l z) ((and-eq-true_iff (le_z l z) _).0 e).0)
 
 high : (l h z : ℤ) → between l h z ≡ true → z ≤ℤ h
-high l h z e = le_z_yes (true_t (le_z z h) (and_true_both (le_z l z) _ e).1)
+high l h z e = le_z_yes (T_from_true (le_z z h) ((and-eq-true_iff (le_z l z) _).0 e).1)
 
 both : (l h z : ℤ) → l ≤ℤ z → z ≤ℤ h → between l h z ≡ true
 both l h z a b = rw (t_true (le_z l z) a.le) (t_true (le_z z h) b.le)

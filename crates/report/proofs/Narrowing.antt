@@ -1,8 +1,8 @@
 -- The 32-bit report: numbers within its limits fit its types, and a session's end read off from what was settled.
 -- Assumes nothing.
 use mathlib.Core.Path.{◌≡◌}
-use mathlib.Core.Bool.{true}
-use Prim.Native.Nat.{ℕ, ◌<◌}
+use mathlib.Core.Bool.{true, and-eq-true_iff}
+use Prim.Native.Nat.{◌<◌}
 use native.Mathlib.Omega.{arith}
 use lib.IntN.{ℤ, pos, negsuc}
 use lib.Signed.{mag}
@@ -13,11 +13,10 @@ use lib.Dec.{leb}
 use borrow.Author.Tests.{leb-true}
 use Rattle.report.specs.Adding.{between}
 use Rattle.report.specs.Narrow.{narrow_limits}
-use Rattle.report.proofs.Ranges.{and_true_both}
 
 pub narrow_mag : (z : ℤ) → between narrow_limits.low narrow_limits.high z ≡ true → mag z < 2147483648
 narrow_mag (pos n) e = omega (arith, leb-true n 2147483647 e)
-narrow_mag (negsuc n) e = omega (arith, leb-true n 2147483647 (and_true_both (leb n 2147483647) true e).0)
+narrow_mag (negsuc n) e = omega (arith, leb-true n 2147483647 ((and-eq-true_iff (leb n 2147483647) true).0 e).0)
 
 -- a number of 64 bits that was narrowed, read back
 pub narrow_back : (y z : ℤ) → SFits w64 z → mag z < 2147483648 → y ≡ to_z w64 (of_z w64 z) → to_z w32 (of_z w32 y) ≡ z

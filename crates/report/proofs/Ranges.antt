@@ -1,14 +1,13 @@
 -- Numbers within their limits: what a count or a sum that was tried says, and counts that are being added.
 -- Assumes nothing.
-use mathlib.Core.Path.{◌≡◌, refl, sym, ◌∙◌}
-use mathlib.Core.Bool.{Bool, true, false, cond, ◌&&◌, and-false}
+use mathlib.Core.Path.{◌≡◌, refl, ◌∙◌}
+use mathlib.Core.Bool.{Bool, true, false, cond, and-false, and-eq-true_iff}
 use mathlib.Core.List.{List, [], ◌∷◌}
 use Prim.Native.Nat.{ℕ, zero, suc, ◌+◌, ◌≤◌, ◌<◌}
 use native.Mathlib.Nat.{not-suc-le-zero}
 use native.Mathlib.Decide.{ℕ_discrete}
 use native.Mathlib.Omega.{arith}
 use lib.Dec.{leb}
-use lib.IntN.{ℤ}
 use lib.ListN.{length, get_or, set, replicate, length-set, length-replicate}
 use lib.Seq.{get_or-set_same, get_or-set_other}
 use borrow.Author.Tests.{le-leb, lt-leb, leb-true, leb-false}
@@ -46,15 +45,11 @@ at_most_not most from (suc n) f k g l h = go (ℕ_discrete from k) (λ e. at_mos
     go (yes e) behind = let b : most < f from = rw e h in rw (lt-leb (f from) most b)
     go (no e) behind = rw (behind e) (and-false (leb (f from) most))
 
-pub and_true_both : (a b : Bool) → (a && b) ≡ true → (a ≡ true) × (b ≡ true)
-and_true_both true b e = (refl, e)
-and_true_both false b e = absurd (let n : ◌≡◌ {A = ℕ} 0 1 = cc in omega arith)
-
 pub at_most_at : (most : ℕ) (l : List ℕ) → at_most most l ≡ true → (k : ℕ) → get_or l k 0 ≤ most
 unfolding at_most
 at_most_at most [] e k = omega arith
-at_most_at most (n ∷ l) e zero = leb-true n most (and_true_both (leb n most) _ e).0
-at_most_at most (n ∷ l) e (suc k) = at_most_at most l (and_true_both (leb n most) _ e).1 k
+at_most_at most (n ∷ l) e zero = leb-true n most ((and-eq-true_iff (leb n most) _).0 e).0
+at_most_at most (n ∷ l) e (suc k) = at_most_at most l ((and-eq-true_iff (leb n most) _).0 e).1 k
 
 -- each number by itself
 pub record InRange (l : Limits) (t : Totals) : Type 0 where
@@ -66,9 +61,9 @@ pub record InRange (l : Limits) (t : Totals) : Type 0 where
 pub in_range_lem : (l : Limits) (t : Totals) → in_range l t ≡ true → InRange l t
 unfolding in_range
 in_range_lem l t e =
-    let p = and_true_both (at_most l.count t.presses) _ e in
-    let n = and_true_both (leb t.packets l.count) _ p.1 in
-    let z = and_true_both (between l.low l.high t.x) _ n.1 in
+    let p = (and-eq-true_iff (at_most l.count t.presses) _).0 e in
+    let n = (and-eq-true_iff (leb t.packets l.count) _).0 p.1 in
+    let z = (and-eq-true_iff (between l.low l.high t.x) _).0 n.1 in
     record { counts = p.0; packets_low = leb-true _ _ n.0; x_in = z.0; y_in = z.1 }
 
 -- ---- counts that are being added

@@ -9,9 +9,7 @@ use lib.IntN.{ℤ}
 use Rattle.report_totals.specs.declared.Totals.{Totals}
 use Rattle.report.specs.declared.Limits.{Limits}
 use Rattle.std.specs.Prelude.{Ok, Err}
-use Rattle.report.specs.declared.OutOfRange.{OutOfRange}
 use Rattle.report.specs.Adding.{at_most, between, in_range, out_of_range, fitting, settled, reported}
-use Rattle.report.proofs.Ranges.{cond_ok, cond_err}
 
 module _ (l : Limits) (new : Totals) where
   abbrev Refuses : Type 0
@@ -45,14 +43,6 @@ module _ (l : Limits) (new : Totals) where
 
   pub refuses : Refuses → Err out_of_range ≡ fitting l new
   refuses e = rw e
-
--- ---- what was settled, read off
-
-pub fitting_ok : (l : Limits) (new : Totals) {t : Totals} → fitting l new ≡ Ok t → (in_range l new ≡ true) × (t ≡ new)
-fitting_ok l new e = cond_ok (in_range l new) new e
-
-pub fitting_err : (l : Limits) (new : Totals) {d : OutOfRange} → fitting l new ≡ Err d → in_range l new ≡ false
-fitting_err l new e = cond_err (in_range l new) new e
 
 -- ---- the ends of a session, at any width
 

@@ -1,17 +1,16 @@
 -- Signed numbers of 64 bits: by their sign, what `!` and casts make of them, and sums that fit.
 -- Assumes nothing.
-use mathlib.Core.Path.{◌≡◌, refl, ◌∙◌, sym}
+use mathlib.Core.Path.{◌≡◌, refl, ◌∙◌}
 use mathlib.Core.Bool.{true, false, and-false}
-use Prim.Native.Nat.{ℕ, suc, ◌<◌, ◌≤◌, ◌-◌, ◌+◌}
+use Prim.Native.Nat.{ℕ, suc, ◌<◌, ◌≤◌, ◌-◌}
 use native.Mathlib.Decide.{dec_lt}
 use native.Mathlib.Omega.{arith}
-use borrow.Author.Tests.{ltb-true, ltb-false, lt-ltb, le-ltb, lt-leb, le-leb}
-use lib.Dec.{ltb}
-use lib.IntN.{ℤ, pos, negsuc, ◌+ℤ◌, sub_ℕ}
-use lib.Signed.{lt_z, le_z, mag}
+use borrow.Author.Tests.{lt-leb}
+use lib.IntN.{ℤ, pos, negsuc, ◌+ℤ◌}
+use lib.Signed.{le_z, mag}
 use mir.Syntax.{w32, w64}
 use mir.Val.{SFits, to_z, of_z}
-use mir.ValLaws.{to_z_pos, to_z-neg}
+use mir.ValLaws.{to_z-neg}
 use mir.Facts.{to_z-of_z}
 use Rattle.report_totals.proofs.Sums.{widened}
 use Rattle.std.specs.Prelude.{Result}
@@ -36,27 +35,12 @@ pub record Pos (z : ℤ) : Type 0 where
   pub is : z ≡ pos s
   pub low : s < half
 
-pub neg_of : (z : ℤ) → SFits w64 z → lt_z (to_z w64 (of_z w64 z)) (pos 0) ≡ true → Neg z
-neg_of (negsuc k) f t = record { k = k; is = refl; low = f.sfits }
-neg_of (pos s) f t = absurd (let h : s < 0 = ltb-true s 0 (rw (to_z-of_z {w = w64} {z = pos s} f) at t) in omega arith)
-
-pub pos_of : (z : ℤ) → SFits w64 z → lt_z (to_z w64 (of_z w64 z)) (pos 0) ≡ false → Pos z
-pos_of (pos s) f t = record { s = s; is = refl; low = f.sfits }
-pos_of (negsuc k) f t = absurd (let h : true ≡ false = rw (to_z-of_z {w = w64} {z = negsuc k} f) at t in let e : ◌≡◌ {A = ℕ} 0 1 = cc in omega arith)
-
--- `!z` of a number below 0, and of one from 0 up
-pub inverted : (z : ℤ) (n : Neg z) → to_z w64 (most - of_z w64 z) ≡ pos n.k
-inverted z n =
-    let e : most - (18446744073709551616 - suc n.k) ≡ n.k = omega (arith, n.low) in
-    rw (n.is, e) (to_z_pos w64 n.k n.low)
-
 pub inverted_back : (k : ℕ) → k < half → to_z w64 (most - k) ≡ negsuc k
 inverted_back k h =
     let e : most - k ≡ 18446744073709551616 - suc k = omega arith in
     rw e (to_z-neg w64 k h)
 
 -- ---- ranges
-
 -- a number that 64 bits don't hold is in no range that they hold
 pub not_between : (low high z : ℤ) → mag low < half → mag high < half → half ≤ mag z → between low high z ≡ false
 not_between low (pos h) (pos n) f g k = rw (lt-leb n h (omega arith)) (and-false (le_z low (pos n)))

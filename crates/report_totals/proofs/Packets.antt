@@ -3,7 +3,6 @@
 use mathlib.Core.Path.{◌≡◌, refl, ap, ◌∙◌}
 use mathlib.Core.List.{List, [], ◌∷◌}
 use Prim.Native.Nat.{ℕ, suc, ◌+◌, ◌*◌, ◌/◌, ◌≤◌, ◌<◌}
-use native.Mathlib.Nat.{add-mul, one-mul}
 use native.Mathlib.Omega.{arith}
 use lib.ListN.{length, get_or, drop, length-drop}
 use lib.Seq.{drop-cons}
@@ -15,16 +14,11 @@ use Rattle.ps2_packet.specs.Packet.{generic, packet3, packet4, common, packet_le
 use Rattle.ps2_packet.specs.Packets.{by_threes, by_fours, packets_of}
 use Rattle.report_totals.specs.Totals.{tally_bytes}
 
--- a packet has 3 or 4 bytes
+-- a packet has 3 bytes or more
 pub length_low : (id : MouseId) → 3 ≤ packet_length id
 length_low Identity.Zero = omega arith
 length_low Identity.Three = omega arith
 length_low Identity.Four = omega arith
-
-pub length_high : (id : MouseId) → packet_length id ≤ 4
-length_high Identity.Zero = omega arith
-length_high Identity.Three = omega arith
-length_high Identity.Four = omega arith
 
 -- a whole packet is ahead where fewer were passed than there are, and none where all were
 pub whole_ahead : (id : MouseId) (n packets at : ℕ) → at ≡ packets * packet_length id → packets < n / packet_length id → at + packet_length id ≤ n
@@ -36,9 +30,6 @@ pub none_ahead : (id : MouseId) (n packets at : ℕ) → at ≡ packets * packet
 none_ahead Identity.Zero n packets at e h = omega arith
 none_ahead Identity.Three n packets at e h = omega arith
 none_ahead Identity.Four n packets at e h = omega arith
-
-pub next_place : (id : MouseId) {packet at : ℕ} (packets : ℕ) → at ≡ packets * packet_length id → packet ≡ packet_length id → at + packet ≡ (packets + 1) * packet_length id
-next_place id packets e p = rw (e, p, add-mul packets 1 (packet_length id), one-mul (packet_length id)) refl
 
 next : (l : List ℕ) (i j : ℕ) → j ≡ i + 1 → i < length l → drop i l ≡ get_or l i 0 ∷ drop j l
 next l i j e h = let s : suc i ≡ j = omega arith in drop-cons l i 0 h ∙ ap (λ (k : ℕ). get_or l i 0 ∷ drop k l) s

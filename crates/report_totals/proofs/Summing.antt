@@ -96,10 +96,6 @@ summing_begins id bytes =
       y_sum = sum_begins y_movement id bytes;
     }
 
--- at the first of the packets of so many bytes
-pub summing_starts : (id : MouseId) (bytes : List ℕ) (n : ℕ) → Summing id bytes (0 * n) 0 (pos 0) (pos 0)
-summing_starts id bytes n = let z : 0 * n ≡ 0 = omega arith in rw z (summing_begins id bytes)
-
 module _ {id : MouseId} {bytes : List ℕ} {at packets : ℕ} {x y : ℤ} (u : Summing id bytes at packets x y) where
   pub summing_goes : ((i : ℕ) → get_or bytes i 0 < 256) → at + packet_length id ≤ length bytes
       → Summing id bytes (at + packet_length id) (packets + 1) (x +ℤ x_movement (generic (get_or bytes at 0) (get_or bytes (at + 1) 0) (get_or bytes (at + 2) 0))) (y +ℤ y_movement (generic (get_or bytes at 0) (get_or bytes (at + 1) 0) (get_or bytes (at + 2) 0)))

@@ -2,14 +2,11 @@
 -- Assumes nothing.
 use native.Mathlib.Omega.{arith}
 use Rattle.report.proofs.Ranges.{at_most_at}
-use Rattle.report.proofs.Copying.{copying_begins, copying_goes, copying_ends}
+use Rattle.report.proofs.Copying.{copying_goes, copying_ends}
 use Rattle.report.proofs.narrow_counts.Goals as goal
 
 pub loop-i-preserved : goal.loop-i-preserved
 loop-i-preserved c e = copying_goes (c.loop-i.invariant e) _ c.loop-i-test.true (c.narrow.ensures (omega (arith, at_most_at _ _ e c.loop-i.i)))
-
-pub loop-i-init : goal.loop-i-init
-loop-i-init c e = copying_begins _
 
 pub returns : goal.returns
 returns c e = copying_ends (c.loop-i.invariant e) c.loop-i-test.false
