@@ -2,13 +2,11 @@
 -- Assumes nothing.
 use mathlib.Core.Path.{◌≡◌, refl, sym, ap, ap₂, ◌∙◌}
 use mathlib.Core.List.{List, [], ◌∷◌, ◌++◌, append_assoc, append-nil}
-use Prim.Native.Nat.{ℕ, ◌+◌, ◌*◌, ◌<◌, ◌≤◌}
+use Prim.Native.Nat.{ℕ, ◌+◌, ◌<◌}
 use native.Mathlib.Numerals.{add-one}
-use native.Mathlib.Omega.{arith}
 use lib.ListN.{length, get_or, take, drop, length-append}
 use lib.Seq.{take-suc, drop-cons}
 use Rattle.number_coding.specs.Coding.{coding}
-use Rattle.number_coding.proofs.Shortest.{coding_most}
 use Rattle.preferences_coding.specs.Format.{codings}
 
 pub codings_none : codings [] ≡ []
@@ -33,10 +31,6 @@ length_first n ns = ap length (codings_first n ns) ∙ length-append (coding n) 
 
 pub length_last : (ns : List ℕ) (n : ℕ) → length (codings (ns ++ n ∷ [])) ≡ length (codings ns) + length (coding n)
 length_last ns n = ap length (codings_last ns n) ∙ length-append (codings ns) (coding n)
-
-pub codings_most : (ns : List ℕ) → length (codings ns) ≤ 5 * length ns
-codings_most [] = omega (arith, ap length codings_none)
-codings_most (n ∷ ns) = omega (arith, length_first n ns, coding_most n, codings_most ns)
 
 -- ---- the first numbers of several, and one more
 

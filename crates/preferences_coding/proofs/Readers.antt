@@ -1,7 +1,7 @@
 -- What the writer writes the readers read, and nothing else is accepted.
 -- Assumes nothing.
 use mathlib.Core.Path.{◌≡◌, refl, sym, ap, subst, ◌∙◌}
-use mathlib.Core.Bool.{Bool, true, ◌&&◌}
+use mathlib.Core.Bool.{Bool, true, and-eq-true_iff}
 use mathlib.Core.List.{List}
 use Prim.Native.Nat.{ℕ, ◌<◌}
 use native.Mathlib.Omega.{arith}
@@ -20,7 +20,7 @@ use Rattle.preferences_coding.specs.Format.{numbers_of, record_bytes}
 use Rattle.preferences_coding.specs.Reading.{version_in, questions_of, record_read, any_number, four_of, read1, read2}
 use Rattle.preferences_coding.specs.Accepted.{RecordOf, version_1, version_2, Refused, WrittenAs, ShownAs, as_1, as_2}
 use Rattle.preferences_coding.proofs.Numbers.{first_refuses, refuses_first}
-use Rattle.preferences_coding.proofs.Records.{both_left, both_right, records_read, read_records}
+use Rattle.preferences_coding.proofs.Records.{records_read, read_records}
 
 -- ---- the version 2 reader
 
@@ -28,10 +28,9 @@ use Rattle.preferences_coding.proofs.Records.{both_left, both_right, records_rea
 within_record : (p : Preferences) → within_values p ≡ true → RecordOf is_repeat_byte (record_bytes p) (numbers_of p)
 within_record (Version1 four) e = version_1 four e
 within_record (Version2 four again) e =
-    let b : (within_values (Version1 four) && is_repeat_byte again) ≡ true = within_fifth four again ∙ e in
-    let q : is_repeat_byte again ≡ true = both_right (within_values (Version1 four)) (is_repeat_byte again) b in
-    let l : again < numbers_end = omega (arith, leb-true again 127 q) in
-    version_2 four again (both_left (within_values (Version1 four)) (is_repeat_byte again) b) l q
+    let b = (and-eq-true_iff (within_values (Version1 four)) (is_repeat_byte again)).0 (within_fifth four again ∙ e) in
+    let l : again < numbers_end = omega (arith, leb-true again 127 b.1) in
+    version_2 four again b.0 l b.1
 
 -- What the writer writes the version 2 reader reads, of either version.
 pub written_read2 : (p : Preferences) → within_values p ≡ true → read2 (record_bytes p) ≡ gives (numbers_of p)

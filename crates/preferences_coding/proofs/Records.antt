@@ -1,7 +1,7 @@
 -- The strings that are accepted are the records, and no others.
 -- Assumes nothing.
 use mathlib.Core.Path.{◌≡◌, refl, ap, subst, ◌∙◌}
-use mathlib.Core.Bool.{Bool, true, false, cond, ◌&&◌, ◌||◌}
+use mathlib.Core.Bool.{Bool, true, false, cond, ◌&&◌, ◌||◌, and-eq-true_iff}
 use mathlib.Core.Logic.{◌⊎◌, inl, inr, ⊎_elim}
 use mathlib.Core.List.{List, [], ◌∷◌, ◌++◌}
 use Prim.Native.Nat.{ℕ, ◌<◌}
@@ -23,16 +23,6 @@ use Rattle.preferences_coding.specs.Accepted.{RecordOf, version_1, version_2}
 use Rattle.preferences_coding.proofs.Codings.{codings_first}
 use Rattle.preferences_coding.proofs.Numbers.{Within, none, one, Accepted, within_read, read_within}
 
--- ---- both of two answers
-
-pub both_left : (a b : Bool) → (a && b) ≡ true → a ≡ true
-both_left true b e = refl
-both_left false b e = e
-
-pub both_right : (a b : Bool) → (a && b) ≡ true → b ≡ true
-both_right true b e = e
-both_right false b e = absurd (let z : ◌≡◌ {A = ℕ} 0 1 = cc in omega arith)
-
 -- ---- numbers within the values are small
 
 rate_below : (n : ℕ) → is_sampling_rate n ≡ true → n < numbers_end
@@ -43,8 +33,8 @@ rate_below n e = by (10 ∷ 20 ∷ 40 ∷ 60 ∷ 80 ∷ 100 ∷ 200 ∷ []) refl
     small (m ∷ ns) = leb m 200 && small ns
 
     here : (m : ℕ) (ns : List ℕ) → small (m ∷ ns) ≡ true → (t : Bool) → eqb n m ≡ t → (t || among n ns) ≡ true → (small ns ≡ true → among n ns ≡ true → n < numbers_end) → n < numbers_end
-    here m ns s true q e f = omega (arith, eqb-true n m q, leb-true m 200 (both_left (leb m 200) (small ns) s))
-    here m ns s false q e f = f (both_right (leb m 200) (small ns) s) e
+    here m ns s true q e f = omega (arith, eqb-true n m q, leb-true m 200 ((and-eq-true_iff (leb m 200) (small ns)).0 s).0)
+    here m ns s false q e f = f ((and-eq-true_iff (leb m 200) (small ns)).0 s).1 e
 
     by : (ns : List ℕ) → small ns ≡ true → among n ns ≡ true → n < numbers_end
     by [] s e = absurd (let z : ◌≡◌ {A = ℕ} 0 1 = cc in omega arith)
@@ -59,14 +49,14 @@ module _ (four : Fields) where
       let r = is_sampling_rate four.rate in
       let z = is_resolution four.resolution in
       let l = is_lamps four.lamps in
-      let e1 = both_right s (r && (z && (l && true))) e in
-      let e2 = both_right r (z && (l && true)) e1 in
-      let e3 = both_right z (l && true) e2 in
-      let qs : is_scancode_set four.set ≡ true = both_left s (r && (z && (l && true))) e in
-      let qr : is_sampling_rate four.rate ≡ true = both_left r (z && (l && true)) e1 in
-      let qz : is_resolution four.resolution ≡ true = both_left z (l && true) e2 in
-      let ql : is_lamps four.lamps ≡ true = both_left l true e3 in
-      let bs : four.set < numbers_end = omega (arith, leb-true four.set 3 (both_right (leb 1 four.set) (leb four.set 3) qs)) in
+      let e1 = (and-eq-true_iff s (r && (z && (l && true)))).0 e in
+      let e2 = (and-eq-true_iff r (z && (l && true))).0 e1.1 in
+      let e3 = (and-eq-true_iff z (l && true)).0 e2.1 in
+      let qs : is_scancode_set four.set ≡ true = e1.0 in
+      let qr : is_sampling_rate four.rate ≡ true = e2.0 in
+      let qz : is_resolution four.resolution ≡ true = e3.0 in
+      let ql : is_lamps four.lamps ≡ true = ((and-eq-true_iff l true).0 e3.1).0 in
+      let bs : four.set < numbers_end = omega (arith, leb-true four.set 3 ((and-eq-true_iff (leb 1 four.set) (leb four.set 3)).0 qs).1) in
       let bz : four.resolution < numbers_end = omega (arith, leb-true four.resolution 3 qz) in
       let bl : four.lamps < numbers_end = omega (arith, leb-true four.lamps 7 ql) in
       one bs qs (one (rate_below four.rate qr) qr (one bz qz (one bl ql w)))

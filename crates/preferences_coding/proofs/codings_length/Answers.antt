@@ -1,13 +1,9 @@
 -- `preferences_coding::codings_length` meets its contract: the numbers' counts are added one after another.
 -- Assumes nothing.
-use mathlib.Core.Path.{sym, ap, ◌∙◌}
-use mathlib.Core.List.{List}
-use Prim.Native.Nat.{ℕ}
+use mathlib.Core.Path.{sym, ap}
 use native.Mathlib.Omega.{arith}
 use lib.ListN.{length, get_or}
-use Rattle.std.proofs.lemmas.List.{take_all}
 use Rattle.number_coding.proofs.Shortest.{coding_most}
-use Rattle.preferences_coding.specs.Format.{codings}
 use Rattle.preferences_coding.proofs.Codings.{codings_none, length_next}
 use Rattle.preferences_coding.proofs.codings_length.Goals as goal
 
@@ -23,6 +19,3 @@ loop-number-preserved c =
       sum = length_next c.args.numbers.now c.loop-number.number-index (omega arith) c.loop-number.invariant.sum c.number_length-length.ensures;
       few = omega (arith, c.loop-number.invariant.few, coding_most (get_or c.args.numbers.now c.loop-number.number-index 0));
     }
-
-pub returns : goal.returns
-returns c = c.loop-number.invariant.sum ∙ ap (λ (l : List ℕ). length (codings l)) (take_all c.loop-number.number-index c.args.numbers.now (omega arith))

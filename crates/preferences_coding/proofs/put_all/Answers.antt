@@ -1,7 +1,7 @@
 -- `preferences_coding::put_all` meets its contract: the numbers are put one after another.
 -- Assumes nothing.
 use native.Mathlib.Omega.{arith}
-use Rattle.preferences_coding.proofs.Putting.{putting_begins, number_put_by, next_room, next_put, all_put}
+use Rattle.preferences_coding.proofs.Putting.{putting_begins, number_put_by, next_room, next_put}
 use Rattle.preferences_coding.proofs.put_all.Goals as goal
 
 pub loop-number-init : goal.loop-number-init
@@ -17,6 +17,3 @@ pub loop-number-preserved : goal.loop-number-preserved
 loop-number-preserved c =
     let room = next_room c.args.numbers.now c.loop-number.number-index c.loop-number.invariant (omega arith) in
     next_put c.args.numbers.now c.loop-number.number-index c.loop-number.invariant (omega arith) (number_put_by c.write_number.result room c.write_number.ensures c.unwrap_or-at.ensures)
-
-pub returns : goal.returns
-returns c = all_put c.args.numbers.now c.loop-number.number-index c.loop-number.invariant (omega arith)
