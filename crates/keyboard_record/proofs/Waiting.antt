@@ -15,7 +15,7 @@ use Rattle.keyboard_sides.specs.declared.Side.{Side}
 use Rattle.keyboard_sides.specs.Sides.{sides_of, count_of, with_side}
 use Rattle.keyboard_sides.specs.Named.{named, of_side, sides_in}
 use Rattle.keyboard_sides.proofs.Row.{sides_length, sides_none, oldest_first, pushed_behind, left_tail}
-use Rattle.keyboard_sides.proofs.Named.{named_behind, named-length, sides_in-named, named_count}
+use Rattle.keyboard_sides.proofs.Named.{named_behind, sides_in-named, named_count}
 use Rattle.keyboard_record.specs.declared.HandlerState.{HandlerState}
 use Rattle.keyboard_record.specs.declared.KeyboardHandler.{KeyboardHandler}
 use Rattle.keyboard_record.specs.Queue.{round, place, joined, one_more, places_with, waiting, waiting_sides, oldest, without_oldest}
@@ -32,9 +32,6 @@ as_long h = sides_length h.state.sides h.state.count ∙ sym (length-round h.pla
 
 pub waiting_sides_lem : (h : KeyboardHandler) → sides_in (waiting h) ≡ waiting_sides h.state
 waiting_sides_lem h = sides_in-named _ _ (as_long h)
-
-pub waiting-length : (h : KeyboardHandler) → length (waiting h) ≡ h.state.count
-waiting-length h = named-length _ _ (as_long h) ∙ sides_length h.state.sides h.state.count
 
 pub waiting-of_side : (side : Side) (h : KeyboardHandler) → length (of_side side (waiting h)) ≡ count_of side (waiting_sides h.state)
 waiting-of_side side h = named_count side _ _ (as_long h)

@@ -27,12 +27,6 @@ named_tail (s ∷ []) [] = refl
 named_tail (s ∷ t ∷ sides) [] = refl
 named_tail (s ∷ sides) (a ∷ things) = refl
 
-pub named-length : {A : Type 0} (sides : List Side) (things : List A) → length sides ≡ length things → length (named sides things) ≡ length sides
-unfolding named
-named-length [] things e = refl
-named-length (s ∷ sides) [] e = absurd (omega arith)
-named-length (s ∷ sides) (a ∷ things) e = omega (arith, named-length sides things (omega arith))
-
 -- the sides of what is named are those that name it
 pub sides_in-named : {A : Type 0} (sides : List Side) (things : List A) → length sides ≡ length things → sides_in (named sides things) ≡ sides
 unfolding named sides_in
@@ -51,7 +45,6 @@ sides_in-length [] = refl
 sides_in-length (x ∷ l) = omega (arith, sides_in-length l)
 
 -- ---- those of one side
-
 cond_append : {A : Type 0} (t : Bool) (a : A) (l m n : List A) → n ≡ l ++ m → cond t (a ∷ n) n ≡ cond t (a ∷ l) l ++ m
 cond_append {A} true a l m n e = ap (λ (x : List A). a ∷ x) e
 cond_append false a l m n e = e

@@ -4,7 +4,7 @@ use mathlib.Core.Path.{◌≡◌, refl, sym, ap, ap₂, ◌∙◌}
 use mathlib.Core.Bool.{Bool, true, false}
 use mathlib.Core.List.{List, [], ◌∷◌, ◌++◌}
 use Prim.Native.Nat.{ℕ, zero, suc, ◌+◌, ◌-◌, ◌*◌, ◌/◌, ◌%◌, ◌^◌, ◌<◌, ◌≤◌}
-use native.Mathlib.Nat.{pow-suc, div-add-mod', not-suc-le-zero, le_of_suc-le-suc, lt_of_lt_of_le, lt_of_le_of_lt, mod-le, mod-lt, mod-one, add-zero, zero-add, suc-add, mul-one, mul_assoc, mod-eq_of_lt, mul-add-mod_self_right, add_comm}
+use native.Mathlib.Nat.{pow-suc, div-add-mod', not-suc-le-zero, le_of_suc-le-suc, lt_of_lt_of_le, lt_of_le_of_lt, mod-le, mod-one, add-zero, zero-add, suc-add, mul-one, mul_assoc, mod-eq_of_lt, mul-add-mod_self_right, add_comm}
 use native.Mathlib.Omega.{arith}
 use borrow.Author.Tests.{lt-ltb, le-ltb}
 use lib.ListN.{length, drop}
@@ -59,7 +59,6 @@ bits_ones (suc n) x =
     ∙ ap (λ (a : ℕ). weigh (same_side Side.Second (side_of (odd x))) + a) (bits_ones n (x / 2))
 
 -- ---- how many are of a side
-
 pub both_sides : (l : List Side) → count_of Side.First l + count_of Side.Second l ≡ length l
 unfolding count_of
 both_sides [] = refl
@@ -85,7 +84,6 @@ count_tail side [] = omega arith
 count_tail side (s ∷ l) = omega arith
 
 -- ---- two words
-
 pub number_words : (x : ℕ) → number_of (words_of x) ≡ x
 number_words x = div-add-mod' x (2 ^ 64)
 
@@ -121,7 +119,6 @@ words_are s x h e =
     ap₂ made low high
 
 -- ---- the sides of the events that wait
-
 pub sides_length : (s : Sides) (n : ℕ) → length (sides_of s n) ≡ n
 sides_length s n = bits_length n (number_of s)
 
@@ -168,9 +165,6 @@ pub first_left : (s : Sides) (n : ℕ) → count_of Side.First (sides_of s n) �
 first_left s n = omega (arith, both_sides (sides_of s n), sides_length s n)
 
 -- ---- what the code does with two words
-
-pub ones-mod-le : (n x : ℕ) → ones (x % 2 ^ n) ≤ n
-ones-mod-le n x = ones-le n (x % 2 ^ n) (mod-lt x (pow_pos n))
 
 pub ones_word_le : (n x : ℕ) → x < 2 ^ 64 → ones (x % 2 ^ n) ≤ 64
 ones_word_le n x h = ones-le 64 (x % 2 ^ n) (lt_of_le_of_lt (mod-le x (2 ^ n)) h)

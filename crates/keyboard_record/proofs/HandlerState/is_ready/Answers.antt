@@ -1,11 +1,11 @@
 -- `keyboard_record::HandlerState::is_ready` meets its contract: the side, the queue's start, the keyboards at the table, then the count.
 -- Assumes nothing.
 use mathlib.Core.Path.{◌≡◌, sym, ◌∙◌}
-use mathlib.Core.Bool.{true, false, true≢false}
+use mathlib.Core.Bool.{true, true≢false}
 use mathlib.Core.Logic.{⊎_elim}
 use Prim.Native.Nat.{◌<◌}
 use borrow.Author.Tests.{le-ltb}
-use Rattle.keyboard_record.specs.Record.{at_table, keyboard_formed, is_ready}
+use Rattle.keyboard_record.specs.Record.{at_table, keyboard_formed}
 use Rattle.keyboard_record.proofs.Ready.{unready_table, unready_start, unready_first, unready_second, ready_count, one_formed, two_formed}
 use Rattle.keyboard_record.proofs.HandlerState.is_ready.Goals as goal
 use Rattle.keyboard_record.proofs.HandlerState.is_ready.Goals.{Then-keyboard_formed, then-has, else-has, then-self-lt-QUEUE_LENGTH, else-self-lt-QUEUE_LENGTH}

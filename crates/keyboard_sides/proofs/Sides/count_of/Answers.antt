@@ -18,9 +18,3 @@ returns-in-First c =
     let a = c.args in
     ap (λ (k : ℕ). a.count - k) c.second_of-second.ensures ∙ sym (first_left a.self a.count)
     ∙ ap (λ (s : Side). count_of s (sides_of a.self a.count)) (sym c.in-First.is)
-
-pub returns-in-Second : goal.returns-in-Second
-returns-in-Second c =
-    let a = c.args in
-    c.second_of-second.ensures
-    ∙ ap (λ (s : Side). count_of s (sides_of a.self a.count)) (sym c.in-Second.is)

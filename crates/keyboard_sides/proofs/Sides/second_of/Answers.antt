@@ -5,13 +5,8 @@ use Prim.Native.Nat.{ℕ, ◌+◌, ◌-◌}
 use native.Mathlib.Omega.{arith}
 use Rattle.keyboard_sides.specs.declared.Side.{Side}
 use Rattle.keyboard_sides.specs.Sides.{count_of, sides_of}
-use Rattle.keyboard_sides.proofs.Row.{second_lower, second_upper, ones_word_le}
+use Rattle.keyboard_sides.proofs.Row.{second_lower, second_upper}
 use Rattle.keyboard_sides.proofs.Sides.second_of.Goals as goal
-
-pub overflow_add-result : goal.overflow_add-result
-overflow_add-result c =
-    let a = c.args in
-    omega (arith, ones_word_le 64 a.self.low (omega (arith, c.well_formed)), ones_word_le (a.count - 64) a.self.high (omega (arith, c.well_formed)))
 
 pub returns-then-count-le-WORD : goal.returns-then-count-le-WORD
 returns-then-count-le-WORD c =
