@@ -1,6 +1,6 @@
 -- Within its values each field is a byte.
 -- Assumes nothing.
-use mathlib.Core.Bool.{Bool, true, false, ◌&&◌, ◌||◌}
+use mathlib.Core.Bool.{Bool, true, false, ◌&&◌, ◌||◌, and-eq-true_iff}
 use mathlib.Core.List.{List, [], ◌∷◌}
 use mathlib.Core.Path.{◌≡◌, refl, sym, ◌∙◌, subst}
 use Prim.Native.Nat.{ℕ, ◌≤◌}
@@ -15,14 +15,6 @@ use Rattle.preferences.specs.Values.{is_scancode_set, is_sampling_rate, is_resol
 use Rattle.preferences.specs.Record.{within_values}
 use Rattle.preferences.proofs.Values.{within_four, within_fifth}
 
-&&_left : (a b : Bool) → (a && b) ≡ true → a ≡ true
-&&_left true b q = refl
-&&_left false b q = q
-
-&&_right : (a b : Bool) → (a && b) ≡ true → b ≡ true
-&&_right true b q = q
-&&_right false b q = absurd (subst T (sym q) tt)
-
 -- one of some numbers is at most what they all are
 module _ (n k : ℕ) where
   or_below : (a b : Bool) → (a || b) ≡ true → (a ≡ true → n ≤ k) → (b ≡ true → n ≤ k) → n ≤ k
@@ -33,13 +25,13 @@ module _ (n k : ℕ) where
   among_below [] t q = absurd (subst T (sym q) tt)
   among_below (m ∷ ns) t q =
       or_below (eqb n m) (among n ns) q
-      (λ e. omega (arith, eqb-true n m e, leb-true m k (&&_left (leb m k) (each (λ m. leb m k) ns) t)))
-      (λ e. among_below ns (&&_right (leb m k) (each (λ m. leb m k) ns) t) e)
+      (λ e. omega (arith, eqb-true n m e, leb-true m k ((and-eq-true_iff (leb m k) (each (λ m. leb m k) ns)).0 t).0))
+      (λ e. among_below ns ((and-eq-true_iff (leb m k) (each (λ m. leb m k) ns)).0 t).1 e)
 
 -- ---- each field
 
 pub set_most : (n : ℕ) → is_scancode_set n ≡ true → n ≤ 3
-set_most n q = leb-true n 3 (&&_right (leb 1 n) (leb n 3) q)
+set_most n q = leb-true n 3 ((and-eq-true_iff (leb 1 n) (leb n 3)).0 q).1
 
 pub rate_most : (n : ℕ) → is_sampling_rate n ≡ true → n ≤ 200
 rate_most n q = among_below n 200 (10 ∷ 20 ∷ 40 ∷ 60 ∷ 80 ∷ 100 ∷ 200 ∷ []) refl q
@@ -65,15 +57,15 @@ four_within four q =
     let r = is_sampling_rate four.rate in
     let e = is_resolution four.resolution in
     let l = is_lamps four.lamps in
-    let a : (s && (r && (e && l))) ≡ true = within_four four ∙ q in
-    let b : (r && (e && l)) ≡ true = &&_right s (r && (e && l)) a in
-    let c : (e && l) ≡ true = &&_right r (e && l) b in
-    record { set_in = &&_left s (r && (e && l)) a; rate_in = &&_left r (e && l) b; resolution_in = &&_left e l c; lamps_in = &&_right e l c }
+    let a = (and-eq-true_iff s (r && (e && l))).0 (within_four four ∙ q) in
+    let b = (and-eq-true_iff r (e && l)).0 a.1 in
+    let c = (and-eq-true_iff e l).0 b.1 in
+    record { set_in = a.0; rate_in = b.0; resolution_in = c.0; lamps_in = c.1 }
 
 module _ (four : Fields) (again : ℕ) (q : within_values (Version2 four again) ≡ true) where
   -- a record of version 2 is within the values only where its four fields are, and the fifth
   pub first_four : within_values (Version1 four) ≡ true
-  first_four = &&_left (within_values (Version1 four)) (is_repeat_byte again) (within_fifth four again ∙ q)
+  first_four = ((and-eq-true_iff (within_values (Version1 four)) (is_repeat_byte again)).0 (within_fifth four again ∙ q)).0
 
   pub fifth_within : again ≤ 127
-  fifth_within = leb-true again 127 (&&_right (within_values (Version1 four)) (is_repeat_byte again) (within_fifth four again ∙ q))
+  fifth_within = leb-true again 127 ((and-eq-true_iff (within_values (Version1 four)) (is_repeat_byte again)).0 (within_fifth four again ∙ q)).1
