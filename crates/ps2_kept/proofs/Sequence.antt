@@ -14,7 +14,6 @@ use Rattle.ps2_answers.specs.Refusals.{refused}
 use Rattle.ps2_answers.specs.declared.Refusal.{Refusal}
 use Rattle.ps2_answers.specs.declared.Refusal.TheVariants.{Lacking, Failed}
 use Rattle.ps2_kept.specs.declared.KeptBytes.{KeptBytes}
-use Rattle.ps2_kept.specs.Kept.{kept_at}
 use Rattle.ps2_kept.specs.Added.{added_thrown, keeping_onto}
 use Rattle.ps2_kept.specs.Promises.{ReadsKept, PlaysKept}
 

@@ -6,7 +6,7 @@ use mathlib.Core.List.{List}
 use mathlib.Core.Path.{◌≡◌, refl, ◌∙◌}
 use lib.ListN.{length}
 use Rattle.std.specs.Prelude.{Result, Ok, Err}
-use Rattle.exchange.specs.Exchange.{Exchange, done, bind, End, yields, played, play, Reads}
+use Rattle.exchange.specs.Exchange.{Exchange, played, play, Reads}
 use Rattle.exchange.specs.Answer.{Answer, on_given, and_then}
 use Rattle.exchange.specs.Keeping.{Kept, kept_end, NoData}
 use Rattle.exchange.specs.Parts.{part, restored}

@@ -1,7 +1,7 @@
 -- `number_coding::put_number` meets its contract: at each place the groups that are left are to be put (`Putting`).
 -- Assumes nothing.
 use native.Mathlib.Omega.{arith}
-use Rattle.number_coding.proofs.Putting.{putting_begins, putting_last, putting_more, putting_ends}
+use Rattle.number_coding.proofs.Putting.{putting_begins, putting_last, putting_more}
 use Rattle.number_coding.proofs.put_number.Goals.{then-left-lt-TWO_GROUPS, else-left-lt-TWO_GROUPS}
 use Rattle.number_coding.proofs.put_number.Goals as goal
 
@@ -14,6 +14,3 @@ loop-group-preserved c =
       | then-left-lt-TWO_GROUPS w ↦ rw w.group-is (putting_last c.loop-group.invariant (omega arith) w.if-left-lt-TWO_GROUPS.true)
       | else-left-lt-TWO_GROUPS w ↦ rw w.group-is (putting_more c.loop-group.invariant (omega arith) w.if-left-lt-TWO_GROUPS.false)
     ]
-
-pub returns : goal.returns
-returns c = putting_ends c.loop-group.invariant (omega arith)

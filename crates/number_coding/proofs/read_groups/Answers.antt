@@ -23,9 +23,6 @@ pub overflow_add-whole : goal.overflow_add-whole
 overflow_add-whole c =
     omega (arith, c.loop-place.invariant.small, scale_most c.loop-place.invariant, product_most c.loop-place.invariant c.in-Some.ensures.lookup.3.0 (c.in-Some.ensures.lookup.3.1 0) _ c.from.ensures)
 
-pub overflow_mul-scale : goal.overflow_mul-scale
-overflow_mul-scale c = omega (arith, scale_most c.loop-place.invariant)
-
 -- the ends, and one group more
 pub returns-then-byte-eq0 : goal.returns-then-byte-eq0
 returns-then-byte-eq0 c =
