@@ -7,7 +7,7 @@ use Prim.Native.Nat.{◌+◌, ◌≤◌, ◌<◌}
 use lib.ListN.{length}
 use Rattle.ps2_salvage.specs.Pieces.{starts}
 use Rattle.ps2_salvage.proofs.Pieces.{packet_bound}
-use Rattle.ps2_salvage.proofs.Going.{chunk_within, chunk_first, no_chunk, going_begins, packets_length, positions_length, going_drops, going_copies, ends_at_end, ends_before_tail, ends_for_room, ends_for_place}
+use Rattle.ps2_salvage.proofs.Going.{chunk_within, chunk_first, no_chunk, going_begins, packets_length, going_drops, going_copies, ends_at_end, ends_before_tail, ends_for_room, ends_for_place}
 use Rattle.ps2_salvage.proofs.pass.Goals as goal
 use Rattle.ps2_salvage.proofs.pass.Goals.{in-Some+then-not-has, in_default}
 
