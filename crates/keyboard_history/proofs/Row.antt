@@ -1,7 +1,7 @@
 -- The row of waiting events: what joins it, with room and without, and how the lists of events given grow.
 -- Assumes nothing.
 use mathlib.Core.Path.{◌≡◌, refl, ap, sym}
-use mathlib.Core.Bool.{Bool, true, false, ◌||◌}
+use mathlib.Core.Bool.{true, false, or-false}
 use mathlib.Core.List.{List, [], ◌∷◌, ◌++◌, append-nil, append_assoc}
 use mathlib.Core.Option.{Option, none, some}
 use Prim.Native.Nat.{ℕ}
@@ -37,10 +37,6 @@ module _ (profile : Profile) (bytes : Past ℕ) (b : ℕ) where
 -- an event of a side
 abbrev pub sided : Side → KeyEvent → Sided KeyEvent
 sided side e = record { side = side; one = e }
-
-or-false : (b : Bool) → (b || false) ≡ b
-or-false true = refl
-or-false false = refl
 
 module _ (table : Table) (side : Side) (row : List (Sided KeyEvent)) where
   pub less_none : less_met (given_to table side row []) ≡ []

@@ -3,7 +3,7 @@
 use mathlib.Core.Path.{◌≡◌, refl, ap, sym, ◌∙◌}
 use mathlib.Core.Bool.{Bool, true, false, not, cond, and-eq-true_iff, false≢true}
 use mathlib.Core.List.{List, [], ◌∷◌, ◌++◌}
-use mathlib.Core.Option.{Option, none, some}
+use mathlib.Core.Option.{Option, none, some, none-ne-some}
 use Prim.Native.Nat.{ℕ, ◌+◌, ◌-◌, ◌≤◌}
 use native.Mathlib.Omega.{arith}
 use lib.ListN.{length, take, drop, length-append, length-take, length-drop}
@@ -48,13 +48,10 @@ behind_took [] (b ∷ s) q = cc
 behind_took (b ∷ ws) s q = cc
 
 -- no byte is counted where none is there to take
-none_some : {b : ℕ} → ◌≡◌ {A = Option ℕ} none (some b) → ⊥
-none_some q = let z : ◌≡◌ {A = ℕ} 0 1 = cc in omega arith
-
 pub none_takes : {A : Type 0} (rules : Rules A) (bytes : Past ℕ) (ws s l : List ℕ) {b : ℕ} → takes ws s ≡ none
     → scancode_after rules bytes ws s l ≡ some b → ⊥
 unfolding scancode_after scancode
-none_takes rules bytes ws s l g n = none_some (rw g at n)
+none_takes rules bytes ws s l g n = none-ne-some _ (rw g at n)
 
 -- ---- a call whose byte is not counted throws nothing away
 
@@ -75,7 +72,7 @@ module _ {A : Type 0} (rules : Rules A) (bytes : Past ℕ) (ws s l : List ℕ) (
 
   not_counted : (c : Bool) → cond (not c) (some t.byte) none ≡ none → c ≡ true
   not_counted true e = refl
-  not_counted false e = absurd (none_some (sym e))
+  not_counted false e = absurd (none-ne-some _ (sym e))
 
   ran_out_lem : scancode_after rules bytes ws s l ≡ none → lamps_ran_out rules flags t l ≡ true
   unfolding scancode_after scancode
