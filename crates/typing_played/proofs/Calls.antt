@@ -7,8 +7,9 @@ use mathlib.Core.Logic.{◌⊎◌, inl, inr}
 use mathlib.Core.Option.{Option, some}
 use Prim.Native.Nat.{ℕ, ◌≤◌}
 use native.Mathlib.Omega.{arith}
-use lib.ListN.{length, take}
+use lib.ListN.{take}
 use lib.Seq.{take-nil}
+use Rattle.std.proofs.lemmas.List.{nil_from_length}
 use Rattle.exchange.specs.Exchange.{Exchange, End, yields, lacks, Played, play}
 use Rattle.exchange.specs.Answer.{Answer, gives}
 use Rattle.ps2_answers.specs.Refusals.{success}
@@ -201,16 +202,12 @@ module _ {A : Type 0} (keyboards : Keyboards) (lamps : Side → ℕ → Exchange
       let t = handle lamps side h.state in
       let short = play t (b ∷ []) [] in
       let longer = play_longer t (b ∷ []) [] more log (yielded h.state b e).1 in
-      let none : short.log ≡ [] = by short.log (log_length t (b ∷ []) []) in
+      let none : short.log ≡ [] = nil_from_length short.log (log_length t (b ∷ []) []) in
       record {
         one_byte = rw longer (used_le t (b ∷ []) []);
         no_pairs = ap (λ (o : Played Outcome). o.pairs) longer ∙ omega (arith, pairs_le t (b ∷ []) []);
         same_log = ap (λ (o : Played Outcome). o.log) longer ∙ ap (λ (l : List ℕ). l ++ log) none;
       }
-    where
-      by : (l : List ℕ) → length l ≡ 0 → l ≡ []
-      by [] z = refl
-      by (x ∷ l) z = absurd (omega (arith, z))
 
   -- the last of some answers
   abbrev last : Bool → Past Bool → Bool
