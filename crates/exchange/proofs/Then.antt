@@ -6,6 +6,7 @@ use mathlib.Core.Bool.{Bool, true, false, cond, ◌&&◌, ◌||◌}
 use mathlib.Core.List.{List, [], ◌∷◌}
 use mathlib.Core.Path.{◌≡◌, refl}
 use lib.Dec.{T, eqb, eqb→eq, eqb_refl}
+use mir.Facts.{and_yes}
 use Rattle.exchange.specs.Exchange.{Port, Exchange, done, read, write, bind}
 use Rattle.exchange.specs.Answer.{Answer, gives, refuses, on_given, and_then, renumbered, refusing_as}
 use Rattle.exchange.specs.Attains.{Attains, attains_done}
@@ -18,14 +19,6 @@ use Rattle.exchange.proofs.Attains.{attains_bind}
 use Rattle.exchange.proofs.Bounds.{within_bind}
 use Rattle.exchange.proofs.Only.{only_bind}
 use Rattle.exchange.proofs.Sends.{sends_bind}
-
-&&_left : (a b : Bool) → T (a && b) → T a
-&&_left true b t = tt
-&&_left false b t = t
-
-&&_right : (a b : Bool) → T (a && b) → T b
-&&_right true b t = t
-&&_right false b t = absurd t
 
 -- what holds of both branches of a test
 pub on_cond : {X : Type 0} (P : X → Type 0) (b : Bool) {x y : X} → P x → P y → P (cond b x y)
@@ -128,8 +121,8 @@ among_same : (ns ms : List ℕ) (m n : ℕ) (b : Bool) → eqb n m ≡ b → T (
     → (T (all_among ns ms) → T (among n ns) → T (among n ms)) → T (among n ms)
 among_same ns ms m n true e h x k =
     let q : n ≡ m = eqb→eq n m (rw e tt) in
-    rw q (&&_left (among m ms) (all_among ns ms) h)
-among_same ns ms m n false e h x k = k (&&_right (among m ms) (all_among ns ms) h) x
+    rw q (and_yes (among m ms) (all_among ns ms) h).0
+among_same ns ms m n false e h x k = k (and_yes (among m ms) (all_among ns ms) h).1 x
 
 pub among_more : (ns ms : List ℕ) (n : ℕ) → T (all_among ns ms) → T (among n ns) → T (among n ms)
 among_more [] ms n h x = absurd x
