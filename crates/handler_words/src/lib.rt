@@ -169,6 +169,7 @@ fn state_in(words: &Words) -> HandlerState
     }
 }
 
+// Kept, no plainer, here and below: each `match` from a kind to its number is its table, since the kinds are other crates'.
 fn action_word(action: KeyAction) -> u64
     ensures { result ≡ action_number action }
 {
@@ -294,6 +295,7 @@ fn queue_key(
             );
             0
         }
+        // Kept as three numbers, no plainer: of each it is seen that it is none of those after which the record is as it was.
         Err(NoRoom::OutsideProfile) => 33,
         Err(NoRoom::SideFull) => 31,
         Err(NoRoom::QueueFull) => 20,
@@ -339,14 +341,9 @@ fn refused(refusal: u32) -> HandledWords
 fn byte_used(refusal: u32) -> HandledWords
     ensures { result ≡ byte_used refusal }
 {
-    // Kept written out: with `..refused(refusal)` the answer is copied once more.
     HandledWords {
-        refusal,
-        lamps: 0,
         used: 1,
-        pairs: 0,
-        dropped: 0,
-        port: 0,
+        ..refused(refusal)
     }
 }
 
@@ -384,9 +381,6 @@ fn handle_side(words: &mut Words, side: Side, script: &[u8], log: &mut [u8]) -> 
         return handle_key(words, side, script);
     }
     let state = state_in(words);
-    // Kept as variables: read after the call, they would want a copy of the state.
-    let start = state.start;
-    let count = state.count;
     let effect = effect_of(state, side, script, log);
     let refusal = u32::from(number_of(effect.answer));
     let handled = HandledWords {
@@ -401,7 +395,7 @@ fn handle_side(words: &mut Words, side: Side, script: &[u8], log: &mut [u8]) -> 
         return handled;
     }
     put_keyboard(words, side, effect.state.keyboard_at(side));
-    put_new(words, start, count, effect.state, effect.event);
+    put_new(words, state.start, state.count, effect.state, effect.event);
     handled
 }
 
@@ -453,7 +447,7 @@ pub fn handle_words(words: &mut [u64], side: u32, script: &[u8], log: &mut [u8])
             _ => MEANS_NOTHING,
         });
     };
-    // Kept as two equal arms, each side by itself: most of what a call asks goes by the side. By `handle_at`, made `inline(always)`, a plain key took 15 ns and not 10.
+    // Kept as two equal arms, each side by itself: most of what a call asks goes by the side. With `handle_at` in both, `inline(always)`, a plain key took 15 ns and not 11.
     match side {
         1 => {
             if is_plain_key(words, Side::First, script) {
