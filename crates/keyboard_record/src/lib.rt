@@ -40,7 +40,7 @@ pub struct Table {
 }
 
 // All of the record but the places: what the handler remembers of each side's keyboard, what the table is laid with, and where in the places the events wait.
-// They stand in a ring: the oldest is at `start`, and `count` of them follow each other round the end. `sides` has the side of each, the oldest first.
+// They stand in a ring: the oldest is at `start`, and `count` of them follow each other round the end. `sides` has the side of each, the oldest first. Kept, no plainer: one count serves places and sides, and sides in bits are counted at once.
 // In this order the waiting bytes of either keyboard begin at a multiple of 16, where a copy of the state, 16 bytes at a time, takes them whole.
 #[derive(Clone, Copy)]
 pub struct HandlerState {
@@ -83,7 +83,7 @@ pub struct MalformedRecord;
 // What a taking from the queue answers: the oldest event, none, or the refusal.
 pub type TakenEvent = Result<Option<SideEvent>, MalformedRecord>;
 
-// What a taking gives back.
+// What a taking gives back. Kept, a rule of the project: document 01 has a call take and give records by value.
 #[derive(Clone, Copy)]
 pub struct Taken {
     pub event: TakenEvent,
@@ -91,7 +91,7 @@ pub struct Taken {
 }
 
 impl MalformedRecord {
-    // The number that document 01 gives to it.
+    // The number that document 01 gives to it. Kept, no plainer: the documents call it a number, and `u8::from(refusal)` says less.
     pub fn number(self) -> u8
         ensures { result ≡ number_answered (said_taken (Err self)) }
     {
@@ -197,7 +197,7 @@ impl HandlerState {
     pub fn room_of(self, side: Side) -> Result<(), NoRoom>
         ensures { said_room result ≡ room side self }
     {
-        if matches!(self.table.keyboards, Keyboards::Two) && self.has_share(side) {
+        if self.table.keyboards == Keyboards::Two && self.has_share(side) {
             return Err(NoRoom::SideFull);
         }
         if QUEUE_LENGTH <= self.count {
@@ -280,7 +280,7 @@ impl KeyboardHandler {
     }
 }
 
-// The same, by value.
+// The same, by value, as document 01 has it.
 pub fn take_event(mut handler: KeyboardHandler) -> Taken
     ensures { left (said_taken result.event) result.handler ≡ taken handler }
 {
