@@ -15,7 +15,7 @@ means_nothing = 255
 abbrev pub identity_at : ℕ → Option MouseId
 identity_at n = decode some none mouse_ids n
 
--- The identity that was found, in the option of the definitions.
-abbrev pub said_identity : rust.Option MouseId → Option MouseId
-said_identity (Some id) = some id
-said_identity None = none
+-- What was found, in the option of the definitions.
+abbrev pub said_found : {X : Type 0} → rust.Option X → Option X
+said_found (Some x) = some x
+said_found None = none

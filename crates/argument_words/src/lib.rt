@@ -2,7 +2,7 @@
 #![tactic(auto, unfolding(bits::specs::Table::decode))]
 
 ghost use Rattle.std.specs.Prelude.{◌≡◌};
-ghost use Rattle.argument_words.specs.Arguments.{identity_at, said_identity};
+ghost use Rattle.argument_words.specs.Arguments.{identity_at, said_found};
 
 use ps2_bytes::MouseId;
 
@@ -11,7 +11,7 @@ pub const MEANS_NOTHING: u32 = 255;
 
 // The mouse's identity that a number stands for, if any. Such two lines stand in mouse_words and bytes_words too: one function over `TryFrom<u8>` could only promise what that trait's law says of each type, and is no plainer.
 pub fn identity_of(identity: u32) -> Option<MouseId>
-    ensures { said_identity result ≡ identity_at identity }
+    ensures { said_found result ≡ identity_at identity }
 {
     let byte = u8::try_from(identity).ok()?;
     MouseId::try_from(byte).ok()

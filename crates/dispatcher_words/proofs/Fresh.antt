@@ -11,7 +11,7 @@ use Rattle.ps2_bytes.specs.declared.response.MouseId.{MouseId}
 use Rattle.std.specs.Prelude.{Some}
 use Rattle.std.specs.Array.{IsWholeChunk}
 use Rattle.std.specs.Prelude as rust
-use Rattle.argument_words.specs.Arguments.{identity_at, said_identity}
+use Rattle.argument_words.specs.Arguments.{identity_at, said_found}
 use Rattle.keyboard_record.specs.declared.Table.{Table}
 use Rattle.handler_words.specs.Layout.{words_length}
 use Rattle.handler_words.specs.Arguments.{table_at}
@@ -43,7 +43,7 @@ module _ (id : MouseId) (ws : List ℕ) (answer : ℕ) (us : List ℕ) (h : leng
 
 -- ---- by the identity that was found, on the numbers as they were lent at their length
 
-module _ {k p i : ℕ} {f : rust.Option MouseId} (q : said_identity f ≡ identity_at i) {id : MouseId} (e : f ≡ Some id) {ws vs : List ℕ} (lent : IsWholeChunk ws vs dispatcher_length)
+module _ {k p i : ℕ} {f : rust.Option MouseId} (q : said_found f ≡ identity_at i) {id : MouseId} (e : f ≡ Some id) {ws vs : List ℕ} (lent : IsWholeChunk ws vs dispatcher_length)
     {answer : ℕ} {us : List ℕ} (w : WordsFresh (handler_in vs) k p answer us) where
   pub at_no_table : (answer ≡ 0 → ⊥) → MadeFresh ws k p i answer (us ++ drop words_length vs)
   at_no_table n = record { is = rw (← q, e, lent.same) (refused id ws answer us lent.long n (table_at k p) (rw lent.same at w.is)) }

@@ -1,7 +1,6 @@
 -- What the numbers of an argument stand for.
 -- Assumes nothing.
-use Rattle.std.specs.Prelude.{cond, List, [], ◌∷◌, ℕ, ltb, Some, None}
-use Rattle.std.specs.Prelude as rust
+use Rattle.std.specs.Prelude.{cond, List, [], ◌∷◌, ℕ, ltb}
 use Rattle.std.proofs.Math.Option.{Option, none, some}
 use Rattle.bits.specs.Table.{rows, decode}
 use Rattle.ps2_layouts.specs.declared.leds.LEDState.{LEDState}
@@ -41,9 +40,3 @@ byte_limit = 256
 
 abbrev pub byte_at : ℕ → Option ℕ
 byte_at n = cond (ltb n byte_limit) (some n) none
-
--- ---- what the code found, in the option of the definitions
-
-abbrev pub said_found : {X : Type 0} → rust.Option X → Option X
-said_found (Some x) = some x
-said_found None = none

@@ -7,11 +7,11 @@ ghost use Rattle.ps2_bytes.specs.Data.{scancode_set_byte};
 ghost use Rattle.ps2_keyboard.specs.Keyboard.{reset_keyboard, set_scancode_set, get_scancode_set, read_scancode, keyboard_output_buffer_full};
 ghost use Rattle.ps2_detect.specs.Detection.{keyboard_detect};
 ghost use Rattle.preferences_application.specs.Application.{set_keyboard_repeat};
-ghost use Rattle.argument_words.specs.Arguments.{means_nothing};
+ghost use Rattle.argument_words.specs.Arguments.{means_nothing, said_found};
 ghost use Rattle.port_words.specs.Told.{refusing, no_value, byte_value, type_number, told};
 ghost use Rattle.port_words.specs.ToldKept.{refusing_kept, told_kept};
 ghost use Rattle.port_words.specs.Tells.{Tells, TellsReading, TellsAt};
-ghost use Rattle.keyboard_words.specs.Arguments.{command_at, lamps_at, scancode_set_at, byte_at, said_found};
+ghost use Rattle.keyboard_words.specs.Arguments.{command_at, lamps_at, scancode_set_at, byte_at};
 ghost use Rattle.keyboard_words.specs.Operations.{sending_command, setting_lamps, KeyboardInitialized};
 
 use argument_words::MEANS_NOTHING;
@@ -62,14 +62,6 @@ fn set_of(number: u32) -> Option<ScancodeSet>
     }
 }
 
-// A number below 256, which its caller has asked: `u8::try_from` would ask again.
-fn byte_of(number: u32) -> u8
-    requires { number < 256 }
-    ensures { result ≡ number }
-{
-    number as u8
-}
-
 // ---- the operations
 
 // Kept as two slices here and below: document 01 has each call take a script and a log.
@@ -84,6 +76,7 @@ pub fn keyboard_init(
 ) -> PortWords
     ensures { KeyboardInitialized words.old keyboards profile script.now log.old result words.new log.new }
 {
+    // Kept, C interface: C lends a pointer and a length, and `fresh_words` gives it a number, 0 where nothing is refused.
     let refusal = fresh_words(words, keyboards, profile);
     if refusal != 0 {
         return refusing_words(refusal);
@@ -122,7 +115,7 @@ pub fn keyboard_lamps(lamps: u32, script: &[u8], log: &mut [u8]) -> KeptWords
     ensures { TellsAt (refusing_kept means_nothing) told_kept setting_lamps (lamps_at lamps) script.now log.old result log.new }
 {
     if lamps < 8 {
-        let leds = LEDState::from(byte_of(lamps));
+        let leds = LEDState::from(lamps as u8);
         return commanded_words(set_keyboard_led(script, log, leds));
     }
     refusing_kept_words(MEANS_NOTHING)
@@ -156,10 +149,10 @@ pub fn keyboard_detect(script: &[u8], log: &mut [u8]) -> PortWords
 pub fn keyboard_repeat(byte: u32, script: &[u8], log: &mut [u8]) -> PortWords
     ensures { TellsAt (refusing means_nothing) (told no_value) set_keyboard_repeat (byte_at byte) script.now log.old result log.new }
 {
-    if byte < 256 {
-        return answer_words(set_keyboard_repeat(script, log, byte_of(byte)));
+    match u8::try_from(byte) {
+        Ok(value) => answer_words(set_keyboard_repeat(script, log, value)),
+        Err(_) => refusing_words(MEANS_NOTHING),
     }
-    refusing_words(MEANS_NOTHING)
 }
 
 // Whether there is a byte of the keyboard to read: the value is 1 where there is.

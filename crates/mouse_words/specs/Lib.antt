@@ -1,4 +1,3 @@
 -- The mouse's operations by numbers.
 pub mod Arguments
 pub mod Left
-pub mod Parts

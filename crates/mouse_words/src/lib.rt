@@ -3,7 +3,7 @@
 
 ghost use Rattle.std.specs.Prelude.{◌≡◌};
 ghost use Rattle.bits.specs.Bits.{weigh};
-ghost use Rattle.argument_words.specs.Arguments.{means_nothing, identity_at};
+ghost use Rattle.argument_words.specs.Arguments.{means_nothing, identity_at, said_found};
 ghost use Rattle.ps2_bytes.specs.Responses.{mouse_id_byte};
 ghost use Rattle.ps2_answers.specs.Answers.{ended, used_of, pairs_of};
 ghost use Rattle.ps2_kept.specs.Kept.{keeping_thrown};
@@ -15,7 +15,6 @@ ghost use Rattle.port_words.specs.ToldPacket.{refusing_packet, told_packet};
 ghost use Rattle.port_words.specs.Tells.{Tells, TellsReading, TellsAt, TellsReadingAt};
 ghost use Rattle.mouse_words.specs.Arguments.{command_at, rate_at, resolution_at};
 ghost use Rattle.mouse_words.specs.Left.{left_numbers, TellsLeftAt};
-ghost use Rattle.mouse_words.specs.Parts.{found};
 
 use argument_words::{MEANS_NOTHING, identity_of};
 use port_words::{
@@ -31,7 +30,7 @@ use ps2_packet_reading::read_signed_packet;
 
 // The command that a number stands for: C passes it as its byte, which no one else reads.
 fn command_of(byte: u32) -> Option<HostToMouseCommand>
-    ensures { found result ≡ command_at byte }
+    ensures { said_found result ≡ command_at byte }
 {
     match byte {
         0xE6 => Some(HostToMouseCommand::SetScaling),
@@ -53,9 +52,9 @@ fn command_of(byte: u32) -> Option<HostToMouseCommand>
     }
 }
 
-// The sampling rate that a number stands for.
+// The sampling rate that a number stands for. Kept, no plainer: one function over `TryFrom<u8>` would have the promise of a type, where each says its table here.
 fn rate_of(rate: u32) -> Option<MouseSampleRate>
-    ensures { found result ≡ rate_at rate }
+    ensures { said_found result ≡ rate_at rate }
 {
     let byte = u8::try_from(rate).ok()?;
     MouseSampleRate::try_from(byte).ok()
@@ -63,7 +62,7 @@ fn rate_of(rate: u32) -> Option<MouseSampleRate>
 
 // The resolution that a number stands for.
 fn resolution_of(resolution: u32) -> Option<MouseResolution>
-    ensures { found result ≡ resolution_at resolution }
+    ensures { said_found result ≡ resolution_at resolution }
 {
     let byte = u8::try_from(resolution).ok()?;
     MouseResolution::try_from(byte).ok()

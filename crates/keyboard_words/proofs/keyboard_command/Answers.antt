@@ -2,7 +2,7 @@
 -- Assumes nothing.
 use mathlib.Core.Path.{refl, ap, sym, ◌∙◌}
 use Rattle.port_words.proofs.Tells.{tells_kept, at_some, at_none}
-use Rattle.keyboard_words.specs.Arguments.{said_found}
+use Rattle.argument_words.specs.Arguments.{said_found}
 use Rattle.keyboard_words.proofs.keyboard_command.Goals as goal
 
 pub returns-in-Some : goal.returns-in-Some

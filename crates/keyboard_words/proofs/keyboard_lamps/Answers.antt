@@ -12,7 +12,7 @@ abbrev lit : ℕ → LEDState
 lit n = record { bits = n }
 
 pub returns-then-lamps-lt8 : goal.returns-then-lamps-lt8
-returns-then-lamps-lt8 c = at_some c.from-leds.result (below 8 _ _ c.if-lamps-lt8.true ∙ ap some (ap lit (sym c.byte_of.ensures ∙ sym c.from-leds.ensures)))
+returns-then-lamps-lt8 c = at_some c.from-leds.result (below 8 _ _ c.if-lamps-lt8.true ∙ ap some (ap lit (sym c.from-leds.ensures)))
     (tells_kept c.set_keyboard_led.ensures c.commanded_words.ensures)
 
 pub returns : goal.returns
