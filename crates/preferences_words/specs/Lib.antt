@@ -2,4 +2,3 @@
 pub mod Record
 pub mod Writing
 pub mod Reading
-pub mod Parts

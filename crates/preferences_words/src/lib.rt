@@ -2,22 +2,23 @@
 #![tactic(auto)]
 
 ghost use Rattle.std.specs.Prelude.{◌≡◌};
-ghost use Rattle.preferences_coding.specs.Reading.{read1, read2, refusal_number};
+ghost use Rattle.preferences_coding.specs.Reading.{read1, read2, said_read2, refusal_number};
 ghost use Rattle.exchange.specs.Answer.{refuses};
-ghost use Rattle.argument_words.specs.Arguments.{means_nothing};
+ghost use Rattle.argument_words.specs.Arguments.{means_nothing, said_found};
 ghost use Rattle.preferences_application.specs.Application.{apply_preferences};
 ghost use Rattle.port_words.specs.Told.{refusing, no_value, told};
 ghost use Rattle.port_words.specs.Tells.{TellsAt};
 ghost use Rattle.preferences_words.specs.Record.{preferences_at, words_of};
 ghost use Rattle.preferences_words.specs.Writing.{WordsWritten};
 ghost use Rattle.preferences_words.specs.Reading.{told_read, as_version1};
-ghost use Rattle.preferences_words.specs.Parts.{said_found};
 
 use argument_words::MEANS_NOTHING;
 use port_words::{PortWords, answer_words, refusing_words};
 use preferences::{Fields, Preferences};
 use preferences_application::apply_preferences;
 use preferences_coding::{ReadRefusal, read_preferences_1, read_preferences_2, write_preferences};
+
+// The three structs have a 0 beside what is given, and no `Result`: C reads them, and names a struct for each.
 
 // A record of version 1 or 2: its fields in their order. Version 1 has no repeat byte: it is not looked at, and 0 where it is given back.
 #[repr(C)]
@@ -47,7 +48,7 @@ pub struct PreferencesWrittenWords {
     pub written: usize,
 }
 
-// The record that six numbers stand for, if any.
+// The record that six numbers stand for, if any. Kept, no plainer, here and below: a name says which numbers stand for which, where `from` would say less.
 #[tactic(auto, unfolding(crate::specs::Record::preferences_at))]
 fn preferences_of(words: PreferencesWords) -> Option<Preferences>
     ensures { said_found result ≡ preferences_at words }
@@ -106,7 +107,20 @@ fn refused(refusal: ReadRefusal) -> PreferencesReadWords
     }
 }
 
-// Writes a record to the start of an output. What is not written stays as it was; a refusal writes nothing.
+// A reading's answer.
+fn read_words(read: Result<Preferences, ReadRefusal>) -> PreferencesReadWords
+    ensures { result ≡ told_read (said_read2 read) }
+{
+    match read {
+        Ok(preferences) => PreferencesReadWords {
+            refusal: 0,
+            preferences: words_of(preferences),
+        },
+        Err(refusal) => refused(refusal),
+    }
+}
+
+// Writes a record to the start of an output. What is not written stays as it was; a refusal writes nothing. Kept as a slice: C lends the output, and there is no heap.
 pub fn write(preferences: PreferencesWords, output: &mut [u8]) -> PreferencesWrittenWords
     ensures { WordsWritten preferences output.old result output.new }
 {
@@ -132,26 +146,14 @@ pub fn write(preferences: PreferencesWords, output: &mut [u8]) -> PreferencesWri
 pub fn read_1(input: &[u8]) -> PreferencesReadWords
     ensures { result ≡ told_read (as_version1 (read1 input.now)) }
 {
-    match read_preferences_1(input) {
-        Ok(fields) => PreferencesReadWords {
-            refusal: 0,
-            preferences: words_of(Preferences::Version1(fields)),
-        },
-        Err(refusal) => refused(refusal),
-    }
+    read_words(read_preferences_1(input).map(Preferences::Version1))
 }
 
 // The version 2 reader, which takes records of both versions.
 pub fn read_2(input: &[u8]) -> PreferencesReadWords
     ensures { result ≡ told_read (read2 input.now) }
 {
-    match read_preferences_2(input) {
-        Ok(preferences) => PreferencesReadWords {
-            refusal: 0,
-            preferences: words_of(preferences),
-        },
-        Err(refusal) => refused(refusal),
-    }
+    read_words(read_preferences_2(input))
 }
 
 // Kept as two slices: document 01 has each call take a script and a log.

@@ -2,7 +2,7 @@
 -- Assumes nothing.
 use mathlib.Core.Path.{refl, sym, ap, ◌∙◌}
 use Rattle.port_words.proofs.Tells.{tells_played, at_some, at_none}
-use Rattle.preferences_words.specs.Parts.{said_found}
+use Rattle.argument_words.specs.Arguments.{said_found}
 use Rattle.preferences_words.proofs.apply.Goals as goal
 
 pub returns : goal.returns

@@ -1,7 +1,7 @@
 -- `preferences_words::write` meets its contract.
 -- Assumes nothing.
 use mathlib.Core.Path.{refl, sym, ap, ◌∙◌}
-use Rattle.preferences_words.specs.Parts.{said_found}
+use Rattle.argument_words.specs.Arguments.{said_found}
 use Rattle.preferences_words.proofs.Writing.{written_known, written_nothing}
 use Rattle.preferences_words.proofs.write.Goals as goal
 
