@@ -37,7 +37,7 @@ pub struct MeanWords {
     pub remainder: u64,
 }
 
-// Adds a session of a mouse whose identity is 0, 3 or 4, and answers the refusal's number: 255 where the identity is another.
+// Adds a session of a mouse whose identity is 0, 3 or 4, and answers the refusal's number: 255 where the identity is another. Kept, C interface, here and below: C passes a session's three parts by themselves.
 fn add_session<R: Season>(report: &mut R, identity: u32, events: &[u8], mouse: &[u8]) -> u32
     ensures { record { refusal = result; report = report.new } ≡ session_added R.LIMITS R.told R.having (identity_at identity) report.old events.now mouse.now }
 {
@@ -47,6 +47,7 @@ fn add_session<R: Season>(report: &mut R, identity: u32, events: &[u8], mouse: &
     }
 }
 
+// Kept, no plainer: two callers name it, and `from` would say less.
 fn mean_words(mean: Option<WholeMean>) -> MeanWords
     ensures { result ≡ mean_words mean }
 {
@@ -64,9 +65,22 @@ fn mean_words(mean: Option<WholeMean>) -> MeanWords
     }
 }
 
+// The mean movement sideways, and upwards, of a report of either width.
+pub fn mean_x<R: Season>(report: R) -> MeanWords
+    ensures { result ≡ mean_words (mean_of (R.told report).x (R.told report).packets) }
+{
+    mean_words(report.mean_x())
+}
+
+pub fn mean_y<R: Season>(report: R) -> MeanWords
+    ensures { result ≡ mean_words (mean_of (R.told report).y (R.told report).packets) }
+{
+    mean_words(report.mean_y())
+}
+
 // ---- the report in 32 bits
 
-// A report of no session.
+// A report of no session. Kept, as in report: the two widths have an `empty` each.
 pub fn report_empty() -> Report
     ensures { result ≡ report_of no_totals }
 {
@@ -84,18 +98,6 @@ pub fn report_add(
 {
     let refusal = add_session(&mut report, identity, events, mouse);
     ReportAddedWords { refusal, report }
-}
-
-pub fn report_mean_x(report: Report) -> MeanWords
-    ensures { result ≡ mean_words (mean_of report.x report.packets) }
-{
-    mean_words(report.mean_x())
-}
-
-pub fn report_mean_y(report: Report) -> MeanWords
-    ensures { result ≡ mean_words (mean_of report.y report.packets) }
-{
-    mean_words(report.mean_y())
 }
 
 // ---- the report in 64 bits
@@ -128,16 +130,4 @@ pub fn long_report_add(
         refusal,
         report: long,
     }
-}
-
-pub fn long_report_mean_x(long: LongReport) -> MeanWords
-    ensures { result ≡ mean_words (mean_of long.totals.x long.totals.packets) }
-{
-    mean_words(long.mean_x())
-}
-
-pub fn long_report_mean_y(long: LongReport) -> MeanWords
-    ensures { result ≡ mean_words (mean_of long.totals.y long.totals.packets) }
-{
-    mean_words(long.mean_y())
 }

@@ -10,9 +10,8 @@ ghost use Rattle.report_words.specs.Words.{mean_words, report_added, long_added}
 use report::Report;
 use report_long::LongReport;
 use report_words::{
-    LongAddedWords, MeanWords, ReportAddedWords, long_report_add, long_report_empty,
-    long_report_mean_x, long_report_mean_y, report_add, report_empty, report_mean_x, report_mean_y,
-    report_widen,
+    LongAddedWords, MeanWords, ReportAddedWords, long_report_add, long_report_empty, mean_x,
+    mean_y, report_add, report_empty, report_widen,
 };
 
 // A report of no session.
@@ -41,14 +40,14 @@ pub extern "C" fn vd_report_add(
 pub extern "C" fn vd_report_mean_x(report: Report) -> MeanWords
     ensures { result ≡ mean_words (mean_of report.x report.packets) }
 {
-    report_mean_x(report)
+    mean_x(report)
 }
 
 #[unsafe(no_mangle)]
 pub extern "C" fn vd_report_mean_y(report: Report) -> MeanWords
     ensures { result ≡ mean_words (mean_of report.y report.packets) }
 {
-    report_mean_y(report)
+    mean_y(report)
 }
 
 // An old report in 64 bits, with no number changed.
@@ -85,12 +84,12 @@ pub extern "C" fn vd_long_report_add(
 pub extern "C" fn vd_long_report_mean_x(long: LongReport) -> MeanWords
     ensures { result ≡ mean_words (mean_of long.totals.x long.totals.packets) }
 {
-    long_report_mean_x(long)
+    mean_x(long)
 }
 
 #[unsafe(no_mangle)]
 pub extern "C" fn vd_long_report_mean_y(long: LongReport) -> MeanWords
     ensures { result ≡ mean_words (mean_of long.totals.y long.totals.packets) }
 {
-    long_report_mean_y(long)
+    mean_y(long)
 }
