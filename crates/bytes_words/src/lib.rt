@@ -11,7 +11,7 @@ ghost use Rattle.bytes_words.specs.Outputs.{StreamConverted, TextTyped, Recordin
 
 use argument_words::{MEANS_NOTHING, identity_of};
 use keyboard_modifiers::KeyboardModifiers;
-use keycodes_ascii::{KeyAction, Keycode};
+use keycodes_ascii::{KEY_RELEASED_OFFSET, KeyAction, Keycode};
 
 // What a conversion answers: the refusal's number, 0 where there is none; bytes of the stream used, bytes of the output written.
 #[repr(C)]
@@ -67,15 +67,15 @@ fn action_of(action: u32) -> Option<KeyAction>
 }
 
 // The keycode that has this number.
+#[tactic(auto, using(keycodes_ascii::proofs::Codes::ok_read, crate::proofs::Keys::keycode_above))]
 fn keycode_of(keycode: u32) -> Option<Keycode>
     ensures { result ≡ keycode_of keycode }
 {
-    if keycode < 256 {
-        return Keycode::try_from(keycode as u8).ok();
-    }
-    None
+    let byte = u8::try_from(keycode).ok()?;
+    Keycode::try_from(byte).ok()
 }
 
+// The number of a character. Kept, no plainer: the arm shows that no character is 0.
 fn character_number(found: Option<u8>) -> u32
     ensures { result ≡ character_number found }
 {
@@ -95,13 +95,14 @@ pub fn character(keycode: u32, flags: u32) -> u32
     }
 }
 
-// The byte by which a report takes the press or the release of the key with this number.
+// The byte by which a report takes the press or the release of the key with this number. Kept beside report_totals' `event_code`, which is of an event with its flags: C passes a number.
 fn code_of(action: KeyAction, number: u32) -> u32
     ensures { result ≡ code_of action number }
 {
+    let offset = u32::from(KEY_RELEASED_OFFSET);
     match action {
         KeyAction::Pressed => number,
-        KeyAction::Released => number % 128 + 128,
+        KeyAction::Released => number % offset + offset,
     }
 }
 
@@ -121,10 +122,7 @@ pub fn convert_set2(stream: &[u8], out: &mut [u8]) -> ConvertedWords
 {
     let converted = scancode_set2::convert(stream, out);
     ConvertedWords {
-        refusal: match converted.answer {
-            Ok(()) => 0,
-            Err(refusal) => u32::from(refusal.number()),
-        },
+        refusal: converted.answer.err().map_or(0, |r| u32::from(r.number())),
         used: converted.used,
         written: converted.written,
     }
@@ -159,10 +157,7 @@ pub fn salvage(
         Some(id) => {
             let salvaged = ps2_salvage::salvage(id, bytes, packets, positions);
             SalvagedWords {
-                refusal: match salvaged.answer {
-                    Ok(()) => 0,
-                    Err(refusal) => u32::from(refusal.number()),
-                },
+                refusal: salvaged.answer.err().map_or(0, |r| u32::from(r.number())),
                 used: salvaged.used,
                 packet_bytes: salvaged.packet_bytes,
                 dropped: salvaged.dropped,
