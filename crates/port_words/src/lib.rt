@@ -81,6 +81,15 @@ impl Value for u8 {
     }
 }
 
+// Of numbers wider than a byte too, each is its own.
+impl Value for u64 {
+    ghost worth = { byte_value };
+
+    fn number(self) -> u64 {
+        self
+    }
+}
+
 // 1 where it is so.
 impl Value for bool {
     ghost worth = { weigh };
@@ -106,6 +115,7 @@ impl Value for MouseId {
     }
 }
 
+// Kept, C interface: these are C's numbers, and a keyboard tells its type by others.
 impl Value for KeyboardType {
     ghost worth = { type_number };
 
@@ -143,7 +153,7 @@ fn port_lacked(refusal: Refusal) -> u32
     }
 }
 
-// An answer, and its value's number.
+// An answer, and its value's number. Kept, no plainer, here and below: the name says what is told, where `from` would say less.
 pub fn answer_words<V: Value>(answer: Answer<V>) -> PortWords
     ensures { result ≡ told V.worth (ended answer) (used_of answer) (pairs_of answer) }
 {
