@@ -11,7 +11,7 @@ use keyboard_record::KeyboardHandler;
 use keyboard_sides::Side;
 
 // What the call gives back beside the record, which it changes in place.
-// Kept: `lamps_failed` is document 01's 14, shown beside the answer and not in its place; script and log are two slices, as a call of document 01 takes them.
+// Kept: `lamps_failed` is document 01's 14, shown beside the answer and not in its place; script and log are two slices, and `used` and `pairs` stand beside every answer, as document 01 has it.
 #[derive(Clone, Copy)]
 pub struct HandledInPlace {
     pub answer: HandlerAnswer,
@@ -21,7 +21,7 @@ pub struct HandledInPlace {
     pub dropped: u32,
 }
 
-// A handler call for a side that changes the record in place.
+// A handler call for a side that changes the record in place. Kept, a rule of the project: document 01 has this one thin entry beside the by-value call.
 pub fn handle_in_place(
     handler: &mut KeyboardHandler,
     side: Side,

@@ -26,7 +26,7 @@ impl OutOfRange {
     }
 }
 
-// The number of an answer: 0 where nothing is refused.
+// The number of an answer: 0 where nothing is refused. Kept, C interface: C has no `Result`, and documents 01 and 02 give numbers.
 pub fn answer_number(answer: Result<(), OutOfRange>) -> u8
     ensures { result ≡ answer_number answer }
 {
@@ -48,7 +48,7 @@ pub struct Limits {
 
 // Kept, C interface: C has the counts of the 94 keys as an array, so they are one here and in each report.
 
-// Two counts together.
+// Two counts together. Kept, no plainer, here and for sums: `checked_add` is no trait's, and a sum has a lower limit too.
 fn add_count(most: u64, old: u64, more: u64) -> Result<u64, OutOfRange>
     ensures { result ≡ count_within most (old + more) }
 {
@@ -58,7 +58,7 @@ fn add_count(most: u64, old: u64, more: u64) -> Result<u64, OutOfRange>
     }
 }
 
-// The counts of each key together.
+// The counts of each key together. Kept, no plainer: the loop ends at the first count that is too high.
 fn add_counts(most: u64, old: [u64; 94], more: [u64; 94]) -> Result<[u64; 94], OutOfRange>
     ensures { result ≡ counts_within most (for_each_key (λ key. get_or old key 0 + get_or more key 0)) }
 {
@@ -178,7 +178,7 @@ pub trait Season: Copy {
         Ok(())
     }
 
-    // The mean movement sideways, and upwards.
+    // The mean movement sideways, and upwards. Kept, no plainer: they differ in a field, and one function for both would take a closure.
     final fn mean_x(self) -> Option<WholeMean>
         ensures { result ≡ mean_of (told self).x (told self).packets }
     {
@@ -196,7 +196,7 @@ pub trait Season: Copy {
 
 // ---- the report in 32 bits
 
-// Presses for each key, packets, and sums of x and y.
+// Presses for each key, packets, and sums of x and y. Kept beside `Totals`, C interface: C has a report of each width.
 #[repr(C)]
 #[derive(Clone, Copy)]
 pub struct Report {
@@ -241,7 +241,7 @@ fn narrow_counts(counts: [u64; 94]) -> [u32; 94]
 }
 
 impl Report {
-    // A report of no session.
+    // A report of no session. Kept, no plainer: one `empty` in `Season` would want a law of each width that 0 is within its limits, and narrow 94 zeros.
     pub fn empty() -> Report
         ensures { result ≡ report_of no_totals }
     {

@@ -70,7 +70,7 @@ fn packet_at(bytes: &[u8], at: usize) -> MousePacketGeneric
     MousePacketGeneric::from_bytes(bytes[at], bytes[at + 1], bytes[at + 2])
 }
 
-// The packets of so many bytes and the sums of x and y, packet by packet.
+// The packets of so many bytes and the sums of x and y, packet by packet. Kept, no plainer: `chunks_exact` gives slices whose length each turn would have to show.
 fn pass<const N: usize>(bytes: &[u8]) -> Moved
     requires length { (id : MouseId) × (packet_length id ≡ N) }
     requires room { length bytes.now < tally_bytes }
