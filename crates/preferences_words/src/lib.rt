@@ -18,7 +18,7 @@ use preferences::{Fields, Preferences};
 use preferences_application::apply_preferences;
 use preferences_coding::{ReadRefusal, read_preferences_1, read_preferences_2, write_preferences};
 
-// The three structs have a 0 beside what is given, and no `Result`: C reads them, and names a struct for each.
+// Kept, C interface, all three structs: C reads them, so a refusal stands beside what is given, and C names a struct for each.
 
 // A record of version 1 or 2: its fields in their order. Version 1 has no repeat byte: it is not looked at, and 0 where it is given back.
 #[repr(C)]
