@@ -22,6 +22,7 @@ pub struct KeyboardInitialized {
 }
 
 // Initialises the first keyboard, with a fresh record for a table: one keyboard or two, and a profile.
+// Kept as two slices here and below: document 01 has each call take a script and a log.
 pub fn keyboard_init(table: Table, script: &[u8], log: &mut [u8]) -> KeyboardInitialized
     ensures { (told result.answer log.new ≡ play keyboard_init script.now log.old) × (result.handler ≡ fresh table) }
 {

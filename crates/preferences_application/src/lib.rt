@@ -115,7 +115,7 @@ fn apply_four(script: &[u8], log: &mut [u8], four: Fields) -> Answer<()>
     )
 }
 
-// Sets settings, one after another.
+// Sets settings, one after another. Kept beside the loop of ps2_mouse_identity, no plainer: a closure for the step would have to promise a play, and these lines are no longer.
 fn apply_settings(script: &[u8], log: &mut [u8], settings: [Setting; 4]) -> Answer<()>
     ensures { told result log.new ≡ play (apply_settings settings) script.now log.old }
 {

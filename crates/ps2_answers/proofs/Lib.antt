@@ -2,3 +2,4 @@
 pub mod Refusals
 pub mod Then
 pub mod Reading
+pub mod Forgiving

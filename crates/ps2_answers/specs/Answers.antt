@@ -1,12 +1,14 @@
 -- What the code's answers say of the end of a play, and an answer with the counts of what came before it.
 -- Assumes nothing.
 use Rattle.std.specs.Prelude.{ℕ, ◌+◌, ◌%◌, ◌^◌, List, Result, Ok, Err}
-use Rattle.exchange.specs.Exchange.{End, yields, Played, played}
+use Rattle.exchange.specs.Exchange.{Exchange, End, yields, Played, played, Reads, Writes}
 use Rattle.exchange.specs.Answer.{Answer, gives}
 use Rattle.exchange.specs.Repeat.{Turn, found_end}
 use Rattle.ps2_answers.specs.Refusals.{refused}
 use Rattle.ps2_answers.specs.declared.Counted.{Counted}
+use Rattle.ps2_answers.specs.declared.Failure.{Failure}
 use Rattle.ps2_answers.specs.declared.Refusal.{Refusal}
+use Rattle.ps2_answers.specs.declared.Refusal.TheVariants.{Lacking, Failed}
 
 abbrev pub counted : {V : Type 0} → V → ℕ → ℕ → Counted V
 counted v u w = record { value = v; used = u; pairs = w }
@@ -34,6 +36,13 @@ pairs_of (Err e) = e.pairs
 abbrev pub told : {T : Type 0} → Result (Counted T) (Counted Refusal) → List ℕ → Played (Answer T)
 told r log = played (ended r) (used_of r) (pairs_of r) log
 
+-- What a code function promises that has a script alone, or a log alone: the operation, with the end and the counts that the answer tells.
+abbrev pub ReadsTold : {T : Type 0} → Exchange (Answer T) → List ℕ → Result (Counted T) (Counted Refusal) → Type 0
+ReadsTold t script r = Reads t script (ended r) (used_of r) (pairs_of r)
+
+abbrev pub WritesTold : {T : Type 0} → Exchange (Answer T) → List ℕ → Result (Counted T) (Counted Refusal) → List ℕ → Type 0
+WritesTold t log r log_left = Writes t log (ended r) (used_of r) (pairs_of r) log_left
+
 -- A sum of two counts, as code adds them.
 abbrev pub sum : ℕ → ℕ → ℕ
 sum m n = (m + n) % 2 ^ 64
@@ -42,3 +51,17 @@ sum m n = (m + n) % 2 ^ 64
 abbrev pub behind : {V T : Type 0} → Counted V → Result (Counted T) (Counted Refusal) → Result (Counted T) (Counted Refusal)
 behind a (Ok b) = Ok (counted b.value (sum a.used b.used) (sum a.pairs b.pairs))
 behind a (Err e) = Err (counted e.value (sum a.used e.used) (sum a.pairs e.pairs))
+
+-- The answer that an outcome comes to, with the counts of what brought it.
+abbrev pub concluded : {V T : Type 0} → Counted V → Result T Failure → Result (Counted T) (Counted Refusal)
+concluded a (Ok v) = Ok (counted v a.used a.pairs)
+concluded a (Err f) = Err (counted (Failed f) a.used a.pairs)
+
+-- The outcome that an answer tells, a failure being one: "2 and 3 are .. forgiven by nothing", so a lack stays a refusal.
+abbrev pub outcome_at : {T : Type 0} → Refusal → ℕ → ℕ → Result (Counted (Result T Failure)) (Counted Refusal)
+outcome_at (Lacking l) u w = Err (counted (Lacking l) u w)
+outcome_at (Failed f) u w = Ok (counted (Err f) u w)
+
+abbrev pub outcome_of : {T : Type 0} → Result (Counted T) (Counted Refusal) → Result (Counted (Result T Failure)) (Counted Refusal)
+outcome_of (Ok a) = Ok (counted (Ok a.value) a.used a.pairs)
+outcome_of (Err e) = outcome_at e.value e.used e.pairs

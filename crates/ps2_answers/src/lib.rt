@@ -5,7 +5,7 @@ ghost use Rattle.std.specs.Prelude.{◌≡◌};
 ghost use Rattle.exchange.specs.Exchange.{number as port_number};
 ghost use Rattle.exchange.specs.Answer.{lack_number};
 ghost use Rattle.ps2_answers.specs.Refusals.{port_of, lack_of, number_of, refusal_number};
-ghost use Rattle.ps2_answers.specs.Answers.{counted, behind};
+ghost use Rattle.ps2_answers.specs.Answers.{counted, behind, concluded, outcome_of};
 
 // The controller's ports as they are read: data from 60, the status from 64.
 #[derive(Clone, Copy, PartialEq, Eq)]
@@ -144,5 +144,28 @@ impl<V: Copy> Counted<V> {
                 pairs: self.pairs.wrapping_add(refused.pairs),
             }),
         }
+    }
+
+    // The answer that an outcome comes to, with the same counts.
+    pub fn conclude<W: Copy>(self, outcome: Result<W, Failure>) -> Answer<W>
+        ensures { result ≡ concluded self outcome }
+    {
+        match outcome {
+            Ok(value) => Ok(self.with(value)),
+            Err(failure) => Err(self.with(Refusal::Failed(failure))),
+        }
+    }
+}
+
+// The outcome of an exchange, for a caller that may forgive a failure. Nothing forgives a lack: it stays a refusal.
+pub fn outcome<T: Copy>(answer: Answer<T>) -> Answer<Result<T, Failure>>
+    ensures { result ≡ outcome_of answer }
+{
+    match answer {
+        Ok(done) => Ok(done.with(Ok(done.value))),
+        Err(refused) => match refused.value {
+            Refusal::Lacking(_) => Err(refused),
+            Refusal::Failed(failure) => Ok(refused.with(Err(failure))),
+        },
     }
 }

@@ -2,14 +2,14 @@
 #![tactic(auto)]
 
 ghost use Rattle.std.specs.Prelude.{◌≡◌, ◌/◌, ◌<◌, ◌≤◌, ◌++◌, length, drop};
-ghost use Rattle.exchange.specs.Exchange.{told_end, played, play, Reads};
+ghost use Rattle.exchange.specs.Exchange.{told_end, played, play};
 ghost use Rattle.exchange.specs.Answer.{and_then, renumbered};
 ghost use Rattle.exchange.specs.Keeping.{kept_end};
 ghost use Rattle.ps2_answers.specs.Refusals.{number_of};
-ghost use Rattle.ps2_answers.specs.Answers.{ended, turn_end, used_of, pairs_of};
+ghost use Rattle.ps2_answers.specs.Answers.{ended, turn_end, used_of, pairs_of, ReadsTold};
 ghost use Rattle.ps2_kept.specs.Kept.{keeping_thrown};
 ghost use Rattle.ps2_kept.specs.Added.{keeping_onto};
-ghost use Rattle.ps2_kept.specs.Promises.{PlaysKept, told_kept};
+ghost use Rattle.ps2_kept.specs.Promises.{told_kept, PlaysKeptTold};
 ghost use Rattle.ps2_command.specs.Command.{command as command_rule, command_to_port2, command_by, attempt as attempt_rule, accepted, said_verdict, verdict as verdict_rule};
 ghost use Rattle.ps2_command.specs.AtOnce.{at_once, TwoWritten, TwoAtOnce};
 ghost use Rattle.ps2_command.specs.Replaced.{replaced_by};
@@ -25,7 +25,7 @@ use ps2_ports::{DevicePort, PS2_COMMAND_AND_STATUS_PORT, PS2_DATA_PORT, write_co
 // The attempts that a command has.
 const ATTEMPTS: u8 = 4;
 
-// A device's byte for a self test that it passed.
+// A device's byte for a self test that it passed. Kept as a byte, and the next: the wait compares bytes, and any other uses up its turn, listed or not.
 const SELF_TEST_PASSED: u8 = 0xAA;
 
 // A device's byte for a command that it accepts.
@@ -64,10 +64,7 @@ fn attempt_once(
     ensures { played (kept_end (turn_end accepted result) kept.new) (used_of result) (pairs_of result) log.new ≡ play (keeping_onto kept.old (attempt_rule value)) script.now log.old }
 {
     let response = polling_send_receive_keeping(script, log, value, kept)?;
-    match verdict(response.value) {
-        Ok(done) => Ok(response.with(done)),
-        Err(failure) => Err(response.with(Refusal::Failed(failure))),
-    }
+    response.conclude(verdict(response.value))
 }
 
 // A command to the device of the first port, or to whichever the controller was told to send the next byte to.
@@ -150,7 +147,7 @@ pub fn command_pair_onto(
     second: HostToDevice,
     before: KeptBytes,
 ) -> Commanded
-    ensures { PlaysKept (keeping_onto before (and_then (command_by port first) (λ _. command_by port second))) script.now log.old (ended result.answer) (used_of result.answer) (pairs_of result.answer) log.new result.kept }
+    ensures { PlaysKeptTold (keeping_onto before (and_then (command_by port first) (λ _. command_by port second))) script.now log.old result.answer log.new result.kept }
 {
     let mut kept = before;
     let answer = command_pair_keeping(script, log, port, first, second, &mut kept);
@@ -226,7 +223,7 @@ pub fn command_pair_at_once(
 
 // A command to the device of either port, with no byte kept before it.
 pub fn command_by(script: &[u8], log: &mut [u8], port: DevicePort, value: HostToDevice) -> Commanded
-    ensures { PlaysKept (keeping_thrown (command_by port value)) script.now log.old (ended result.answer) (used_of result.answer) (pairs_of result.answer) log.new result.kept }
+    ensures { PlaysKeptTold (keeping_thrown (command_by port value)) script.now log.old result.answer log.new result.kept }
 {
     let mut kept = none_kept();
     let answer = command_by_onto(script, log, port, value, &mut kept);
@@ -244,14 +241,14 @@ pub fn command_pair(
     first: HostToDevice,
     second: HostToDevice,
 ) -> Commanded
-    ensures { PlaysKept (keeping_thrown (and_then (command_by port first) (λ _. command_by port second))) script.now log.old (ended result.answer) (used_of result.answer) (pairs_of result.answer) log.new result.kept }
+    ensures { PlaysKeptTold (keeping_thrown (and_then (command_by port first) (λ _. command_by port second))) script.now log.old result.answer log.new result.kept }
 {
     command_pair_onto(script, log, port, first, second, none_kept())
 }
 
 // Reads data, without asking the status, until a device says that it passed its self test.
 pub fn read_self_test_result(script: &[u8], reads: u32) -> Answer<()>
-    ensures { Reads (self_test_within reads) script.now (ended result) (used_of result) (pairs_of result) }
+    ensures { ReadsTold (self_test_within reads) script.now result }
 {
     read_test_result(
         script,

@@ -2,13 +2,13 @@
 #![tactic(auto)]
 
 ghost use Rattle.std.specs.Prelude.{◌≡◌};
-ghost use Rattle.exchange.specs.Exchange.{play, Reads};
-ghost use Rattle.ps2_answers.specs.Answers.{ended, used_of, pairs_of, told};
+ghost use Rattle.exchange.specs.Exchange.{play};
+ghost use Rattle.ps2_answers.specs.Answers.{told, ReadsTold};
 ghost use Rattle.ps2_detect.specs.Detection.{type_search, keyboard_detect};
 ghost use Rattle.ps2_detect.specs.Parts.{enabled_after, identification};
 ghost use Rattle.ps2_detect.specs.Answers.{said_found, second_byte_read};
 
-use ps2_answers::{Answer, Counted, Failure, Refusal};
+use ps2_answers::{Answer, Counted, Failure, Refusal, outcome};
 use ps2_bytes::{HostToDevice, HostToKeyboardCommand, HostToKeyboardCommandOrData, KeyboardType};
 use ps2_command::command_pair;
 use ps2_keyboard::command_to_keyboard;
@@ -21,7 +21,7 @@ const ANCIENT: u8 = 0x00;
 const MF2: u8 = 0xAB;
 
 // Detects the type of the keyboard.
-// Kept as two slices here and below: document 01 has each call take a script and a log.
+// Kept as two slices here and below: document 01 has each call take a script and a log. Kept as cases in cases: it wants the bytes as enums in enums.
 pub fn keyboard_detect(script: &[u8], log: &mut [u8]) -> Answer<KeyboardType>
     ensures { told result log.new ≡ play keyboard_detect script.now log.old }
 {
@@ -45,13 +45,7 @@ pub fn keyboard_detect(script: &[u8], log: &mut [u8]) -> Answer<KeyboardType>
 fn identify(script: &[u8], log: &mut [u8]) -> Answer<KeyboardType>
     ensures { told result log.new ≡ play identification script.now log.old }
 {
-    let found = match poll_keyboard_type(script) {
-        Ok(recognised) => recognised.with(Ok(recognised.value)),
-        Err(refused) => match refused.value {
-            Refusal::Lacking(_) => return Err(refused),
-            Refusal::Failed(failure) => refused.with(Err(failure)),
-        },
-    };
+    let found = outcome(poll_keyboard_type(script))?;
     found.then(enable_scanning(&script[found.used..], log, found.value))
 }
 
@@ -69,16 +63,13 @@ fn enable_scanning(
         HostToKeyboardCommandOrData::KeyboardCommand(HostToKeyboardCommand::EnableScanning),
     );
     let accepted = enabled.answer?;
-    match found {
-        Ok(recognised) => Ok(accepted.with(recognised)),
-        Err(failure) => Err(accepted.with(Refusal::Failed(failure))),
-    }
+    accepted.conclude(found)
 }
 
 // Polls for the keyboard's identity. After AB the inner search decides, and the outer one does not go on.
 // Kept as nested `loop`s, left by a label: document 01 asks for this form here.
 fn poll_keyboard_type(script: &[u8]) -> Answer<KeyboardType>
-    ensures { Reads type_search script.now (ended result) (used_of result) (pairs_of result) }
+    ensures { ReadsTold type_search script.now result }
 {
     let mut at = Counted::new(None);
     let mut polls = POLL_LIMIT;
@@ -111,7 +102,7 @@ fn poll_keyboard_type(script: &[u8]) -> Answer<KeyboardType>
     }
 }
 
-// What the second byte of an identity says of the keyboard.
+// What the second byte of an identity says of the keyboard. Kept as a table, no plainer: two bytes say the translated keyboard, so no `TryFrom` of discriminants is one.
 fn second_byte(byte: u8) -> Option<KeyboardType>
     ensures { result ≡ second_byte_read byte }
 {

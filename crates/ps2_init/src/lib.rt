@@ -75,11 +75,7 @@ impl PS2Controller {
     pub fn mouse_ref(self) -> Option<PS2Mouse>
         ensures { result ≡ mouse_ref self }
     {
-        if self.mouse_attached {
-            Some(PS2Mouse::new())
-        } else {
-            None
-        }
+        self.mouse_attached.then_some(PS2Mouse::new())
     }
 }
 

@@ -23,3 +23,10 @@ pub record PlaysKept {A : Type 0} (t : Exchange (Kept KeptBytes A)) (script log 
 -- The play that an answer tells, with the bytes that are kept and the log as they are left.
 abbrev pub told_kept : {T : Type 0} → Result (Counted T) (Counted Refusal) → KeptBytes → List ℕ → Played (Kept KeptBytes (Answer T))
 told_kept r k log = played (kept_end (ended r) k) (used_of r) (pairs_of r) log
+
+-- The two promises, with the end and the counts that the answer tells.
+abbrev pub ReadsKeptTold : {T : Type 0} → Exchange (Kept KeptBytes (Answer T)) → List ℕ → Result (Counted T) (Counted Refusal) → KeptBytes → Type 0
+ReadsKeptTold t script r k = ReadsKept t script (ended r) (used_of r) (pairs_of r) k
+
+abbrev pub PlaysKeptTold : {T : Type 0} → Exchange (Kept KeptBytes (Answer T)) → List ℕ → List ℕ → Result (Counted T) (Counted Refusal) → List ℕ → KeptBytes → Type 0
+PlaysKeptTold t script log r log_left k = PlaysKept t script log (ended r) (used_of r) (pairs_of r) log_left k

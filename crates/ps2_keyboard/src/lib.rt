@@ -2,11 +2,11 @@
 #![tactic(auto)]
 
 ghost use Rattle.std.specs.Prelude.{◌≡◌};
-ghost use Rattle.exchange.specs.Exchange.{play, Reads};
-ghost use Rattle.ps2_answers.specs.Answers.{ended, used_of, pairs_of, told};
+ghost use Rattle.exchange.specs.Exchange.{play};
+ghost use Rattle.ps2_answers.specs.Answers.{told, ReadsTold};
 ghost use Rattle.ps2_kept.specs.Kept.{keeping_thrown};
 ghost use Rattle.ps2_kept.specs.Added.{keeping_onto};
-ghost use Rattle.ps2_kept.specs.Promises.{PlaysKept};
+ghost use Rattle.ps2_kept.specs.Promises.{PlaysKeptTold};
 ghost use Rattle.ps2_command.specs.AtOnce.{TwoAtOnce};
 ghost use Rattle.ps2_keyboard.specs.Keyboard.{command_to_keyboard, reset_keyboard, set_keyboard_led, set_port_led, command_scancode_set, get_scancode_set, set_scancode_set, read_scancode, keyboard_output_buffer_full};
 ghost use Rattle.ps2_keyboard.specs.Parts.{set_search};
@@ -26,12 +26,13 @@ use ps2_ports::{DevicePort, read_data, status_register};
 const RESET_READS: u32 = 262140;
 
 // A byte for the keyboard, by the command rule.
+// Kept as two slices here and below: document 01 has each call take a script and a log. Kept as cases in cases: it wants the bytes as enums in enums.
 pub fn command_to_keyboard(
     script: &[u8],
     log: &mut [u8],
     value: HostToKeyboardCommandOrData,
 ) -> Commanded
-    ensures { PlaysKept (keeping_thrown (command_to_keyboard value)) script.now log.old (ended result.answer) (used_of result.answer) (pairs_of result.answer) log.new result.kept }
+    ensures { PlaysKeptTold (keeping_thrown (command_to_keyboard value)) script.now log.old result.answer log.new result.kept }
 {
     command_by(
         script,
@@ -41,7 +42,6 @@ pub fn command_to_keyboard(
     )
 }
 
-// Kept as two slices here and below: document 01 has each call take a script and a log.
 // Resets the keyboard: it answers the command, and then says by a byte of its own that it passed its self test.
 pub fn reset_keyboard(script: &[u8], log: &mut [u8]) -> Answer<()>
     ensures { told result log.new ≡ play reset_keyboard script.now log.old }
@@ -57,7 +57,7 @@ pub fn reset_keyboard(script: &[u8], log: &mut [u8]) -> Answer<()>
 
 // Sets the keyboard's lamps, and hands back the bytes that the exchange threw away.
 pub fn set_keyboard_led(script: &[u8], log: &mut [u8], value: LEDState) -> Commanded
-    ensures { PlaysKept (keeping_thrown (set_keyboard_led value)) script.now log.old (ended result.answer) (used_of result.answer) (pairs_of result.answer) log.new result.kept }
+    ensures { PlaysKeptTold (keeping_thrown (set_keyboard_led value)) script.now log.old result.answer log.new result.kept }
 {
     set_port_led_onto(script, log, DevicePort::Port1, value, none_kept())
 }
@@ -70,7 +70,7 @@ pub fn set_port_led_onto(
     value: LEDState,
     before: KeptBytes,
 ) -> Commanded
-    ensures { PlaysKept (keeping_onto before (set_port_led port value)) script.now log.old (ended result.answer) (used_of result.answer) (pairs_of result.answer) log.new result.kept }
+    ensures { PlaysKeptTold (keeping_onto before (set_port_led port value)) script.now log.old result.answer log.new result.kept }
 {
     let c = command_pair_onto(
         script,
@@ -143,9 +143,9 @@ fn command_scancode_set(script: &[u8], log: &mut [u8], value: ScancodeSet) -> An
 }
 
 // Polls for a scancode set.
-// Kept as `loop`: document 01 asks for bounded loops that yield their answer by `break`.
+// Kept as `loop`, and as one of its own, as `read_test_result`: document 01 asks for bounded loops that yield their answer by `break`.
 fn poll_scancode_set(script: &[u8]) -> Answer<ScancodeSet>
-    ensures { Reads set_search script.now (ended result) (used_of result) (pairs_of result) }
+    ensures { ReadsTold set_search script.now result }
 {
     let mut at = Counted::new(None);
     let mut polls = POLL_LIMIT;
@@ -165,7 +165,7 @@ fn poll_scancode_set(script: &[u8]) -> Answer<ScancodeSet>
 
 // Whether there is a byte of the keyboard to read.
 pub fn is_output_buffer_full(script: &[u8]) -> Answer<bool>
-    ensures { Reads keyboard_output_buffer_full script.now (ended result) (used_of result) (pairs_of result) }
+    ensures { ReadsTold keyboard_output_buffer_full script.now result }
 {
     let status = status_register(script)?;
     Ok(status.with(status.value.output_buffer_full()))
@@ -173,7 +173,7 @@ pub fn is_output_buffer_full(script: &[u8]) -> Answer<bool>
 
 // Reads a scancode, without asking the status.
 pub fn read_scancode(script: &[u8]) -> Answer<u8>
-    ensures { Reads read_scancode script.now (ended result) (used_of result) (pairs_of result) }
+    ensures { ReadsTold read_scancode script.now result }
 {
     read_data(script)
 }

@@ -7,9 +7,9 @@ ghost use Rattle.exchange.specs.Answer.{refuses, and_then, refusing_as};
 ghost use Rattle.exchange.specs.Repeat.{repeat};
 ghost use Rattle.ps2_bytes.specs.Responses.{mouse_ids};
 ghost use Rattle.ps2_ports.specs.Ports.{flush_output_buffer};
-ghost use Rattle.ps2_answers.specs.Answers.{ended, turn_end, used_of, pairs_of, told};
+ghost use Rattle.ps2_answers.specs.Answers.{turn_end, used_of, pairs_of, told, ReadsTold};
 ghost use Rattle.ps2_kept.specs.Kept.{keeping_thrown};
-ghost use Rattle.ps2_kept.specs.Promises.{PlaysKept};
+ghost use Rattle.ps2_kept.specs.Promises.{PlaysKeptTold};
 ghost use Rattle.ps2_polling.specs.Polling.{poll_limit};
 ghost use Rattle.ps2_command.specs.Search.{poll_when, listed_turn, self_test_within};
 ghost use Rattle.ps2_mouse.specs.Mouse.{command_to_mouse, mouse_command, reset_reads, reset_mouse, set_sampling_rate, set_resolution, disable_packet_streaming, enable_packet_streaming, mouse_byte_waits, mouse_id as mouse_id_rule, mouse_output_buffer_full};
@@ -58,12 +58,12 @@ impl PS2Mouse {
         log: &mut [u8],
         value: HostToMouseCommandOrData,
     ) -> Commanded
-        ensures { PlaysKept (keeping_thrown (command_to_mouse value)) script.now log.old (ended result.answer) (used_of result.answer) (pairs_of result.answer) log.new result.kept }
+        ensures { PlaysKeptTold (keeping_thrown (command_to_mouse value)) script.now log.old result.answer log.new result.kept }
     {
         command_by(script, log, DevicePort::Port2, HostToDevice::Mouse(value))
     }
 
-    // Sets the mouse's sampling rate.
+    // Sets the mouse's sampling rate. Kept beside `mouse_resolution`, a rule of the project: the Rust's public functions keep their names. Both call `setting`, with cases of their own.
     pub fn set_mouse_sampling_rate(
         script: &[u8],
         log: &mut [u8],
@@ -87,7 +87,7 @@ impl PS2Mouse {
         accepted.then(receive_mouse_id(&script[accepted.used..]))
     }
 
-    // Starts the packets.
+    // Starts the packets. Kept beside the next for the Rust's names too.
     pub fn enable_mouse_packet_streaming(script: &[u8], log: &mut [u8]) -> Answer<()>
         ensures { told result log.new ≡ play enable_packet_streaming script.now log.old }
     {
@@ -117,21 +117,21 @@ impl PS2Mouse {
 
     // Reads the packet that a mouse of this identity sends, without asking the status. Its wheel at identity 4 is the Rust's, 0 to 15.
     pub fn read_mouse_packet(self, script: &[u8]) -> Answer<MousePacket>
-        ensures { Reads (read_mouse_packet self.id) script.now (ended result) (used_of result) (pairs_of result) }
+        ensures { ReadsTold (read_mouse_packet self.id) script.now result }
     {
         read_packet(self.id, script)
     }
 
     // Reads the same packet with the wheel at identity 4 signed, -8 to 7. A new program should read packets by this one.
     pub fn read_signed_packet(self, script: &[u8]) -> Answer<SignedPacket>
-        ensures { Reads (read_signed_packet self.id) script.now (ended result) (used_of result) (pairs_of result) }
+        ensures { ReadsTold (read_signed_packet self.id) script.now result }
     {
         read_signed_packet(self.id, script)
     }
 
     // Whether there is a byte of the mouse to read. Bit 0 alone would also be set for the FA before an identity.
     pub fn is_output_buffer_full(script: &[u8]) -> Answer<bool>
-        ensures { Reads mouse_output_buffer_full script.now (ended result) (used_of result) (pairs_of result) }
+        ensures { ReadsTold mouse_output_buffer_full script.now result }
     {
         let status = status_register(script)?;
         let waits = status.value.output_buffer_full();
@@ -140,7 +140,7 @@ impl PS2Mouse {
     }
 }
 
-// One of the mouse's commands. The bytes that were thrown away are dropped, here and below.
+// One of the mouse's commands. The bytes that were thrown away are dropped, here and below. Kept as cases in cases: document 01 wants the bytes as enums in enums.
 fn command(script: &[u8], log: &mut [u8], value: HostToMouseCommand) -> Answer<()>
     ensures { told result log.new ≡ play (mouse_command value) script.now log.old }
 {
@@ -168,15 +168,15 @@ fn setting(
 
 // Reads data, without asking the status, until the mouse says that it passed its self test, and one byte more.
 fn read_self_test_and_id(script: &[u8]) -> Answer<()>
-    ensures { Reads (and_then (self_test_within reset_reads) (λ _. flush_output_buffer)) script.now (ended result) (used_of result) (pairs_of result) }
+    ensures { ReadsTold (and_then (self_test_within reset_reads) (λ _. flush_output_buffer)) script.now result }
 {
     let passed = read_self_test_result(script, RESET_READS)?;
     passed.then(flush_output_buffer(&script[passed.used..]))
 }
 
-// Polls until an identity comes: a bounded loop that yields it by `break`, as document 01 requires.
+// Polls until an identity comes: a bounded loop that yields it by `break`, as document 01 requires. It is a loop of its own as `read_test_result` is.
 fn receive_mouse_id(script: &[u8]) -> Answer<MouseId>
-    ensures { Reads (repeat poll_limit (refuses 11) (poll_when mouse_byte_waits (listed_turn mouse_ids))) script.now (ended result) (used_of result) (pairs_of result) }
+    ensures { ReadsTold (repeat poll_limit (refuses 11) (poll_when mouse_byte_waits (listed_turn mouse_ids))) script.now result }
 {
     let mut at = Counted::new(None);
     let mut polls = POLL_LIMIT;
@@ -209,8 +209,5 @@ fn poll_mouse_id(script: &[u8]) -> Answer<Option<MouseId>>
 fn listed_id(byte: u8) -> Option<MouseId>
     ensures { identified result ≡ listed_turn mouse_ids byte }
 {
-    match MouseId::try_from(byte) {
-        Ok(id) => Some(id),
-        Err(_) => None,
-    }
+    MouseId::try_from(byte).ok()
 }

@@ -3,18 +3,25 @@
 use Prim.Native.Nat.{ℕ}
 use mathlib.Core.List.{List}
 use mathlib.Core.Path.{◌≡◌, refl, ap, ◌∙◌, fun_ext}
-use Rattle.std.specs.Prelude.{Option, Some, None}
+use Rattle.std.specs.Prelude.{Option, Some, None, Result, Ok, Err}
 use Rattle.std.specs.Option.{unwrap_or}
-use Rattle.exchange.specs.Exchange.{Exchange, done, bind, Played, play}
+use Rattle.std.specs.Result.{result_ok}
+use Rattle.exchange.specs.Exchange.{Exchange, done, bind, yields, Played, play}
 use Rattle.exchange.specs.Answer.{Answer, gives, refuses, on_given, and_then}
 use Rattle.exchange.proofs.Grouping.{and_then_assoc}
 use Rattle.exchange.proofs.Sequence.{bind_assoc}
 use Rattle.ps2_bytes.specs.declared.data.MouseSampleRate.{MouseSampleRate}
 use Rattle.ps2_bytes.specs.declared.response.MouseId.{MouseId}
 use Rattle.ps2_bytes.specs.declared.response.MouseId.TheVariants.{Zero, Three, Four}
-use Rattle.ps2_answers.specs.Refusals.{Success}
+use Rattle.ps2_answers.specs.declared.Counted.{Counted}
+use Rattle.ps2_answers.specs.declared.Failure.{Failure}
+use Rattle.ps2_answers.specs.declared.Refusal.{Refusal}
+use Rattle.ps2_answers.specs.Refusals.{Success, refused}
+use Rattle.ps2_answers.specs.Answers.{ended, outcome_of}
+use Rattle.ps2_answers.proofs.Forgiving.{said, outcome, lacked}
 use Rattle.ps2_mouse.specs.Mouse.{mouse_id}
 use Rattle.ps2_mouse_identity.specs.Identity.{set_rates, identity_after, wheel_rates, button_rates, read_id, read_or, second_identity, after_first}
+use Rattle.ps2_mouse_identity.specs.Answers.{forgiven_as}
 
 module _ (rates : List MouseSampleRate) (g : Option MouseId → Exchange (Answer MouseId)) (h : Answer MouseId → Exchange (Answer MouseId))
     (same : (a : Answer MouseId) → g (read_id a) ≡ h a) where
@@ -31,6 +38,19 @@ module _ (rates : List MouseSampleRate) (g : Option MouseId → Exchange (Answer
 
   grouped : (s l : List ℕ) {o : Played (Answer MouseId)} → o ≡ play (and_then (identity_after rates) g) s l → o ≡ play (and_then (set_rates rates) (λ _. bind mouse_id h)) s l
   grouped s l q = rw identity_then at q
+
+-- ---- what was read, by the outcome of asking
+
+module _ (r : Result (Counted MouseId) (Counted Refusal)) where
+  read_said : (v : Result MouseId Failure) → read_id (said v) ≡ result_ok v
+  read_said (Ok id) = refl
+  read_said (Err f) = refl
+
+  pub asked_end : (x : Counted (Result MouseId Failure)) → Ok x ≡ outcome_of r → {id : Option MouseId} → id ≡ result_ok x.value → yields (gives id) ≡ forgiven_as (ended r)
+  asked_end x q p = rw (p, (outcome r x q).end, read_said x.value) refl
+
+  pub asked_lacks : (e : Counted Refusal) → Err e ≡ outcome_of r → refused e.value ≡ forgiven_as (ended r)
+  asked_lacks e q = let k = lacked r e q in rw (k.is, k.lacking) refl
 
 -- ---- after the first
 

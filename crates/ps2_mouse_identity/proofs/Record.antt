@@ -2,10 +2,12 @@
 -- Assumes nothing.
 use Prim.Native.Nat.{ℕ, ◌+◌, ◌*◌, ◌≤◌, ◌<◌, ◌^◌}
 use native.Mathlib.Omega.{arith}
+use mathlib.Core.Bool.{true, false, true≢false}
 use mathlib.Core.List.{List}
-use mathlib.Core.Path.{◌≡◌, refl, ap}
+use mathlib.Core.Path.{◌≡◌, refl, sym, ap, ◌∙◌}
 use lib.ListN.{length}
 use Rattle.std.specs.Prelude.{Result, Ok, Err}
+use Rattle.std.specs.Result.{is_ok}
 use Rattle.exchange.specs.Exchange.{played, play}
 use Rattle.exchange.specs.Answer.{gives}
 use Rattle.exchange.specs.Left.{left, record_after}
@@ -21,7 +23,7 @@ use Rattle.ps2_answers.specs.declared.Lack.{Lack}
 use Rattle.ps2_answers.specs.declared.Refusal.{Refusal}
 use Rattle.ps2_answers.specs.declared.Refusal.TheVariants.{Lacking, Failed}
 use Rattle.ps2_answers.specs.Refusals.{Success, refused}
-use Rattle.ps2_answers.specs.Answers.{counted, ended, used_of, pairs_of, told, behind}
+use Rattle.ps2_answers.specs.Answers.{counted, ended, used_of, pairs_of, told, behind, outcome_at, outcome_of}
 use Rattle.ps2_answers.proofs.Then.{sum_fits}
 use Rattle.ps2_mouse.specs.declared.PS2Mouse.{PS2Mouse}
 use Rattle.ps2_mouse.specs.Mouse.{enable_packet_streaming}
@@ -89,3 +91,29 @@ module _ (mouse : PS2Mouse) (id : MouseId) (s l : List ℕ) {l' : List ℕ} wher
         → (played (said_mouse (Err e) (record { id = id })) e.used e.pairs l' ≡ play (start_packets mouse (gives id)) s l)
         × (record { id = id } ≡ record_after mouse (play (start_packets mouse (gives id)) s l).end)
     start_failed q = rw q (record_after_lem mouse (bind_told enable_packet_streaming (λ a. left a (record { id = id })) s l r (ap (λ x. refused x) q)) refl)
+
+  -- by the outcome that the code asks for
+  module _ {o : Result (Counted (Result Success Failure)) (Counted Refusal)} where
+    pub start_ended : (r : Result (Counted Success) (Counted Refusal)) → told r l' ≡ play enable_packet_streaming s l → o ≡ outcome_of r → true ≡ is_ok o
+        → (played (said_mouse r (record { id = id })) (used_of r) (pairs_of r) l' ≡ play (start_packets mouse (gives id)) s l)
+        × (record { id = id } ≡ record_after mouse (play (start_packets mouse (gives id)) s l).end)
+    start_ended (Ok a) p q h = start_done a p
+    start_ended (Err e) p q h = by e.value p q
+      where
+        by : (x : Refusal) → told {T = Success} (Err (counted x e.used e.pairs)) l' ≡ play enable_packet_streaming s l → o ≡ outcome_at {T = Success} x e.used e.pairs
+            → (played (said_mouse (Err (counted x e.used e.pairs)) (record { id = id })) e.used e.pairs l' ≡ play (start_packets mouse (gives id)) s l)
+            × (record { id = id } ≡ record_after mouse (play (start_packets mouse (gives id)) s l).end)
+        by (Lacking x) p q = absurd (true≢false (h ∙ ap (λ y. is_ok y) q))
+        by (Failed f) p q = start_failed (counted (Failed f) e.used e.pairs) p refl
+
+    pub start_lacked : (r : Result (Counted Success) (Counted Refusal)) → told r l' ≡ play enable_packet_streaming s l → o ≡ outcome_of r → false ≡ is_ok o
+        → (played (said_mouse r mouse) (used_of r) (pairs_of r) l' ≡ play (start_packets mouse (gives id)) s l)
+        × (mouse ≡ record_after mouse (play (start_packets mouse (gives id)) s l).end)
+    start_lacked (Ok a) p q h = absurd (true≢false (sym (h ∙ ap (λ y. is_ok y) q)))
+    start_lacked (Err e) p q h = by e.value p q
+      where
+        by : (x : Refusal) → told {T = Success} (Err (counted x e.used e.pairs)) l' ≡ play enable_packet_streaming s l → o ≡ outcome_at {T = Success} x e.used e.pairs
+            → (played (said_mouse (Err (counted x e.used e.pairs)) mouse) e.used e.pairs l' ≡ play (start_packets mouse (gives id)) s l)
+            × (mouse ≡ record_after mouse (play (start_packets mouse (gives id)) s l).end)
+        by (Lacking x) p q = start_lacking (counted (Lacking x) e.used e.pairs) p refl
+        by (Failed f) p q = absurd (true≢false (sym (h ∙ ap (λ y. is_ok y) q)))

@@ -16,6 +16,6 @@ use Rattle.ps2_mouse_identity.specs.Identity.{read_id}
 abbrev pub said_mouse : Result (Counted Success) (Counted Refusal) → PS2Mouse → End (Left PS2Mouse Success)
 said_mouse answer mouse = told_end (λ a. left a mouse) (ended answer)
 
--- "A failed first identity is forgiven", and "a failure leaves the old one": a failure, that is; "2 and 3 are .. forgiven by nothing".
+-- What asking for an identity brought: "A failed first identity is forgiven", and brought none; "2 and 3 are .. forgiven by nothing". That none leaves the old one, `after_first` and `read_or` say.
 abbrev pub forgiven_as : End (Answer MouseId) → End (Answer (Option MouseId))
 forgiven_as asked = told_end (λ id. gives (read_id id)) asked

@@ -10,7 +10,7 @@ ghost use Rattle.ps2_mouse.specs.Mouse.{mouse_id as mouse_id_rule};
 ghost use Rattle.ps2_mouse_identity.specs.Identity.{set_rates, identity_after, wheel_rates, button_rates, second_identity, after_first, new_identity, start_packets, set_mouse_id};
 ghost use Rattle.ps2_mouse_identity.specs.Answers.{said_mouse, forgiven_as};
 
-use ps2_answers::{Answer, Counted, Failure, Refusal};
+use ps2_answers::{Answer, Counted, Failure, Refusal, outcome};
 use ps2_bytes::{MouseId, MouseSampleRate};
 use ps2_mouse::PS2Mouse;
 
@@ -42,7 +42,7 @@ fn change_id(mouse: &mut PS2Mouse, script: &[u8], log: &mut [u8]) -> Answer<()>
     id.then(start_packets(&script[id.used..], &mut log[tail..], mouse, id.value))
 }
 
-// Sets rates, one after another.
+// Sets rates, one after another. Kept beside the loop of preferences_application, no plainer: a closure for the step would have to promise a play, and these lines are no longer.
 fn set_rates(script: &[u8], log: &mut [u8], rates: [MouseSampleRate; 3]) -> Answer<()>
     ensures { told result log.new ≡ play (set_rates rates) script.now log.old }
 {
@@ -82,14 +82,12 @@ fn wheel_identity(script: &[u8], log: &mut [u8], old: MouseId) -> Answer<MouseId
     )?;
     match first.value {
         None => Ok(first.with(old)),
-        Some(id) => match id {
-            MouseId::Zero => Ok(first.with(old)),
-            MouseId::Three => {
-                let tail = 2 * first.pairs;
-                first.then(button_identity(&script[first.used..], &mut log[tail..], old))
-            }
-            MouseId::Four => Err(first.with(Refusal::Failed(Failure::FirstIdentityFour))),
-        },
+        Some(MouseId::Zero) => Ok(first.with(old)),
+        Some(MouseId::Three) => {
+            let tail = 2 * first.pairs;
+            first.then(button_identity(&script[first.used..], &mut log[tail..], old))
+        }
+        Some(MouseId::Four) => Err(first.with(Refusal::Failed(Failure::FirstIdentityFour))),
     }
 }
 
@@ -128,13 +126,8 @@ fn forgiven(asked: Answer<MouseId>) -> Answer<Option<MouseId>>
     ensures used { used_of result ≡ used_of asked }
     ensures pairs { pairs_of result ≡ pairs_of asked }
 {
-    match asked {
-        Ok(id) => Ok(id.with(Some(id.value))),
-        Err(refused) => match refused.value {
-            Refusal::Lacking(_) => Err(refused),
-            Refusal::Failed(_) => Ok(refused.with(None)),
-        },
-    }
+    let id = outcome(asked)?;
+    Ok(id.with(id.value.ok()))
 }
 
 // Starts the packets of a mouse that is to have this identity. Its record has it if the script and the log did not end before.
@@ -142,12 +135,8 @@ fn start_packets(script: &[u8], log: &mut [u8], mouse: &mut PS2Mouse, id: MouseI
     ensures { (played (said_mouse result mouse.new) (used_of result) (pairs_of result) log.new ≡ play (start_packets mouse.old (gives id)) script.now log.old) × (mouse.new ≡ record_after mouse.old (play (start_packets mouse.old (gives id)) script.now log.old).end) }
 {
     let started = PS2Mouse::enable_mouse_packet_streaming(script, log);
-    match started {
-        Ok(_) => mouse.id = id,
-        Err(refused) => match refused.value {
-            Refusal::Lacking(_) => {}
-            Refusal::Failed(_) => mouse.id = id,
-        },
+    if outcome(started).is_ok() {
+        mouse.id = id;
     }
     started
 }

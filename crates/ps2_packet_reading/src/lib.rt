@@ -2,9 +2,9 @@
 #![tactic(auto)]
 
 ghost use Rattle.std.specs.Prelude.{◌≡◌};
-ghost use Rattle.exchange.specs.Exchange.{done, Reads};
+ghost use Rattle.exchange.specs.Exchange.{done};
 ghost use Rattle.exchange.specs.Answer.{gives};
-ghost use Rattle.ps2_answers.specs.Answers.{ended, used_of, pairs_of};
+ghost use Rattle.ps2_answers.specs.Answers.{ReadsTold};
 ghost use Rattle.ps2_packet_reading.specs.Reading.{three_bytes, read_mouse_packet, read_signed_packet, four_bytes, fourth_byte, after_three, first_bytes};
 
 use ps2_answers::{Answer, Counted};
@@ -12,7 +12,7 @@ use ps2_bytes::MouseId;
 use ps2_packet::{MousePacket, MousePacket3, MousePacket4, MousePacketGeneric, SignedPacket};
 use ps2_ports::read_data;
 
-// The bytes that every packet starts with.
+// The bytes that every packet starts with. Kept as three bytes, no plainer: `MousePacket3` and `MousePacket4` are made of bytes.
 #[derive(Clone, Copy)]
 struct FirstBytes {
     byte1: u8,
@@ -20,7 +20,7 @@ struct FirstBytes {
     byte3: u8,
 }
 
-// The identities whose packets have a fourth byte.
+// The identities whose packets have a fourth byte. Kept beside `MouseId`, no plainer: with its three identities a match would have a case that no fourth byte belongs to.
 #[derive(Clone, Copy)]
 enum FourByteId {
     Three,
@@ -29,7 +29,7 @@ enum FourByteId {
 
 // Reads the packet that a mouse of this identity sends, without asking the status. Its wheel at identity 4 is the Rust's, 0 to 15.
 pub fn read_packet(id: MouseId, script: &[u8]) -> Answer<MousePacket>
-    ensures { Reads (read_mouse_packet id) script.now (ended result) (used_of result) (pairs_of result) }
+    ensures { ReadsTold (read_mouse_packet id) script.now result }
 {
     let first = read_three(script)?;
     first.then(read_after_three(&script[first.used..], first.value, id))
@@ -37,7 +37,7 @@ pub fn read_packet(id: MouseId, script: &[u8]) -> Answer<MousePacket>
 
 // Reads the same packet with the wheel at identity 4 signed, -8 to 7, as the OSDev wiki has it. A new program should read packets by this one.
 pub fn read_signed_packet(id: MouseId, script: &[u8]) -> Answer<SignedPacket>
-    ensures { Reads (read_signed_packet id) script.now (ended result) (used_of result) (pairs_of result) }
+    ensures { ReadsTold (read_signed_packet id) script.now result }
 {
     let read = read_packet(id, script)?;
     Ok(read.with(SignedPacket { packet: read.value }))
@@ -45,7 +45,7 @@ pub fn read_signed_packet(id: MouseId, script: &[u8]) -> Answer<SignedPacket>
 
 // Three bytes of data, one after another.
 fn read_three(script: &[u8]) -> Answer<FirstBytes>
-    ensures { Reads (three_bytes (λ b1 b2 b3. done (gives (first_bytes b1 b2 b3)))) script.now (ended result) (used_of result) (pairs_of result) }
+    ensures { ReadsTold (three_bytes (λ b1 b2 b3. done (gives (first_bytes b1 b2 b3)))) script.now result }
 {
     let one = read_data(script)?;
     let two = one.then(read_data(&script[one.used..]))?;
@@ -59,7 +59,7 @@ fn read_three(script: &[u8]) -> Answer<FirstBytes>
 
 // What follows the first three bytes: at identity 0 nothing, at 3 and 4 a fourth.
 fn read_after_three(script: &[u8], first: FirstBytes, id: MouseId) -> Answer<MousePacket>
-    ensures { Reads (after_three id first) script.now (ended result) (used_of result) (pairs_of result) }
+    ensures { ReadsTold (after_three id first) script.now result }
 {
     match id {
         MouseId::Zero => Ok(Counted::new(MousePacket::Zero(MousePacketGeneric::from_bytes(
@@ -74,7 +74,7 @@ fn read_after_three(script: &[u8], first: FirstBytes, id: MouseId) -> Answer<Mou
 
 // The fourth byte of data, which completes the packet.
 fn read_fourth(script: &[u8], first: FirstBytes, id: FourByteId) -> Answer<MousePacket>
-    ensures { Reads (fourth_byte id first) script.now (ended result) (used_of result) (pairs_of result) }
+    ensures { ReadsTold (fourth_byte id first) script.now result }
 {
     let fourth = read_data(script)?;
     Ok(fourth.with(four_bytes(id, first, fourth.value)))

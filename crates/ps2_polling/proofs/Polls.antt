@@ -1,7 +1,7 @@
 -- One turn of a polling, from what the code's one read or one poll answers.
 -- Assumes nothing.
 use Rattle.ps2_bytes.specs.declared.Unlisted.{Unlisted}
-use mathlib.Core.Bool.{Bool, true, false, cond}
+use mathlib.Core.Bool.{Bool, true, false, cond, true≢false}
 use Prim.Native.Nat.{ℕ}
 use lib.Dec.{eqb}
 use mathlib.Core.List.{List}
@@ -9,6 +9,7 @@ use mathlib.Core.Path.{◌≡◌, refl, sym, ap, ◌∙◌, fun_ext}
 use Rattle.bits.specs.Bits.{bit}
 use Rattle.bits.proofs.Table.{decode_map}
 use Rattle.std.specs.Prelude.{Option, Some, None, Result, Ok, Err}
+use Rattle.std.specs.Option.{option_eq}
 use Rattle.exchange.specs.Exchange.{p64, done, read, bind, End, yields, told_end, Reads}
 use Rattle.exchange.specs.Answer.{Answer, gives, refuses}
 use Rattle.exchange.specs.Repeat.{Turn, found, again, found_end}
@@ -108,5 +109,11 @@ response_turn_lem b p q = decode_map heard Ok (Err (record { 0 = b })) responses
 pub passed_yes : (good b : ℕ) → eqb b good ≡ true → passed_turn good b ≡ found (gives success)
 passed_yes good b q = rw q
 
-pub passed_no : (good b : ℕ) → eqb b good ≡ false → passed_turn good b ≡ again
-passed_no good b q = rw q
+-- the code asks whether the turn brought this byte
+pub passed_heard : (good : ℕ) (v : Option ℕ) → true ≡ option_eq eqb v (Some good) → of_poll (passed_turn good) v ≡ found (gives success)
+passed_heard good None q = absurd (true≢false q)
+passed_heard good (Some b) q = passed_yes good b (sym q)
+
+pub passed_unheard : (good : ℕ) (v : Option ℕ) → false ≡ option_eq eqb v (Some good) → of_poll (passed_turn good) v ≡ again
+passed_unheard good None q = refl
+passed_unheard good (Some b) q = rw (sym q)

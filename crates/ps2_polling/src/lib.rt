@@ -8,10 +8,10 @@ ghost use Rattle.exchange.specs.Keeping.{kept_end};
 ghost use Rattle.exchange.specs.Repeat.{found, repeat};
 ghost use Rattle.ps2_bytes.specs.declared.command.HostToControllerCommand.TheVariants.{TestPort1, TestPort2};
 ghost use Rattle.ps2_answers.specs.Refusals.{number_of};
-ghost use Rattle.ps2_answers.specs.Answers.{ended, turn_end, used_of, pairs_of, told};
+ghost use Rattle.ps2_answers.specs.Answers.{ended, turn_end, used_of, pairs_of, told, ReadsTold};
 ghost use Rattle.ps2_kept.specs.Kept.{keeping_thrown};
 ghost use Rattle.ps2_kept.specs.Added.{keeping_onto};
-ghost use Rattle.ps2_kept.specs.Promises.{ReadsKept, PlaysKept, told_kept};
+ghost use Rattle.ps2_kept.specs.Promises.{told_kept, ReadsKeptTold, PlaysKeptTold};
 ghost use Rattle.ps2_ports.specs.Ports.{write_command};
 ghost use Rattle.ps2_polling.specs.Polling.{poll_limit, polling_send, poll_data, turn_of, passed_turn, polling_receive, polling_send_receive, controller_test_result, test_controller, port_test_result, test_port, polled};
 
@@ -26,7 +26,7 @@ const SEND_TRIES: u8 = 255;
 // The most polls of a receiving, of a port test and of a search for a byte, and data reads of the controller's test.
 pub const POLL_LIMIT: u32 = 65535;
 
-// A port's answer to its test where it passed.
+// A port's answer to its test where it passed. Kept as a byte, no plainer: the wait compares bytes, and any other uses up its turn, listed or not.
 const PORT_TEST_PASSED: u8 = 0x00;
 
 // The controller's answer to its test where it passed.
@@ -36,7 +36,7 @@ const CONTROLLER_TEST_PASSED: u8 = 0x55;
 pub type Polled = Answer<Option<u8>>;
 
 // How a byte is waited for: by polls, or by data reads that do not ask the status.
-// Kept as an enum: with a closure the contract has to speak of every step that it may be, and the proof left six goals open.
+// Kept as an enum, no plainer: with a closure the contract has to speak of every step that it may be, and ask for bounds on what each call returns.
 #[derive(Clone, Copy, PartialEq, Eq)]
 pub enum Waiting {
     Polls,
@@ -111,7 +111,7 @@ fn run_test(
 // Polls until a port test's answer says that the port passed.
 // Kept beside the next, a rule of the project: the Rust's public functions keep their names. Both call the one wait, with constants of their own.
 pub fn match_port_test_result(script: &[u8]) -> Answer<()>
-    ensures { Reads port_test_result script.now (ended result) (used_of result) (pairs_of result) }
+    ensures { ReadsTold port_test_result script.now result }
 {
     read_test_result(
         script,
@@ -124,7 +124,7 @@ pub fn match_port_test_result(script: &[u8]) -> Answer<()>
 
 // Reads data, without asking the status, until the controller says that it passed its test.
 pub fn read_controller_test_result(script: &[u8]) -> Answer<()>
-    ensures { Reads controller_test_result script.now (ended result) (used_of result) (pairs_of result) }
+    ensures { ReadsTold controller_test_result script.now result }
 {
     read_test_result(
         script,
@@ -136,7 +136,7 @@ pub fn read_controller_test_result(script: &[u8]) -> Answer<()>
 }
 
 // Waits for the byte that says that a test was passed; any other uses up its turn.
-// Kept as `loop` here and below: document 01 asks for bounded loops that yield their answer by `break`.
+// Kept as `loop` here and below: document 01 asks for bounded loops that yield their answer by `break`. Each search has its own, no plainer: they differ in what ends a turn, and one for all would take that as a closure.
 pub fn read_test_result(
     script: &[u8],
     waiting: Waiting,
@@ -144,7 +144,7 @@ pub fn read_test_result(
     turns: u32,
     failure: Failure,
 ) -> Answer<()>
-    ensures { Reads (repeat turns (refuses (number_of failure)) (turn_of waiting (passed_turn passed))) script.now (ended result) (used_of result) (pairs_of result) }
+    ensures { ReadsTold (repeat turns (refuses (number_of failure)) (turn_of waiting (passed_turn passed))) script.now result }
 {
     let mut at = Counted::new(None);
     let mut left = turns;
@@ -153,10 +153,8 @@ pub fn read_test_result(
             break Err(at.with(Refusal::Failed(failure)));
         }
         at = at.then(take_turn(&script[at.used..], waiting))?;
-        if let Some(b) = at.value {
-            if b == passed {
-                break Ok(at.with(()));
-            }
+        if at.value == Some(passed) {
+            break Ok(at.with(()));
         }
         left -= 1;
     }
@@ -177,7 +175,7 @@ fn take_turn(script: &[u8], waiting: Waiting) -> Polled
 
 // One attempt: sends a byte, then receives the response.
 pub fn polling_send_receive(script: &[u8], log: &mut [u8], value: HostToDevice) -> Received
-    ensures { PlaysKept (keeping_thrown (polling_send_receive value)) script.now log.old (ended result.answer) (used_of result.answer) (pairs_of result.answer) log.new result.kept }
+    ensures { PlaysKeptTold (keeping_thrown (polling_send_receive value)) script.now log.old result.answer log.new result.kept }
 {
     polling_send_receive_onto(script, log, value, none_kept())
 }
@@ -190,7 +188,7 @@ pub fn polling_send_receive_onto(
     value: HostToDevice,
     before: KeptBytes,
 ) -> Received
-    ensures { PlaysKept (keeping_onto before (polling_send_receive value)) script.now log.old (ended result.answer) (used_of result.answer) (pairs_of result.answer) log.new result.kept }
+    ensures { PlaysKeptTold (keeping_onto before (polling_send_receive value)) script.now log.old result.answer log.new result.kept }
 {
     let mut kept = before;
     let answer = polling_send_receive_keeping(script, log, value, &mut kept);
@@ -234,14 +232,14 @@ pub fn polling_send(script: &[u8], log: &mut [u8], value: HostToDevice) -> Answe
 
 // Polls until a device's response comes; an unlisted byte is thrown away and uses up its poll. The bytes that were are handed back.
 pub fn polling_receive(script: &[u8]) -> Received
-    ensures { ReadsKept (keeping_thrown polling_receive) script.now (ended result.answer) (used_of result.answer) (pairs_of result.answer) result.kept }
+    ensures { ReadsKeptTold (keeping_thrown polling_receive) script.now result.answer result.kept }
 {
     polling_receive_onto(script, none_kept())
 }
 
 // The same, with what is thrown away behind the bytes kept before.
 pub fn polling_receive_onto(script: &[u8], before: KeptBytes) -> Received
-    ensures { ReadsKept (keeping_onto before polling_receive) script.now (ended result.answer) (used_of result.answer) (pairs_of result.answer) result.kept }
+    ensures { ReadsKeptTold (keeping_onto before polling_receive) script.now result.answer result.kept }
 {
     let mut kept = before;
     let answer = polling_receive_keeping(script, &mut kept);

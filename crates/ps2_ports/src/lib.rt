@@ -2,9 +2,9 @@
 #![tactic(auto)]
 
 ghost use Rattle.std.specs.Prelude.{◌≡◌};
-ghost use Rattle.exchange.specs.Exchange.{Port, number, play, Reads, Writes};
+ghost use Rattle.exchange.specs.Exchange.{Port, number, play};
 ghost use Rattle.ps2_ports.specs.Ports.{read_port, read_data, read_status, flush_output_buffer, write_port, write_command, write_data, read_config, write_config};
-ghost use Rattle.ps2_answers.specs.Answers.{ended, used_of, pairs_of, told};
+ghost use Rattle.ps2_answers.specs.Answers.{told, ReadsTold, WritesTold};
 ghost use Rattle.ps2_answers.specs.Refusals.{port_of};
 
 use ps2_answers::{Answer, Counted, Lack, ReadPort, Refusal};
@@ -26,7 +26,7 @@ pub enum DevicePort {
 
 // A read of either port takes the next script byte.
 fn read_port(script: &[u8], port: ReadPort) -> Answer<u8>
-    ensures { Reads (read_port (port_of port)) script.now (ended result) (used_of result) (pairs_of result) }
+    ensures { ReadsTold (read_port (port_of port)) script.now result }
 {
     if script.len() == 0 {
         return Err(Counted::new(Refusal::Lacking(Lack::Script(port))));
@@ -39,8 +39,9 @@ fn read_port(script: &[u8], port: ReadPort) -> Answer<u8>
 }
 
 // A write puts its pair where two bytes are free; a lone last byte of the log stays as it is.
+// Kept as a number, no plainer: it is the byte that the log has, and an enum of two would be cast back here.
 fn write_port(log: &mut [u8], port: u8, value: u8) -> Answer<()>
-    ensures { (p : Port) → port ≡ number p → Writes (write_port p value) log.old (ended result) (used_of result) (pairs_of result) log.new }
+    ensures { (p : Port) → port ≡ number p → WritesTold (write_port p value) log.old result log.new }
 {
     if log.len() < 2 {
         return Err(Counted::new(Refusal::Lacking(Lack::Log)));
@@ -56,7 +57,7 @@ fn write_port(log: &mut [u8], port: u8, value: u8) -> Answer<()>
 
 // Writes a command to the command port.
 pub fn write_command(log: &mut [u8], value: HostToControllerCommand) -> Answer<()>
-    ensures { Writes (write_command value) log.old (ended result) (used_of result) (pairs_of result) log.new }
+    ensures { WritesTold (write_command value) log.old result log.new }
 {
     write_port(log, PS2_COMMAND_AND_STATUS_PORT, u8::from(value))
 }
@@ -73,7 +74,7 @@ pub fn read_config(script: &[u8], log: &mut [u8]) -> Answer<ControllerConfigurat
 
 // Writes the configuration byte.
 pub fn write_config(log: &mut [u8], value: ControllerConfigurationByte) -> Answer<()>
-    ensures { Writes (write_config value) log.old (ended result) (used_of result) (pairs_of result) log.new }
+    ensures { WritesTold (write_config value) log.old result log.new }
 {
     let written = write_command(log, HostToControllerCommand::WriteToInternalRAMByte0)?;
     let at = 2 * written.pairs;
@@ -82,7 +83,7 @@ pub fn write_config(log: &mut [u8], value: ControllerConfigurationByte) -> Answe
 
 // Reads the status.
 pub fn status_register(script: &[u8]) -> Answer<ControllerToHostStatus>
-    ensures { Reads read_status script.now (ended result) (used_of result) (pairs_of result) }
+    ensures { ReadsTold read_status script.now result }
 {
     let read = read_port(script, ReadPort::Status)?;
     Ok(read.with(ControllerToHostStatus::from(read.value)))
@@ -90,21 +91,21 @@ pub fn status_register(script: &[u8]) -> Answer<ControllerToHostStatus>
 
 // Drops one byte of data, without asking whether there is one.
 pub fn flush_output_buffer(script: &[u8]) -> Answer<()>
-    ensures { Reads flush_output_buffer script.now (ended result) (used_of result) (pairs_of result) }
+    ensures { ReadsTold flush_output_buffer script.now result }
 {
     Ok(read_data(script)?.with(()))
 }
 
 // Reads a byte of data.
 pub fn read_data(script: &[u8]) -> Answer<u8>
-    ensures { Reads read_data script.now (ended result) (used_of result) (pairs_of result) }
+    ensures { ReadsTold read_data script.now result }
 {
     read_port(script, ReadPort::Data)
 }
 
 // Writes a byte of data.
 pub fn write_data(log: &mut [u8], value: WritableData) -> Answer<()>
-    ensures { Writes (write_data value) log.old (ended result) (used_of result) (pairs_of result) log.new }
+    ensures { WritesTold (write_data value) log.old result log.new }
 {
     write_port(log, PS2_DATA_PORT, u8::from(value))
 }

@@ -2,13 +2,13 @@
 #![tactic(auto)]
 
 ghost use Rattle.std.specs.Prelude.{◌≡◌};
-ghost use Rattle.exchange.specs.Exchange.{play, done, bind, Writes};
+ghost use Rattle.exchange.specs.Exchange.{play, done, bind};
 ghost use Rattle.exchange.specs.Answer.{gives};
-ghost use Rattle.ps2_answers.specs.Answers.{ended, used_of, pairs_of, told};
+ghost use Rattle.ps2_answers.specs.Answers.{told, WritesTold};
 ghost use Rattle.ps2_setup.specs.SetUp.{quieted as quieted_rule, running as running_rule, disable_devices, test_with, test_second, test_ports, enable_port, enable_ports};
 ghost use Rattle.ps2_setup.specs.Answers.{Forgiven, enable_of, clock_of, interrupt_of};
 
-use ps2_answers::{Answer, Counted, Failure, Refusal};
+use ps2_answers::{Answer, Counted, Failure, Refusal, outcome};
 use ps2_bytes::HostToControllerCommand;
 use ps2_layouts::ControllerConfigurationByte;
 use ps2_polling::{test, test_port1, test_port2};
@@ -89,13 +89,8 @@ fn test_second(script: &[u8], log: &mut [u8], has_mouse: bool) -> Answer<bool>
 pub fn tried(answer: Answer<()>) -> Answer<bool>
     ensures { Forgiven answer result }
 {
-    match answer {
-        Ok(done) => Ok(done.with(true)),
-        Err(e) => match e.value {
-            Refusal::Lacking(_) => Err(e),
-            Refusal::Failed(_) => Ok(e.with(false)),
-        },
-    }
+    let done = outcome(answer)?;
+    Ok(done.with(done.value.is_ok()))
 }
 
 // Enables the ports that passed, and then writes the configuration that says so.
@@ -104,7 +99,7 @@ pub fn enable_ports(
     ports: WorkingPorts,
     config: ControllerConfigurationByte,
 ) -> Answer<()>
-    ensures { Writes (enable_ports ports config) log.old (ended result) (used_of result) (pairs_of result) log.new }
+    ensures { WritesTold (enable_ports ports config) log.old result log.new }
 {
     let one = enable_port(log, DevicePort::Port1, ports.port_1_works, config)?;
     let both = one.then(enable_port(
@@ -123,7 +118,7 @@ fn enable_port(
     works: bool,
     config: ControllerConfigurationByte,
 ) -> Answer<ControllerConfigurationByte>
-    ensures { Writes (enable_port (enable_of port) (clock_of port) (interrupt_of port) works config) log.old (ended result) (used_of result) (pairs_of result) log.new }
+    ensures { WritesTold (enable_port (enable_of port) (clock_of port) (interrupt_of port) works config) log.old result log.new }
 {
     if works {
         let written = write_command(log, enable_command(port))?;
@@ -143,7 +138,7 @@ fn enable_command(port: DevicePort) -> HostToControllerCommand
     }
 }
 
-// The port's clock runs, and the port interrupts.
+// The port's clock runs, and the port interrupts. Kept as `enable_command`: the port is all that the two arms share.
 fn running(port: DevicePort, config: ControllerConfigurationByte) -> ControllerConfigurationByte
     ensures { result ≡ running_rule (clock_of port) (interrupt_of port) config }
 {
