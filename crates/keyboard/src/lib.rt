@@ -238,9 +238,8 @@ fn lock_pressed(
     ensures { PlaysOn keyboard kept (λ waiting. on_key (port_rules Profile.Any port) waiting scan_code modifiers.bits) script.now log.old (said_key_effect result) log.new }
 {
     let lamps = leds(modifiers);
-    let at_once = set_port_led_at_once(script, log, port, lamps);
-    if at_once != 0 {
-        return after_lamps(kept, scan_code, modifiers, false, AT_ONCE, at_once);
+    if let Some(pairs) = set_port_led_at_once(script, log, port, lamps) {
+        return after_lamps(kept, scan_code, modifiers, false, AT_ONCE, pairs);
     }
     let lit = set_port_led_onto(script, log, port, lamps, kept);
     match lit.answer {

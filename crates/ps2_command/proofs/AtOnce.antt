@@ -7,6 +7,7 @@ use mathlib.Core.Path.{◌≡◌, refl, sym, ap, ◌∙◌}
 use Prim.Native.Nat.{ℕ, suc, ◌+◌, ◌*◌, ◌<◌, ◌≤◌}
 use native.Mathlib.Omega.{arith}
 use lib.Dec.{eqb, leb}
+use Rattle.std.specs.Prelude.{Option, Some, None}
 use lib.ListN.{length, get_or, take, drop}
 use borrow.Author.Tests.{leb-true, leb-false, le-leb, lt-leb, eqb-true, not-true}
 use Rattle.bits.specs.Bits.{bit}
@@ -180,24 +181,20 @@ left_room : (l : List ℕ) (r : Room l) {n : ℕ} → suc (suc n) ≤ length l �
 left_room l r h = let e : suc (suc _) ≤ length (r.first ∷ r.second ∷ r.rest) = rw r.is at h in omega (arith, e)
 
 -- the pairs of two commands are written, or not, by the log's room
-abbrev Written : DevicePort → ℕ → ℕ → List ℕ → ℕ → List ℕ → Type 0
+abbrev Written : DevicePort → ℕ → ℕ → List ℕ → Option ℕ → List ℕ → Type 0
 Written port first second log n log' =
-    ((2 * pairs_to port ≤ length log) × ((n ≡ pairs_to port) × (log' ≡ with_two port first second log))) ⊎ ((length log < 2 * pairs_to port) × ((n ≡ 0) × (log' ≡ log)))
+    ((2 * pairs_to port ≤ length log) × ((n ≡ Some (pairs_to port)) × (log' ≡ with_two port first second log))) ⊎ ((length log < 2 * pairs_to port) × ((n ≡ None) × (log' ≡ log)))
 
-by_room : (port : DevicePort) (first second : ℕ) (log : List ℕ) {n : ℕ} {log' : List ℕ} → TwoWritten port first second log n log' → (b : Bool) → leb (2 * pairs_to port) (length log) ≡ b
+by_room : (port : DevicePort) (first second : ℕ) (log : List ℕ) {n : Option ℕ} {log' : List ℕ} → TwoWritten port first second log n log' → (b : Bool) → leb (2 * pairs_to port) (length log) ≡ b
     → Written port first second log n log'
 by_room port first second log t true h = let i = leb-true (2 * pairs_to port) (length log) h in inl (i, t.fits i)
 by_room port first second log t false h = let i = leb-false (2 * pairs_to port) (length log) h in inr (i, t.full i)
 
-some_pairs : (port : DevicePort) {n : ℕ} → n ≡ pairs_to port → n ≡ 0 → ⊥
-some_pairs Port1 e z = omega (arith, e, z)
-some_pairs Port2 e z = omega (arith, e, z)
-
-pairs_written : (port : DevicePort) (first second : ℕ) (log : List ℕ) {n : ℕ} {log' : List ℕ} → TwoWritten port first second log n log'
-    → (n ≡ cond (leb (2 * pairs_to port) (length log)) (pairs_to port) 0) × (n ≡ 0 → log' ≡ log)
+pairs_written : (port : DevicePort) (first second : ℕ) (log : List ℕ) {n : Option ℕ} {log' : List ℕ} → TwoWritten port first second log n log'
+    → (n ≡ cond (leb (2 * pairs_to port) (length log)) (Some (pairs_to port)) None) × (n ≡ None → log' ≡ log)
 pairs_written port first second log t =
     ⊎_elim
-    (λ r. (rw (le-leb (2 * pairs_to port) (length log) r.0) r.1.0, λ z. absurd (some_pairs port r.1.0 z)))
+    (λ r. (rw (le-leb (2 * pairs_to port) (length log) r.0) r.1.0, λ z. let e : Some (pairs_to port) ≡ None = sym r.1.0 ∙ z in cc))
     (λ r. (rw (lt-leb (2 * pairs_to port) (length log) r.0) r.1.0, λ _. r.1.1))
     (by_room port first second log t (leb (2 * pairs_to port) (length log)) refl)
 
@@ -238,17 +235,17 @@ module _ (k : KeptBytes) (first second : HostToDevice) (script log : List ℕ) (
   at_port Port2 h = port2_at_once h
 
   -- to either port's device, where the pairs were written
-  both_at_once : (port : DevicePort) {n : ℕ} {log' : List ℕ} → TwoWritten port (to_device first) (to_device second) log n log'
-      → (n ≡ 0 → ⊥) → PlaysKept (keeping_onto k (and_then (command_by port first) (λ _. command_by port second))) script log (yields (gives success)) 6 n log' k
-  both_at_once port t some =
-      ⊎_elim (λ r. rw (r.1.0, r.1.1) (at_port port r.0)) (λ r. absurd (some r.1.0))
+  both_at_once : (port : DevicePort) {n : Option ℕ} {log' : List ℕ} → TwoWritten port (to_device first) (to_device second) log n log'
+      → (m : ℕ) → n ≡ Some m → PlaysKept (keeping_onto k (and_then (command_by port first) (λ _. command_by port second))) script log (yields (gives success)) 6 m log' k
+  both_at_once port t m some =
+      ⊎_elim (λ r. let e : m ≡ pairs_to port = cc in rw (e, r.1.1) (at_port port r.0)) (λ r. let e : Some m ≡ None = sym some ∙ r.1.0 in cc)
       (by_room port (to_device first) (to_device second) log t (leb (2 * pairs_to port) (length log)) refl)
 
 pub long_enough : (l : List ℕ) → at_once l ≡ true → 3 ≤ length l
 long_enough l h = let a = begins l h in rw a.is (omega arith)
 
-pub made_at_once : (port : DevicePort) (first second : HostToDevice) (script log : List ℕ) → at_once script ≡ true → at_once (drop 3 script) ≡ true → {n : ℕ} {log' : List ℕ}
+pub made_at_once : (port : DevicePort) (first second : HostToDevice) (script log : List ℕ) → at_once script ≡ true → at_once (drop 3 script) ≡ true → {n : Option ℕ} {log' : List ℕ}
     → TwoWritten port (to_device first) (to_device second) log n log' → TwoAtOnce port (and_then (command_by port first) (λ _. command_by port second)) script log n log'
 made_at_once port first second script log p q t =
     let w = pairs_written port (to_device first) (to_device second) log t in
-    record { writes = rw (p, q) w.0; undone = w.1; plays = λ some k. both_at_once k first second script log p q port t some }
+    record { writes = rw (p, q) w.0; undone = w.1; plays = λ n some k. both_at_once k first second script log p q port t n some }

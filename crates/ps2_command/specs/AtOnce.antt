@@ -1,6 +1,6 @@
 -- A device that acknowledges two commands at once: nothing is waited for, and nothing is thrown away.
 -- Assumes nothing.
-use Rattle.std.specs.Prelude.{Bool, false, not, cond, ◌&&◌, List, [], ◌∷◌, ◌≡◌, ℕ, ◌*◌, ◌<◌, ◌≤◌, eqb, leb, length, set, drop}
+use Rattle.std.specs.Prelude.{Option, Some, None, Bool, false, not, cond, ◌&&◌, List, [], ◌∷◌, ◌≡◌, ℕ, ◌*◌, ◌<◌, ◌≤◌, eqb, leb, length, set, drop}
 use Rattle.bits.specs.Bits.{bit}
 use Rattle.exchange.specs.Exchange.{Exchange, yields}
 use Rattle.exchange.specs.Answer.{Answer, gives}
@@ -30,12 +30,12 @@ with_two Port1 first second log = set (set (set (set log 0 0x60) 1 first) 2 0x60
 with_two Port2 first second log = set (set (set (set (set (set (set (set log 0 0x64) 1 0xD4) 2 0x60) 3 first) 4 0x64) 5 0xD4) 6 0x60) 7 second
 
 -- They are written where the log has room for all of them.
-pub record TwoWritten (port : DevicePort) (first second : ℕ) (log : List ℕ) (pairs : ℕ) (log_left : List ℕ) : Type 0 where
-  pub fits : 2 * pairs_to port ≤ length log → (pairs ≡ pairs_to port) × (log_left ≡ with_two port first second log)
-  pub full : length log < 2 * pairs_to port → (pairs ≡ 0) × (log_left ≡ log)
+pub record TwoWritten (port : DevicePort) (first second : ℕ) (log : List ℕ) (pairs : Option ℕ) (log_left : List ℕ) : Type 0 where
+  pub fits : 2 * pairs_to port ≤ length log → (pairs ≡ Some (pairs_to port)) × (log_left ≡ with_two port first second log)
+  pub full : length log < 2 * pairs_to port → (pairs ≡ None) × (log_left ≡ log)
 
--- What a function comes to that makes two commands of an operation where both are acknowledged at once and the log has room, and does nothing elsewhere: the pairs written, none where nothing is done, and the log left. The operation is then done with three script bytes for each command, and with the bytes kept before it, whichever they are.
-pub record TwoAtOnce (port : DevicePort) (t : Exchange (Answer Success)) (script log : List ℕ) (pairs : ℕ) (log_left : List ℕ) : Type 0 where
-  pub writes : pairs ≡ cond (at_once script && (at_once (drop 3 script) && leb (2 * pairs_to port) (length log))) (pairs_to port) 0
-  pub undone : pairs ≡ 0 → log_left ≡ log
-  pub plays : (pairs ≡ 0 → ⊥) → (k : KeptBytes) → PlaysKept (keeping_onto k t) script log (yields (gives success)) 6 pairs log_left k
+-- What a function comes to that makes two commands of an operation where both are acknowledged at once and the log has room, and does nothing elsewhere: the pairs written, `None` where nothing is done, and the log left. The operation is then done with three script bytes for each command, and with the bytes kept before it, whichever they are.
+pub record TwoAtOnce (port : DevicePort) (t : Exchange (Answer Success)) (script log : List ℕ) (pairs : Option ℕ) (log_left : List ℕ) : Type 0 where
+  pub writes : pairs ≡ cond (at_once script && (at_once (drop 3 script) && leb (2 * pairs_to port) (length log))) (Some (pairs_to port)) None
+  pub undone : pairs ≡ None → log_left ≡ log
+  pub plays : (n : ℕ) → pairs ≡ Some n → (k : KeptBytes) → PlaysKept (keeping_onto k t) script log (yields (gives success)) 6 n log_left k

@@ -1,7 +1,7 @@
 // The command rule: a byte is sent to a device up to four times, until its response settles the matter. And what a reset waits for.
 #![tactic(auto)]
 
-ghost use Rattle.std.specs.Prelude.{◌≡◌, ◌/◌, ◌<◌, ◌≤◌, ◌++◌, length, drop};
+ghost use Rattle.std.specs.Prelude.{Some, None, ◌≡◌, ◌/◌, ◌<◌, ◌≤◌, ◌++◌, length, drop};
 ghost use Rattle.exchange.specs.Exchange.{told_end, played, play};
 ghost use Rattle.exchange.specs.Answer.{and_then, renumbered};
 ghost use Rattle.exchange.specs.Keeping.{kept_end};
@@ -123,6 +123,7 @@ fn command_by_onto(
 }
 
 // Two commands to a device, the second only where the first was accepted.
+// Kept beside the next, and beside `command_pair`, no plainer: each promises another definition, in a few lines over this one. `command_by` and `command_by_onto` likewise.
 pub fn command_pair_keeping(
     script: &[u8],
     log: &mut [u8],
@@ -175,19 +176,19 @@ fn acknowledges_at_once(script: &[u8]) -> bool
 }
 
 // Puts these pairs at the start of the log where it has room for all of them, and tells how many they are.
-fn put_pairs(log: &mut [u8], pairs: &[u8]) -> usize
-    ensures fits { length pairs.now ≤ length log.old → (result ≡ length pairs.now / 2) × (log.new ≡ pairs.now ++ drop (length pairs.now) log.old) }
-    ensures full { length log.old < length pairs.now → (result ≡ 0) × (log.new ≡ log.old) }
+fn put_pairs(log: &mut [u8], pairs: &[u8]) -> Option<usize>
+    ensures fits { length pairs.now ≤ length log.old → (result ≡ Some (length pairs.now / 2)) × (log.new ≡ pairs.now ++ drop (length pairs.now) log.old) }
+    ensures full { length log.old < length pairs.now → (result ≡ None) × (log.new ≡ log.old) }
 {
     if log.len() < pairs.len() {
-        return 0;
+        return None;
     }
     log[..pairs.len()].copy_from_slice(pairs);
-    pairs.len() / 2
+    Some(pairs.len() / 2)
 }
 
 // The pairs of two bytes for the device of a port, where the log has room for all of them.
-fn two_to(port: DevicePort, log: &mut [u8], first: u8, second: u8) -> usize
+fn two_to(port: DevicePort, log: &mut [u8], first: u8, second: u8) -> Option<usize>
     ensures { TwoWritten port first second log.old result log.new }
 {
     let to_port2 = [
@@ -202,21 +203,21 @@ fn two_to(port: DevicePort, log: &mut [u8], first: u8, second: u8) -> usize
     }
 }
 
-// Two commands to a device that acknowledges both at once, and so throws nothing away: the pairs that they write. For any other device, and for a log without room, nothing is done, and there is none.
+// Two commands to a device that acknowledges both at once, and so throws nothing away: the pairs that they write. For any other device, and for a log without room, nothing is done, and the answer is `None`.
 pub fn command_pair_at_once(
     script: &[u8],
     log: &mut [u8],
     port: DevicePort,
     first: HostToDevice,
     second: HostToDevice,
-) -> usize
+) -> Option<usize>
     ensures { TwoAtOnce port (and_then (command_by port first) (λ _. command_by port second)) script.now log.old result log.new }
 {
     if !acknowledges_at_once(script) {
-        return 0;
+        return None;
     }
     if !acknowledges_at_once(&script[3..]) {
-        return 0;
+        return None;
     }
     two_to(port, log, u8::from(first), u8::from(second))
 }

@@ -88,13 +88,13 @@ pub fn set_port_led_onto(
     }
 }
 
-// The same where the keyboard acknowledges both bytes at once: the pairs written, and none where it doesn't, or where the log has no room, and nothing is done.
+// The same where the keyboard acknowledges both bytes at once: the pairs written, and `None` where it doesn't, or where the log has no room, and nothing is done.
 pub fn set_port_led_at_once(
     script: &[u8],
     log: &mut [u8],
     port: DevicePort,
     value: LEDState,
-) -> usize
+) -> Option<usize>
     ensures { TwoAtOnce port (set_port_led port value) script.now log.old result log.new }
 {
     command_pair_at_once(

@@ -11,22 +11,22 @@ use Rattle.keyboard.proofs.lock_pressed.Goals as goal
 use Rattle.keyboard.proofs.lock_pressed.Goals.{After-set_port_led_onto-lit}
 
 -- both bytes were acknowledged at once
-pub returns-then-at_once-ne0 : goal.returns-then-at_once-ne0
-returns-then-at_once-ne0 c =
+pub returns-in-Some : goal.returns-in-Some
+returns-in-Some c =
     let a = c.args in
     record {
       at = λ rest is few.
           gives_back a.keyboard _ _ _
           (lamps_answer (port_rules Profile.Any a.port) a.keyboard a.scan_code a.modifiers.bits rest _ _ c.requires c.leds-lamps.ensures
-          (lamps_within a.port _) (omega (arith, few)) is (c.set_port_led_at_once-at_once.ensures.plays c.if-at_once-ne0.true a.kept)
+          (lamps_within a.port _) (omega (arith, few)) is (c.set_port_led_at_once.ensures.plays _ c.in-Some.is a.kept)
           refl)
           c.after_lamps.ensures;
     }
 
 -- otherwise the log is as it was
 module _ (c : After-set_port_led_onto-lit) where
-  unlit : c.set_port_led_at_once-at_once.new.log ≡ c.args.log.now
-  unlit = c.set_port_led_at_once-at_once.ensures.undone c.if-at_once-ne0.false
+  unlit : c.set_port_led_at_once.new.log ≡ c.args.log.now
+  unlit = c.set_port_led_at_once.ensures.undone c.in_default.is
 
 pub returns-in-Ok : goal.returns-in-Ok
 returns-in-Ok c =

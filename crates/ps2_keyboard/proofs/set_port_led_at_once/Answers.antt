@@ -9,4 +9,4 @@ pub returns : goal.returns
 unfolding set_port_led set_led_by
 returns c =
     let e = c.command_pair_at_once.ensures in
-    record { writes = e.writes; undone = e.undone; plays = λ some k. refusing_kept _ _ k (e.plays some k) refl }
+    record { writes = e.writes; undone = e.undone; plays = λ n some k. refusing_kept _ _ k (e.plays n some k) refl }
