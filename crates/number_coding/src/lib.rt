@@ -61,7 +61,7 @@ const FOUR_GROUPS: u32 = 0x20_0000;
 
 const FIVE_GROUPS: u32 = 0x1000_0000;
 
-// Reads the number that stands in a string from a place on.
+// Reads the number that stands in a string from a place on. Kept as string and place, as the next, no plainer: a place past the end is a number cut short, and no slice begins there.
 pub fn read_number(input: &[u8], at: usize) -> Result<Number, Malformed>
     ensures { said_number result ≡ read_number (drop at input.now) }
 {

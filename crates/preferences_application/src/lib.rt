@@ -21,7 +21,7 @@ use ps2_layouts::LEDState;
 use ps2_mouse::PS2Mouse;
 use ps2_ports::DevicePort;
 
-// What a field asks of a device.
+// What a field asks of a device. Kept, as the `match` in `apply_setting`, a rule of the project: settings of several types in one list are an enum, since closures in a list would be boxed, and there is no heap.
 #[derive(Clone, Copy)]
 pub enum Setting {
     ScancodeSet(ScancodeSet),
@@ -135,7 +135,7 @@ fn byte_of(value: u32) -> u8
     value as u8
 }
 
-// The scancode set of a byte, and below the sampling rate and the resolution. A function for all three would take the number that stands for the unlisted, and be `unwrap_or` itself.
+// The scancode set of a byte, and below the sampling rate and the resolution. A function for all three would take the value that stands for the unlisted, and be `unwrap_or` itself.
 fn set_of(byte: u8) -> ScancodeSet
     ensures { result ≡ set_of byte }
 {

@@ -94,7 +94,7 @@ fn accepts_fifth(checks_range: bool, value: u32) -> bool
     !checks_range || is_repeat_byte(value)
 }
 
-// Reads the number at a place, and answers it with the place behind it.
+// Reads the number at a place, and answers it with the place behind it. Kept as string and place, here and below, no plainer: a place past the end is a number cut short, and no slice begins there.
 fn any_number_at(input: &[u8], at: usize) -> Result<(u32, usize), ReadRefusal>
     ensures { Takes input.now at any_number result }
 {
