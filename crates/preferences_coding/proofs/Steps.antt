@@ -8,7 +8,7 @@ use native.Mathlib.Omega.{arith}
 use lib.Dec.{eqb, leb}
 use lib.ListN.{length, drop, length-append, length-drop, drop_of_length-le}
 use lib.Seq.{drop-drop, drop-cons}
-use borrow.Author.Tests.{eqb-true, ne_eqb, leb-true, leb-false}
+use borrow.Author.Tests.{eqb-true, leb-true, leb-false}
 use Rattle.std.specs.Prelude.{Result, Ok, Err}
 use Rattle.exchange.specs.Answer.{Answer, gives, refuses}
 use Rattle.number_coding.specs.Coding.{coding}
@@ -20,9 +20,10 @@ use Rattle.preferences.specs.Values.{is_scancode_set, is_sampling_rate, is_resol
 use Rattle.preferences.specs.declared.Fields.{Fields}
 use Rattle.preferences.specs.Record.{four_fields}
 use Rattle.preferences_coding.specs.declared.ReadRefusal.{ReadRefusal}
+use Rattle.preferences_coding.specs.declared.Version.{Version}
 use Rattle.preferences_coding.specs.Format.{field_count}
 use Rattle.preferences_coding.specs.Reading.{behind, asking, numbers_read, is_version, any_number, is_count, version_in, record_read, refusal_number}
-use Rattle.preferences_coding.specs.Steps.{behind_all, Takes, Heads, Fours}
+use Rattle.preferences_coding.specs.Steps.{version_number, version_read, behind_all, Takes, Heads, Fours}
 
 -- ---- one number
 
@@ -103,37 +104,73 @@ module _ {input : List ℕ} {at : ℕ} (question : ℕ → Bool) where
 
 -- ---- version and count
 
-second_version : (n : ℕ) → is_version n ≡ true → (n ≡ 1 → ⊥) → n ≡ 2
-second_version n e other = eqb-true n 2 (rw (ne_eqb n 1 other) at e)
+-- a number that is read as a version is that version's
+is_read : (n : ℕ) {v : Version} → version_read n ≡ Ok v → n ≡ version_number v
+is_read n {v} e = by (eqb n 1) (eqb n 2) refl refl v e
+  where
+    by : (one two : Bool) → eqb n 1 ≡ one → eqb n 2 ≡ two → (v : Version) → cond one (Ok Version.One) (cond two (Ok Version.Two) (Err ReadRefusal.OutsideValues)) ≡ Ok v → n ≡ version_number v
+    by true two p q Version.One e = eqb-true n 1 p
+    by true two p q Version.Two e = absurd cc
+    by false true p q Version.One e = absurd cc
+    by false true p q Version.Two e = eqb-true n 2 q
+    by false false p q v e = absurd cc
+
+-- what is no version is refused with the number of what is outside its values
+record NoVersion (n : ℕ) (x : ReadRefusal) : Type 0 where
+  pub outside : is_version n ≡ false
+  pub refusal : x ≡ ReadRefusal.OutsideValues
+
+is_refused : (n : ℕ) {x : ReadRefusal} → version_read n ≡ Err x → NoVersion n x
+is_refused n {x} e = by (eqb n 1) (eqb n 2) refl refl e
+  where
+    by : (one two : Bool) → eqb n 1 ≡ one → eqb n 2 ≡ two → cond one (Ok Version.One) (cond two (Ok Version.Two) (Err ReadRefusal.OutsideValues)) ≡ Err x → NoVersion n x
+    by true two p q e = absurd cc
+    by false true p q e = absurd cc
+    by false false p q e = record { outside = rw (p, q); refusal = cc }
 
 module _ {input : List ℕ} where
   pub head_refused : {x : ReadRefusal} → Takes input 0 is_version (Err x) → Heads input (Err x)
   unfolding record_read
-  head_refused t =
-      record {
-        says = λ fifth. then_refused t (is_count (version_in (read_number input)) ∷ four_values ++ cond (eqb (version_in (read_number input)) 1) [] (fifth ∷ []));
-        version = tt;
-      }
+  head_refused t = record { says = λ fifth. then_refused t (is_count (version_in (read_number input)) ∷ four_values ++ cond (eqb (version_in (read_number input)) 1) [] (fifth ∷ [])) }
 
-  module _ {v at : ℕ} (t : Takes input 0 is_version (Ok (v, at))) where
-    by_version : (fifth : ℕ → Bool) → record_read fifth input ≡ behind v (numbers_read (is_count v ∷ four_values ++ cond (eqb v 1) [] (fifth ∷ [])) (drop at input))
+  module _ (v : Version) {at : ℕ} (t : Takes input 0 is_version (Ok (version_number v, at))) where
+    by_version : (fifth : ℕ → Bool) → record_read fifth input ≡ behind (version_number v) (numbers_read (is_count (version_number v) ∷ four_values ++ cond (eqb (version_number v) 1) [] (fifth ∷ [])) (drop at input))
     unfolding record_read
-    by_version fifth = rw (known t).value (then_others t (is_count v ∷ four_values ++ cond (eqb v 1) [] (fifth ∷ [])))
+    by_version fifth = rw (known t).value (then_others t (is_count (version_number v) ∷ four_values ++ cond (eqb (version_number v) 1) [] (fifth ∷ [])))
 
-    pub count_refused : {x : ReadRefusal} → Takes input at (is_count v) (Err x) → Heads input (Err x)
-    count_refused c = record { says = λ fifth. by_version fifth ∙ ap (behind v) (then_refused c (four_values ++ cond (eqb v 1) [] (fifth ∷ []))); version = tt }
+    pub count_refused : {x : ReadRefusal} → Takes input at (is_count (version_number v)) (Err x) → Heads input (Err x)
+    count_refused c = record { says = λ fifth. by_version fifth ∙ ap (behind (version_number v)) (then_refused c (four_values ++ cond (eqb (version_number v) 1) [] (fifth ∷ []))) }
 
-    pub head_read : {n end : ℕ} → Takes input at (is_count v) (Ok (n, end)) → Heads input (Ok (v, end))
+    pub head_read : {n end : ℕ} → Takes input at (is_count (version_number v)) (Ok (n, end)) → Heads input (Ok (v, end))
     head_read {n} {end} c =
-        let z : n ≡ field_count v = eqb-true n (field_count v) (known c).accepted in
+        let z : n ≡ field_count (version_number v) = eqb-true n (field_count (version_number v)) (known c).accepted in
         record {
           says =
               λ fifth.
               by_version fifth
-              ∙ ap (behind v) (then_others c (four_values ++ cond (eqb v 1) [] (fifth ∷ [])))
-              ∙ ap (λ (m : ℕ). behind v (behind m (numbers_read (four_values ++ cond (eqb v 1) [] (fifth ∷ [])) (drop end input)))) z;
-          version = (known t).accepted;
+              ∙ ap (behind (version_number v)) (then_others c (four_values ++ cond (eqb (version_number v) 1) [] (fifth ∷ [])))
+              ∙ ap (λ (m : ℕ). behind (version_number v) (behind m (numbers_read (four_values ++ cond (eqb (version_number v) 1) [] (fifth ∷ [])) (drop end input)))) z;
         }
+
+-- a number that was read, as a version
+module _ {input : List ℕ} {r : Result (ℕ × ℕ) ReadRefusal} {t : ℕ × ℕ} (h : Takes input 0 any_number r) (e : r ≡ Ok t) where
+  pub versioned : {v : Version} {read : Result Version ReadRefusal} → read ≡ version_read t.0 → read ≡ Ok v → Takes input 0 is_version (Ok (version_number v, t.1))
+  versioned {v} p q =
+      let z = is_read t.0 (sym p ∙ q) in
+      subst (λ (n : ℕ). Takes input 0 is_version (Ok (n, t.1))) z (taken is_version h e refl (ap is_version z ∙ known_version v))
+    where
+      known_version : (v : Version) → is_version (version_number v) ≡ true
+      known_version Version.One = refl
+      known_version Version.Two = refl
+
+  pub unversioned : {x : ReadRefusal} {read : Result Version ReadRefusal} → read ≡ version_read t.0 → read ≡ Err x → Heads input (Err x)
+  unversioned p q =
+      let z = is_refused t.0 (sym p ∙ q) in
+      head_refused (outside is_version h e refl z.outside z.refusal)
+
+-- a head that was read, by the arm in which its version stands
+pub head_in : {input : List ℕ} {r : Result (Version × ℕ) ReadRefusal} {v w : Version} {at : ℕ} → Heads input r → r ≡ Ok (v, at) → v ≡ w → Heads input (Ok (w, at))
+head_in {input} {r} {v} {w} {at} h e z = subst (Heads input) (e ∙ ap (λ (u : Version). Ok (u, at)) z) h
 
 -- ---- the four fields
 
@@ -177,36 +214,31 @@ module _ {input : List ℕ} (fifth : ℕ → Bool) where
   pub head_ends : {x : ReadRefusal} → Heads input (Err x) → record_read fifth input ≡ refuses (refusal_number x)
   head_ends h = h.says fifth
 
-  module _ {v at : ℕ} (h : Heads input (Ok (v, at))) where
+  module _ {v : Version} {at : ℕ} (h : Heads input (Ok (v, at))) where
     pub four_ends : {x : ReadRefusal} → Fours input at (Err x) → record_read fifth input ≡ refuses (refusal_number x)
-    four_ends f = h.says fifth ∙ ap (behind_all (v ∷ field_count v ∷ [])) (f.says (cond (eqb v 1) [] (fifth ∷ [])))
+    four_ends f = h.says fifth ∙ ap (behind_all (version_number v ∷ field_count (version_number v) ∷ [])) (f.says (cond (eqb (version_number v) 1) [] (fifth ∷ [])))
 
-    module _ {four : Fields} {end : ℕ} (f : Fours input at (Ok (four, end))) where
-      behind_four : record_read fifth input ≡ behind_all (v ∷ field_count v ∷ four_fields four) (numbers_read (cond (eqb v 1) [] (fifth ∷ [])) (drop end input))
-      behind_four = h.says fifth ∙ ap (behind_all (v ∷ field_count v ∷ [])) (f.says (cond (eqb v 1) [] (fifth ∷ [])))
+  module _ {at : ℕ} {four : Fields} {end : ℕ} (f : Fours input at (Ok (four, end))) where
+    module _ (h : Heads input (Ok (Version.One, at))) where
+      behind_1 : record_read fifth input ≡ behind_all (1 ∷ 4 ∷ four_fields four) (numbers_read [] (drop end input))
+      behind_1 = h.says fifth ∙ ap (behind_all (1 ∷ 4 ∷ [])) (f.says [])
 
-      module _ (e : v ≡ 1) where
-        behind_1 : record_read fifth input ≡ behind_all (1 ∷ 4 ∷ four_fields four) (numbers_read [] (drop end input))
-        behind_1 = behind_four ∙ ap (λ (w : ℕ). behind_all (w ∷ field_count w ∷ four_fields four) (numbers_read (cond (eqb w 1) [] (fifth ∷ [])) (drop end input))) e
+      pub one_follows : leb (length input) end ≡ false → record_read fifth input ≡ refuses 29
+      one_follows l = behind_1 ∙ ap (behind_all (1 ∷ 4 ∷ four_fields four)) (bytes_follow input end l)
 
-        pub one_follows : leb (length input) end ≡ false → record_read fifth input ≡ refuses 29
-        one_follows l = behind_1 ∙ ap (behind_all (1 ∷ 4 ∷ four_fields four)) (bytes_follow input end l)
+      pub one_ends : leb (length input) end ≡ true → record_read fifth input ≡ gives (1 ∷ 4 ∷ four_fields four)
+      one_ends l = behind_1 ∙ ap (behind_all (1 ∷ 4 ∷ four_fields four)) (nothing_follows input end l)
 
-        pub one_ends : leb (length input) end ≡ true → record_read fifth input ≡ gives (1 ∷ 4 ∷ four_fields four)
-        one_ends l = behind_1 ∙ ap (behind_all (1 ∷ 4 ∷ four_fields four)) (nothing_follows input end l)
+    module _ (h : Heads input (Ok (Version.Two, at))) where
+      behind_2 : record_read fifth input ≡ behind_all (2 ∷ 5 ∷ four_fields four) (numbers_read (fifth ∷ []) (drop end input))
+      behind_2 = h.says fifth ∙ ap (behind_all (2 ∷ 5 ∷ [])) (f.says (fifth ∷ []))
 
-      module _ (other : v ≡ 1 → ⊥) where
-        behind_2 : record_read fifth input ≡ behind_all (2 ∷ 5 ∷ four_fields four) (numbers_read (fifth ∷ []) (drop end input))
-        behind_2 =
-            behind_four
-            ∙ ap (λ (w : ℕ). behind_all (w ∷ field_count w ∷ four_fields four) (numbers_read (cond (eqb w 1) [] (fifth ∷ [])) (drop end input))) (second_version v h.version other)
+      pub fifth_ends : {x : ReadRefusal} → Takes input end fifth (Err x) → record_read fifth input ≡ refuses (refusal_number x)
+      fifth_ends t = behind_2 ∙ ap (behind_all (2 ∷ 5 ∷ four_fields four)) (then_refused t [])
 
-        pub fifth_ends : {x : ReadRefusal} → Takes input end fifth (Err x) → record_read fifth input ≡ refuses (refusal_number x)
-        fifth_ends t = behind_2 ∙ ap (behind_all (2 ∷ 5 ∷ four_fields four)) (then_refused t [])
+      module _ {again last : ℕ} (t : Takes input end fifth (Ok (again, last))) where
+        pub two_follows : leb (length input) last ≡ false → record_read fifth input ≡ refuses 29
+        two_follows l = behind_2 ∙ ap (behind_all (2 ∷ 5 ∷ four_fields four)) (then_others t [] ∙ ap (behind again) (bytes_follow input last l))
 
-        module _ {again last : ℕ} (t : Takes input end fifth (Ok (again, last))) where
-          pub two_follows : leb (length input) last ≡ false → record_read fifth input ≡ refuses 29
-          two_follows l = behind_2 ∙ ap (behind_all (2 ∷ 5 ∷ four_fields four)) (then_others t [] ∙ ap (behind again) (bytes_follow input last l))
-
-          pub two_ends : leb (length input) last ≡ true → record_read fifth input ≡ gives (2 ∷ 5 ∷ four_fields four ++ again ∷ [])
-          two_ends l = behind_2 ∙ ap (behind_all (2 ∷ 5 ∷ four_fields four)) (then_others t [] ∙ ap (behind again) (nothing_follows input last l))
+        pub two_ends : leb (length input) last ≡ true → record_read fifth input ≡ gives (2 ∷ 5 ∷ four_fields four ++ again ∷ [])
+        two_ends l = behind_2 ∙ ap (behind_all (2 ∷ 5 ∷ four_fields four)) (then_others t [] ∙ ap (behind again) (nothing_follows input last l))

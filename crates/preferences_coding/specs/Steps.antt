@@ -7,8 +7,21 @@ use Rattle.preferences.specs.Values.{four_values, is_repeat_byte}
 use Rattle.preferences.specs.Record.{four_fields}
 use Rattle.preferences.specs.declared.Fields.{Fields}
 use Rattle.preferences_coding.specs.declared.ReadRefusal.{ReadRefusal}
+use Rattle.preferences_coding.specs.declared.Version.{Version}
 use Rattle.preferences_coding.specs.Format.{field_count}
-use Rattle.preferences_coding.specs.Reading.{behind, asking, numbers_read, is_version, any_number, record_read, refusal_number}
+use Rattle.preferences_coding.specs.Reading.{behind, asking, numbers_read, any_number, record_read, refusal_number}
+
+-- ---- versions
+
+abbrev pub version_number : Version → ℕ
+version_number Version.One = 1
+version_number Version.Two = 2
+
+-- A number as a version; one that is none is outside its values.
+abbrev pub version_read : ℕ → Result Version ReadRefusal
+version_read n = cond (eqb n 1) (Ok Version.One) (cond (eqb n 2) (Ok Version.Two) (Err ReadRefusal.OutsideValues))
+
+-- ---- parts
 
 -- What a reader asks of the fifth field: whether it checks the range.
 abbrev pub fifth_for : Bool → ℕ → Bool
@@ -29,18 +42,12 @@ behind_all [] a = a
 behind_all (n ∷ ns) a = behind n (behind_all ns a)
 
 -- Version and count, then what is read behind them: the fields of the version.
-abbrev pub head_says : List ℕ → (ℕ → Bool) → Result (ℕ × ℕ) ReadRefusal → Answer (List ℕ)
-head_says input fifth (Ok h) = behind_all (h.0 ∷ field_count h.0 ∷ []) (numbers_read (four_values ++ cond (eqb h.0 1) [] (fifth ∷ [])) (drop h.1 input))
+abbrev pub head_says : List ℕ → (ℕ → Bool) → Result (Version × ℕ) ReadRefusal → Answer (List ℕ)
+head_says input fifth (Ok h) = let v = version_number h.0 in behind_all (v ∷ field_count v ∷ []) (numbers_read (four_values ++ cond (eqb v 1) [] (fifth ∷ [])) (drop h.1 input))
 head_says input fifth (Err x) = refuses (refusal_number x)
 
--- It is 1 or 2.
-abbrev pub HasVersion : Result (ℕ × ℕ) ReadRefusal → Type 0
-HasVersion (Ok h) = is_version h.0 ≡ true
-HasVersion (Err x) = Unit {0}
-
-pub record Heads (input : List ℕ) (r : Result (ℕ × ℕ) ReadRefusal) : Type 0 where
+pub record Heads (input : List ℕ) (r : Result (Version × ℕ) ReadRefusal) : Type 0 where
   pub says : (fifth : ℕ → Bool) → record_read fifth input ≡ head_says input fifth r
-  pub version : HasVersion r
 
 -- The four fields, whatever is asked behind them.
 abbrev pub four_says : List ℕ → List (ℕ → Bool) → Result (Fields × ℕ) ReadRefusal → Answer (List ℕ)

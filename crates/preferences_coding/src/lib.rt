@@ -4,9 +4,9 @@
 ghost use Rattle.std.specs.Prelude.{◌≡◌, ◌<◌, ◌≤◌, ◌++◌, true, false, length, drop, MatchResult};
 ghost use Rattle.number_coding.specs.Writing.{outcome, count_written};
 ghost use Rattle.preferences_coding.specs.Format.{codings, field_count};
-ghost use Rattle.preferences_coding.specs.Reading.{is_version, any_number, record_read, read1, read2, said_read1, said_read2, refusal_number};
+ghost use Rattle.preferences_coding.specs.Reading.{any_number, record_read, read1, read2, said_read1, said_read2, refusal_number};
 ghost use Rattle.preferences_coding.specs.Writing.{written, fitting, leaves, said_written, write_refusal_number};
-ghost use Rattle.preferences_coding.specs.Steps.{fifth_for, Takes, Heads, Fours, numbers_most};
+ghost use Rattle.preferences_coding.specs.Steps.{version_number, version_read, fifth_for, Takes, Heads, Fours, numbers_most};
 
 use number_coding::{Malformed, number_length, read_number, write_number};
 use preferences::{
@@ -28,9 +28,12 @@ pub enum WriteRefusal {
     OutputShort = 23,
 }
 
-const VERSION_1: u32 = 1;
-
-const VERSION_2: u32 = 2;
+// The versions of a record, by their numbers.
+#[derive(Clone, Copy, PartialEq, Eq)]
+enum Version {
+    One = 1,
+    Two = 2,
+}
 
 // How many fields a record of each version has.
 const FIELDS_1: u32 = 4;
@@ -70,20 +73,29 @@ impl From<Malformed> for ReadRefusal {
 
 // ---- reading
 
-// Whether a number is a version.
-fn is_version(value: u32) -> bool
-    ensures { result ≡ is_version value }
-{
-    matches!(value, VERSION_1 | VERSION_2)
+impl TryFrom<u32> for Version {
+    type Error = ReadRefusal;
+
+    ghost try_from_gives = { λ number read. read ≡ version_read number };
+
+    fn try_from(number: u32) -> Result<Self, ReadRefusal> {
+        match number {
+            1 => Ok(Version::One),
+            2 => Ok(Version::Two),
+            _ => Err(ReadRefusal::OutsideValues),
+        }
+    }
 }
 
-// How many fields a record of a version has.
-fn field_count(version: u32) -> u32
-    ensures { result ≡ field_count version }
-{
-    match version {
-        VERSION_1 => FIELDS_1,
-        _ => FIELDS_2,
+impl Version {
+    // How many fields a record of a version has.
+    fn field_count(self) -> u32
+        ensures { result ≡ field_count (version_number self) }
+    {
+        match self {
+            Version::One => FIELDS_1,
+            Version::Two => FIELDS_2,
+        }
     }
 }
 
@@ -135,13 +147,13 @@ fn end_at(input: &[u8], end: usize) -> Result<(), ReadRefusal>
 }
 
 // Reads version and count, and answers the version with the place behind them: the count is judged by the version.
-fn read_head(input: &[u8]) -> Result<(u32, usize), ReadRefusal>
+fn read_head(input: &[u8]) -> Result<(Version, usize), ReadRefusal>
     ensures { Heads input.now result }
 {
-    let (version, count_at) = number_at(input, 0)?;
-    accept(is_version(version))?;
+    let (number, count_at) = number_at(input, 0)?;
+    let version = Version::try_from(number)?;
     let (count, end) = number_at(input, count_at)?;
-    accept(count == field_count(version))?;
+    accept(count == version.field_count())?;
     Ok((version, end))
 }
 
@@ -174,14 +186,18 @@ fn read_record(input: &[u8], checks_range: bool) -> Result<Preferences, ReadRefu
 {
     let (version, at) = read_head(input)?;
     let (fields, end) = read_four(input, at)?;
-    if version == VERSION_1 {
-        end_at(input, end)?;
-        return Ok(Preferences::Version1(fields));
+    match version {
+        Version::One => {
+            end_at(input, end)?;
+            Ok(Preferences::Version1(fields))
+        }
+        Version::Two => {
+            let (repeat, last) = number_at(input, end)?;
+            accept(accepts_fifth(checks_range, repeat))?;
+            end_at(input, last)?;
+            Ok(Preferences::Version2(fields, repeat))
+        }
     }
-    let (repeat, last) = number_at(input, end)?;
-    accept(accepts_fifth(checks_range, repeat))?;
-    end_at(input, last)?;
-    Ok(Preferences::Version2(fields, repeat))
 }
 
 // The version 1 reader. Of a record of version 2 it gives the four fields; the fifth must be a number, and may be any.
@@ -248,7 +264,7 @@ pub fn write_preferences(preferences: Preferences, output: &mut [u8]) -> Result<
     match preferences {
         Preferences::Version1(four) => write_all(
             &[
-                VERSION_1,
+                Version::One as u32,
                 FIELDS_1,
                 four.set,
                 four.rate,
@@ -259,7 +275,7 @@ pub fn write_preferences(preferences: Preferences, output: &mut [u8]) -> Result<
         ),
         Preferences::Version2(fields, repeat) => write_all(
             &[
-                VERSION_2,
+                Version::Two as u32,
                 FIELDS_2,
                 fields.set,
                 fields.rate,
