@@ -83,7 +83,7 @@ impl Value for u8 {
 
 // Of numbers wider than a byte too, each is its own.
 impl Value for u64 {
-    ghost worth = { byte_value };
+    ghost worth = { λ n. n };
 
     fn number(self) -> u64 {
         self
