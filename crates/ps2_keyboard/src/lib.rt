@@ -62,7 +62,7 @@ pub fn set_keyboard_led(script: &[u8], log: &mut [u8], value: LEDState) -> Comma
     set_port_led_onto(script, log, DevicePort::Port1, value, none_kept())
 }
 
-// The same for the keyboard of either port, with what is thrown away behind the bytes kept before.
+// The same for the keyboard of either port, with what is thrown away behind the bytes kept before. Kept beside the shorter form, a rule of the project: that one has the Rust's name, and it is one line over this.
 pub fn set_port_led_onto(
     script: &[u8],
     log: &mut [u8],
