@@ -34,7 +34,7 @@ use Rattle.keyboard.specs.declared.Handled.{Handled}
 use Rattle.keyboard.specs.KeyboardLamps.{keyboard_lamps}
 use Rattle.keyboard.specs.Handler.{handle, effects, log_left, handled}
 use Rattle.keyboard.specs.Outcomes.{said_effect, said_handled}
-use Rattle.keyboard_in_place.specs.declared.HandledInPlace.{HandledInPlace}
+use Rattle.keyboard.specs.declared.CallAnswer.{CallAnswer}
 use Rattle.keyboard_in_place.specs.InPlace.{said_in_place}
 use Rattle.keyboard_init.specs.declared.KeyboardInitialized.{KeyboardInitialized}
 use Rattle.keyboard_init.specs.KeyboardInit.{keyboard_init}
@@ -166,10 +166,10 @@ module _ (n : ℕ) (script log : List ℕ) where
         as_coded (record_codes handler) (next_port n (handle keyboard_lamps side handler.state) script log) (handled_cut keyboard_lamps side n script log handler p q)
 
     -- the record is the one behind the reference at exit
-    abbrev handed_in_place : HandledInPlace → KeyboardHandler → List ℕ → Handed RecordCoded
+    abbrev handed_in_place : CallAnswer → KeyboardHandler → List ℕ → Handed RecordCoded
     handed_in_place r h l = handed (record { answer = r.answer; failed = r.lamps_failed; handler = h; dropped = r.dropped }) r.used r.pairs l
 
-    pub handle_in_place_cut : (handler : KeyboardHandler) {r r' : HandledInPlace} {h h' : KeyboardHandler} {l l' : List ℕ}
+    pub handle_in_place_cut : (handler : KeyboardHandler) {r r' : CallAnswer} {h h' : KeyboardHandler} {l l' : List ℕ}
         → (said_in_place r h ≡ handled keyboard_lamps side handler script log) × (l ≡ log_left keyboard_lamps side handler.state script log)
         → (said_in_place r' h' ≡ handled keyboard_lamps side handler (take n script) log) × (l' ≡ log_left keyboard_lamps side handler.state (take n script) log)
         → CutShort n (coded_record handler (next_port n (handle keyboard_lamps side handler.state) script log)) log (handed_in_place r h l) (handed_in_place r' h' l')

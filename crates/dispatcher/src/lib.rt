@@ -9,7 +9,7 @@ ghost use Rattle.dispatcher.specs.Sources.{scripts, value_at, with_place, unused
 ghost use Rattle.dispatcher.specs.Step.{new_dispatcher, with_handler, turn_over, serve_mouse, serve_keyboard, step_of};
 ghost use Rattle.dispatcher.specs.Said.{wait_in, said_step};
 
-use keyboard::{HandlerAnswer, handle};
+use keyboard::{CallAnswer, handle};
 use keyboard_record::KeyboardHandler;
 use keyboard_sides::Side;
 use ps2_answers::Answer;
@@ -46,16 +46,6 @@ pub struct Dispatcher {
     pub places: Places,
     pub mouse: PS2Mouse,
     pub handler: KeyboardHandler,
-}
-
-// What a handler call answers, as `Handled` has it without the record. Kept: `lamps_failed` is document 01's 14, shown beside the answer and not in its place.
-#[derive(Clone, Copy)]
-pub struct CallAnswer {
-    pub answer: HandlerAnswer,
-    pub lamps_failed: bool,
-    pub used: usize,
-    pub pairs: usize,
-    pub dropped: u32,
 }
 
 // What a step answers: a side was served, with what its handler call answered; the mouse, with its packet; or nobody waited.
@@ -185,16 +175,7 @@ fn serve_keyboard(state: Dispatcher, side: Side, script: &[u8], log: &mut [u8]) 
     let place = state.places.at(source);
     let call = handle(state.handler, side, &script[start(place, script)..], log);
     Dispatched {
-        served: Served::Key(
-            side,
-            CallAnswer {
-                answer: call.answer,
-                lamps_failed: call.lamps_failed,
-                used: call.used,
-                pairs: call.pairs,
-                dropped: call.dropped,
-            },
-        ),
+        served: Served::Key(side, call.call_answer()),
         used: call.used,
         pairs: call.pairs,
         state: state.turn_over(

@@ -10,6 +10,7 @@ use Rattle.ps2_kept.specs.Thrown.{thrown}
 use Rattle.ps2_kept.specs.Kept.{kept_limit, kept_of}
 use Rattle.keycodes_ascii.specs.declared.KeyEvent.{KeyEvent}
 use Rattle.keyboard_scancodes.specs.declared.KeyboardState.{KeyboardState}
+use Rattle.keyboard.specs.declared.CallAnswer.{CallAnswer}
 use Rattle.keyboard.specs.declared.Effect.{Effect}
 use Rattle.keyboard.specs.declared.Handled.{Handled}
 use Rattle.keyboard.specs.declared.KeyEffect.{KeyEffect}
@@ -18,6 +19,10 @@ use Rattle.keyboard.specs.Answers.{said_call, said_lamps, said_given}
 use Rattle.keyboard.specs.Scancode.{Took, takes}
 use Rattle.keyboard.specs.Byte.{Keyed, after_lamps, KeyEffects, key_effects_by, lamp_exchange}
 use Rattle.keyboard.specs.Handler.{Effects, Called}
+
+-- What a call answers beside its record.
+abbrev pub call_answer : Handled → CallAnswer
+call_answer x = record { answer = x.answer; lamps_failed = x.lamps_failed; used = x.used; pairs = x.pairs; dropped = x.dropped }
 
 -- What a call gives back for its keyboard.
 abbrev pub said_key_effect : KeyEffect → KeyEffects

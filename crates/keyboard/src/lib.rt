@@ -16,7 +16,7 @@ ghost use Rattle.keyboard_record.specs.Queue.{said_room};
 ghost use Rattle.keyboard.specs.Answers.{said_call, said_lamps};
 ghost use Rattle.keyboard.specs.KeyboardLamps.{port_of, port_rules, keyboard_lamps};
 ghost use Rattle.keyboard.specs.Handler.{effects, log_left, handled};
-ghost use Rattle.keyboard.specs.Outcomes.{said_key_effect, said_effect, said_handled, key_effects_of, on_key, PlaysOn, Takes};
+ghost use Rattle.keyboard.specs.Outcomes.{call_answer, said_key_effect, said_effect, said_handled, key_effects_of, on_key, PlaysOn, Takes};
 
 use keyboard_modifiers::KeyboardModifiers;
 use keyboard_record::{HandlerState, KeyboardHandler, NoRoom, QUEUE_LENGTH};
@@ -55,7 +55,7 @@ struct TakenByte {
     answer: Answer<u8>,
 }
 
-// Kept in this and the next two: `lamps_failed` is document 01's 14, shown beside the answer and not in its place; and event and answer stand apart, since the two in one `Result` measured slower.
+// Kept in this and the next three: `lamps_failed` is document 01's 14, shown beside the answer and not in its place; and event and answer stand apart, since the two in one `Result` measured slower.
 // What a call gives back for its keyboard: the event that its byte gives; where it gives none, the answer. A lamp exchange that failed, document 01's 14, is shown beside the answer, and so is the number of the bytes that it threw away and that found no place to wait.
 #[derive(Clone, Copy)]
 struct KeyEffect {
@@ -77,6 +77,31 @@ pub struct Handled {
     pub pairs: usize,
     pub handler: KeyboardHandler,
     pub dropped: u32,
+}
+
+// What a handler call answers: all that it gives back but the record, for a caller that has the record elsewhere.
+#[derive(Clone, Copy)]
+pub struct CallAnswer {
+    pub answer: HandlerAnswer,
+    pub lamps_failed: bool,
+    pub used: usize,
+    pub pairs: usize,
+    pub dropped: u32,
+}
+
+impl Handled {
+    // The same without the record.
+    pub fn call_answer(self) -> CallAnswer
+        ensures { result ≡ call_answer self }
+    {
+        CallAnswer {
+            answer: self.answer,
+            lamps_failed: self.lamps_failed,
+            used: self.used,
+            pairs: self.pairs,
+            dropped: self.dropped,
+        }
+    }
 }
 
 // What a handler call gives back but for the places: a new event, if there is one, goes into the first place behind those that wait.

@@ -6,20 +6,12 @@ ghost use Rattle.keyboard.specs.KeyboardLamps.{keyboard_lamps};
 ghost use Rattle.keyboard.specs.Handler.{handled, log_left};
 ghost use Rattle.keyboard_in_place.specs.InPlace.{said_in_place};
 
-use keyboard::{HandlerAnswer, handle};
+use keyboard::{CallAnswer, handle};
 use keyboard_record::KeyboardHandler;
 use keyboard_sides::Side;
 
-// What the call gives back beside the record, which it changes in place.
-// Kept: `lamps_failed` is document 01's 14, shown beside the answer and not in its place; script and log are two slices, and `used` and `pairs` stand beside every answer, as document 01 has it.
-#[derive(Clone, Copy)]
-pub struct HandledInPlace {
-    pub answer: HandlerAnswer,
-    pub lamps_failed: bool,
-    pub used: usize,
-    pub pairs: usize,
-    pub dropped: u32,
-}
+// What the call gives back beside the record, which it changes in place. Kept, a rule of the project: script and log are two slices, and `used` and `pairs` stand beside every answer, as document 01 has it.
+pub type HandledInPlace = CallAnswer;
 
 // A handler call for a side that changes the record in place. Kept, a rule of the project: document 01 has this one thin entry beside the by-value call.
 pub fn handle_in_place(
@@ -32,11 +24,5 @@ pub fn handle_in_place(
 {
     let done = handle(*handler, side, script, log);
     *handler = done.handler;
-    HandledInPlace {
-        answer: done.answer,
-        lamps_failed: done.lamps_failed,
-        used: done.used,
-        pairs: done.pairs,
-        dropped: done.dropped,
-    }
+    done.call_answer()
 }

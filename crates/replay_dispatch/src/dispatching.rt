@@ -1,6 +1,6 @@
 // A dispatcher's steps, and what is told of it.
-use dispatcher::{CallAnswer, Dispatcher, Served, Source};
-use keyboard::number_of;
+use dispatcher::{Dispatcher, Served, Source};
+use keyboard::{CallAnswer, number_of};
 use keyboard_record::{KeyboardHandler, take_event};
 use keyboard_sides::Side;
 use packed_calls::{Instruction, NO_CALL, Outcome, ending};

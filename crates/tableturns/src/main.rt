@@ -1,8 +1,8 @@
 // Two keyboards and a mouse, served by turns: each event with its side and each packet, in the order of service, and why the steps end.
 #![tactic(auto)]
 
-use dispatcher::{CallAnswer, Dispatcher, Served};
-use keyboard::number_of;
+use dispatcher::{Dispatcher, Served};
+use keyboard::{CallAnswer, number_of};
 use keyboard_record::{KeyboardHandler, Keyboards, SideEvent, Table, take_event};
 use keyboard_scancodes::Profile;
 use keyboard_sides::Side;

@@ -11,4 +11,5 @@ overflow_add-place c =
 
 pub returns : goal.returns
 returns c =
-    keyboard_served keyboard_lamps c.args.side c.args.state c.args.script.now _ c.at-place.result c.start.result c.at-place.ensures c.start.ensures.rest c.handle-call.ensures c.with_place.ensures c.turn_over.ensures
+    rw c.call_answer.ensures
+    (keyboard_served keyboard_lamps c.args.side c.args.state c.args.script.now _ c.at-place.result c.start.result c.at-place.ensures c.start.ensures.rest c.handle-call.ensures c.with_place.ensures c.turn_over.ensures)
