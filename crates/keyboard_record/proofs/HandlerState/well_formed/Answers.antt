@@ -4,6 +4,7 @@ use native.Mathlib.Omega.{arith}
 use mathlib.Core.Path.{◌≡◌, refl, sym, ◌∙◌}
 use mathlib.Core.Bool.{true, false, true≢false}
 use mathlib.Core.Logic.{⊎_elim}
+use Rattle.std.proofs.lemmas.Bool.Decides.{nat_tests}
 use borrow.Author.Tests.{le-ltb, lt-leb, lt-ltb}
 use Rattle.keyboard_record.specs.Record.{keyboard_formed, sides_formed, well_formed}
 use Rattle.keyboard_record.proofs.Ready.{first_asked, queue_asked}
@@ -16,11 +17,11 @@ asked c =
     elim c.if-self-le-QUEUE_LENGTH.branch [
       | then-self-le-QUEUE_LENGTH w ↦
           let q = w.if-self-le-QUEUE_LENGTH.true in
-          (queue_asked _ q.0 q.1, sym w.keyboard_formed.ensures ∙ sym w.value-is ∙ c.if-keyboard_formed.true)
+          (queue_asked _ q.0 (omega (arith, q.1)), sym w.keyboard_formed.ensures ∙ sym w.value-is ∙ c.if-keyboard_formed.true)
       | else-self-le-QUEUE_LENGTH w ↦
           absurd
           (true≢false (sym c.if-keyboard_formed.true ∙ w.value-is ∙ elim c.if-self-lt-QUEUE_LENGTH.branch [
-            | then-self-lt-QUEUE_LENGTH v ↦ v.t-4-is ∙ lt-leb c.args.self.count 128 (omega (arith, v.if-self-lt-QUEUE_LENGTH.true, w.if-self-le-QUEUE_LENGTH.either))
+            | then-self-lt-QUEUE_LENGTH v ↦ v.t-4-is ∙ grind (arith, nat_tests, v.if-self-lt-QUEUE_LENGTH.true, w.if-self-le-QUEUE_LENGTH.either)
             | else-self-lt-QUEUE_LENGTH v ↦ v.t-4-is ∙ le-ltb c.args.self.start 128 v.if-self-lt-QUEUE_LENGTH.false
           ]))
     ]
