@@ -40,9 +40,6 @@ const FIELDS_1: u32 = 4;
 
 const FIELDS_2: u32 = 5;
 
-// A byte below this is a number.
-const ONE_BYTE_END: u8 = 128;
-
 impl ReadRefusal {
     // The number that document 02 gives to a refusal. Kept, no plainer: the documents call it a number, and `u8::from(refusal)` says less.
     pub fn number(self) -> u8
@@ -107,21 +104,11 @@ fn accepts_fifth(checks_range: bool, value: u32) -> bool
 }
 
 // Reads the number at a place, and answers it with the place behind it. Kept as string and place, here and below, no plainer: a place past the end is a number cut short, and no slice begins there.
-fn any_number_at(input: &[u8], at: usize) -> Result<(u32, usize), ReadRefusal>
+fn number_at(input: &[u8], at: usize) -> Result<(u32, usize), ReadRefusal>
     ensures { Takes input.now at any_number result }
 {
     let number = read_number(input, at)?;
     Ok((number.value, at + number.count))
-}
-
-// The same. A number of one byte, as most are, is read here: that is short enough for a compiler to put it into each caller.
-fn number_at(input: &[u8], at: usize) -> Result<(u32, usize), ReadRefusal>
-    ensures { Takes input.now at any_number result }
-{
-    if at < input.len() && input[at] < ONE_BYTE_END {
-        return Ok((u32::from(input[at]), at + 1));
-    }
-    any_number_at(input, at)
 }
 
 // A number that was read is accepted by its question, or outside its values: its form was asked before.

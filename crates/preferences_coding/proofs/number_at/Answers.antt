@@ -1,9 +1,10 @@
--- `preferences_coding::number_at` meets its contract: a number of one byte is that byte; any other is read as it is.
+-- `preferences_coding::number_at` meets its contract: a malformed number, or one that is read.
 -- Assumes nothing.
-use mathlib.Core.Path.{refl}
-use Rattle.number_coding.proofs.Going.{read_one}
-use Rattle.preferences_coding.proofs.Steps.{takes_number}
+use native.Mathlib.Omega.{arith}
+use mathlib.Core.Path.{sym, ap, ◌∙◌}
+use Rattle.number_coding.specs.Reading.{said_number}
+use Rattle.preferences_coding.proofs.Steps.{read_end}
 use Rattle.preferences_coding.proofs.number_at.Goals as goal
 
-pub returns-then-input-at-lt-ONE_BYTE_END : goal.returns-then-input-at-lt-ONE_BYTE_END
-returns-then-input-at-lt-ONE_BYTE_END c = rw c.from.ensures (takes_number (read_one _ _ c.if-at-input.true c.if-input-at-lt-ONE_BYTE_END.true) refl)
+pub overflow_add-result : goal.overflow_add-result
+overflow_add-result c = omega (arith, read_end c.args.input.now c.args.at (sym c.read_number.ensures ∙ ap said_number c.in_ok-number.was))
