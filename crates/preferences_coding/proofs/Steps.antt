@@ -7,7 +7,7 @@ use Prim.Native.Nat.{ℕ, ◌+◌, ◌-◌, ◌≤◌}
 use native.Mathlib.Omega.{arith}
 use lib.Dec.{eqb, leb}
 use lib.ListN.{length, drop, length-append, length-drop, drop_of_length-le}
-use lib.Seq.{drop-cons}
+use lib.Seq.{drop-drop, drop-cons}
 use borrow.Author.Tests.{eqb-true, leb-true, leb-false}
 use Rattle.std.specs.Prelude.{Result, Ok, Err}
 use Rattle.exchange.specs.Answer.{Answer, gives, refuses}
@@ -40,6 +40,12 @@ record Known (question : ℕ → Bool) (a : Answer Number) (v : ℕ) : Type 0 wh
   pub accepted : question v ≡ true
 
 module _ {input : List ℕ} {at : ℕ} {question : ℕ → Bool} where
+  pub takes_malformed : read_number (drop at input) ≡ refuses 27 → Takes input at question (Err ReadRefusal.Malformed)
+  takes_malformed e = record { says = λ next. rw e }
+
+  pub takes_number : {v n : ℕ} → read_number (drop at input) ≡ gives (taking v n) → question v ≡ true → Takes input at question (Ok (v, at + n))
+  takes_number {v} {n} e q = record { says = λ next. rw (e, q, drop-drop n at input) }
+
   -- then the other numbers
   pub then_others : {v end : ℕ} → Takes input at question (Ok (v, end)) → (questions : List (ℕ → Bool)) → numbers_read (question ∷ questions) (drop at input) ≡ behind v (numbers_read questions (drop end input))
   unfolding numbers_read

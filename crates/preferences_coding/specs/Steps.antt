@@ -1,15 +1,15 @@
 -- What the parts of a reading say of the whole: what private functions promise.
 -- Assumes nothing.
-use Rattle.std.specs.Prelude.{Bool, cond, List, [], ◌∷◌, ◌++◌, ◌≡◌, ◌<◌, ◌^◌, ℕ, eqb, drop, Result, Ok, Err}
+use Rattle.std.specs.Prelude.{Bool, true, false, cond, List, [], ◌∷◌, ◌++◌, ◌≡◌, ℕ, eqb, drop, Result, Ok, Err}
 use Rattle.exchange.specs.Answer.{Answer, refuses}
 use Rattle.number_coding.specs.Reading.{read_number}
-use Rattle.preferences.specs.Values.{four_values}
+use Rattle.preferences.specs.Values.{four_values, is_repeat_byte}
 use Rattle.preferences.specs.Record.{four_fields}
 use Rattle.preferences.specs.declared.Fields.{Fields}
 use Rattle.preferences_coding.specs.declared.ReadRefusal.{ReadRefusal}
 use Rattle.preferences_coding.specs.declared.Version.{Version}
 use Rattle.preferences_coding.specs.Format.{field_count}
-use Rattle.preferences_coding.specs.Reading.{behind, asking, numbers_read, record_read, refusal_number}
+use Rattle.preferences_coding.specs.Reading.{behind, asking, numbers_read, any_number, record_read, refusal_number}
 
 -- ---- versions
 
@@ -23,9 +23,10 @@ version_read n = cond (eqb n 1) (Ok Version.One) (cond (eqb n 2) (Ok Version.Two
 
 -- ---- parts
 
--- A question that code asks of a number of four bytes: whatever it may answer, the question answers.
-abbrev pub Asks : (ℕ → Bool → Type 0) → (ℕ → Bool) → Type 0
-Asks answers question = (n : ℕ) (b : Bool) → n < 2 ^ 32 → answers n b → b ≡ question n
+-- What a reader asks of the fifth field: whether it checks the range.
+abbrev pub fifth_for : Bool → ℕ → Bool
+fifth_for true = is_repeat_byte
+fifth_for false = any_number
 
 -- A number that is taken, with the place behind it, stands before what is read there; one that is refused ends the reading.
 abbrev pub taken_says : List ℕ → (List ℕ → Answer (List ℕ)) → Result (ℕ × ℕ) ReadRefusal → Answer (List ℕ)

@@ -1,12 +1,12 @@
 // Preferences as bytes: version, field count, then the fields, each a number. A writer, and a reader for each version.
 #![tactic(auto)]
 
-ghost use Rattle.std.specs.Prelude.{Bool, ℕ, ◌≡◌, ◌<◌, ◌≤◌, ◌++◌, true, false, length, drop, MatchResult};
+ghost use Rattle.std.specs.Prelude.{◌≡◌, ◌<◌, ◌≤◌, ◌++◌, true, false, length, drop, MatchResult};
 ghost use Rattle.number_coding.specs.Writing.{outcome, count_written};
 ghost use Rattle.preferences_coding.specs.Format.{codings, field_count};
 ghost use Rattle.preferences_coding.specs.Reading.{any_number, record_read, read1, read2, said_read1, said_read2, refusal_number};
 ghost use Rattle.preferences_coding.specs.Writing.{written, fitting, leaves, said_written, write_refusal_number};
-ghost use Rattle.preferences_coding.specs.Steps.{version_number, version_read, Asks, Takes, Heads, Fours, numbers_most};
+ghost use Rattle.preferences_coding.specs.Steps.{version_number, version_read, fifth_for, Takes, Heads, Fours, numbers_most};
 
 use number_coding::{Malformed, number_length, read_number, write_number};
 use preferences::{
@@ -96,6 +96,13 @@ impl Version {
     }
 }
 
+// Whether the fifth field is what a reader asks for: that of version 1 checks no range.
+fn accepts_fifth(checks_range: bool, value: u32) -> bool
+    ensures { result ≡ fifth_for checks_range value }
+{
+    !checks_range || is_repeat_byte(value)
+}
+
 // Reads the number at a place, and answers it with the place behind it. Kept as string and place, here and below, no plainer: a place past the end is a number cut short, and no slice begins there.
 fn number_at(input: &[u8], at: usize) -> Result<(u32, usize), ReadRefusal>
     ensures { Takes input.now at any_number result }
@@ -161,9 +168,8 @@ fn read_four(input: &[u8], at: usize) -> Result<(Fields, usize), ReadRefusal>
 }
 
 // Reads a record of either version. The readers differ in what they ask of the fifth field.
-fn read_record<F: Fn(u32) -> bool>(input: &[u8], fifth: F) -> Result<Preferences, ReadRefusal>
-    requires { F.IsAlwaysCallable fifth }
-    ensures { (question : ℕ → Bool) → Asks (F.post fifth) question → said_read2 result ≡ record_read question input.now }
+fn read_record(input: &[u8], checks_range: bool) -> Result<Preferences, ReadRefusal>
+    ensures { said_read2 result ≡ record_read (fifth_for checks_range) input.now }
 {
     let (version, at) = read_head(input)?;
     let (fields, end) = read_four(input, at)?;
@@ -174,7 +180,7 @@ fn read_record<F: Fn(u32) -> bool>(input: &[u8], fifth: F) -> Result<Preferences
         }
         Version::Two => {
             let (repeat, last) = number_at(input, end)?;
-            accept(fifth(repeat))?;
+            accept(accepts_fifth(checks_range, repeat))?;
             end_at(input, last)?;
             Ok(Preferences::Version2(fields, repeat))
         }
@@ -185,7 +191,7 @@ fn read_record<F: Fn(u32) -> bool>(input: &[u8], fifth: F) -> Result<Preferences
 pub fn read_preferences_1(input: &[u8]) -> Result<Fields, ReadRefusal>
     ensures { said_read1 result ≡ read1 input.now }
 {
-    match read_record(input, |_| true)? {
+    match read_record(input, false)? {
         Preferences::Version1(fields) | Preferences::Version2(fields, _) => Ok(fields),
     }
 }
@@ -194,7 +200,7 @@ pub fn read_preferences_1(input: &[u8]) -> Result<Fields, ReadRefusal>
 pub fn read_preferences_2(input: &[u8]) -> Result<Preferences, ReadRefusal>
     ensures { said_read2 result ≡ read2 input.now }
 {
-    read_record(input, is_repeat_byte)
+    read_record(input, true)
 }
 
 // ---- writing
