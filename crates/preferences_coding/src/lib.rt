@@ -96,7 +96,7 @@ impl Version {
     }
 }
 
-// Whether the fifth field is what a reader asks for: that of version 1 checks no range.
+// Whether the fifth field is what a reader asks for: that of version 1 checks no range. Kept a flag, speed: as a closure it proved, but a reading of version 1 took 200 instructions in place of 174, and of version 2 214 in place of 178.
 fn accepts_fifth(checks_range: bool, value: u32) -> bool
     ensures { result ≡ fifth_for checks_range value }
 {
