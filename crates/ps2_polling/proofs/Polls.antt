@@ -10,7 +10,7 @@ use Rattle.bits.specs.Bits.{bit}
 use Rattle.bits.proofs.Table.{decode_map}
 use Rattle.std.specs.Prelude.{Option, Some, None, Result, Ok, Err}
 use Rattle.std.specs.Option.{option_eq}
-use Rattle.exchange.specs.Exchange.{p64, done, read, bind, End, yields, told_end, Reads}
+use Rattle.exchange.specs.Exchange.{p64, done, read, bind, yields, told_end, Reads}
 use Rattle.exchange.specs.Answer.{Answer, gives, refuses}
 use Rattle.exchange.specs.Repeat.{Turn, found, again, found_end}
 use Rattle.exchange.proofs.Calls.{reads_done}

@@ -6,7 +6,6 @@ use mathlib.Core.List.{List}
 use mathlib.Core.Path.{◌≡◌, refl, sym}
 use lib.ListN.{length}
 use Rattle.std.specs.Prelude.{Result, Ok, Err}
-use Rattle.std.specs.Result.{is_ok}
 use Rattle.exchange.specs.Exchange.{Exchange, done, bind, play}
 use Rattle.exchange.specs.Answer.{Answer, gives, on_given, and_then}
 use Rattle.exchange.specs.Refuses.{given, succeeds}
@@ -16,11 +15,9 @@ use Rattle.exchange.proofs.Sequence.{bind_assoc}
 use Rattle.exchange.proofs.Told.{bind_told}
 use Rattle.exchange.proofs.Position.{reached_same}
 use Rattle.ps2_answers.specs.declared.Counted.{Counted}
-use Rattle.ps2_answers.specs.declared.Failure.{Failure}
 use Rattle.ps2_answers.specs.declared.Refusal.{Refusal}
 use Rattle.ps2_answers.specs.Refusals.{Success}
-use Rattle.ps2_answers.specs.Answers.{counted, told, behind, outcome_of}
-use Rattle.ps2_answers.proofs.Forgiving.{said, outcome, lacked}
+use Rattle.ps2_answers.specs.Answers.{told, behind}
 use Rattle.ps2_answers.proofs.Then.{first_steps, first_stops, then_steps, then_stops}
 use Rattle.ps2_setup.specs.Answers.{Forgiven}
 
@@ -28,23 +25,6 @@ use Rattle.ps2_setup.specs.Answers.{Forgiven}
 pub given_then : {A B : Type 0} (t : Exchange A) (g : A → Exchange (Answer B)) → and_then (bind t (λ a. done (gives a))) g ≡ bind t g
 unfolding and_then bind
 given_then t g = bind_assoc t (λ a. done (gives a)) (on_given g)
-
--- ---- what `tried` answers, by the step's outcome
-
-module _ (r : Result (Counted Success) (Counted Refusal)) where
-  given_said : (v : Result Success Failure) → given (said v) ≡ is_ok v
-  given_said (Ok x) = refl
-  given_said (Err f) = refl
-
-  pub tried_end : (x : Counted (Result Success Failure)) → Ok x ≡ outcome_of r → {b : Bool} → b ≡ is_ok x.value → Forgiven r (Ok (counted b x.used x.pairs))
-  tried_end x q p =
-      let o = outcome r x q in
-      record { end = rw (p, o.end, given_said x.value) refl; used = sym o.used; pairs = sym o.pairs }
-
-  pub tried_lacks : (e : Counted Refusal) → Err e ≡ outcome_of r → Forgiven r (Err e)
-  tried_lacks e q =
-      let k = lacked r e q in
-      record { end = rw (k.is, k.lacking) refl; used = rw k.is refl; pairs = rw k.is refl }
 
 -- the step, told as whether it worked
 abbrev pub worked : Exchange (Answer Success) → Exchange (Answer Bool)

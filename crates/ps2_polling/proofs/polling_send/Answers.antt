@@ -9,7 +9,7 @@ use Rattle.exchange.specs.Exchange.{p60, Exchange, done, write, bind}
 use Rattle.exchange.specs.Answer.{Answer, gives, refuses, and_then}
 use Rattle.exchange.specs.Parts.{part}
 use Rattle.exchange.specs.Position.{Reached}
-use Rattle.exchange.specs.Repeat.{Turn, found, again, turned, repeat}
+use Rattle.exchange.specs.Repeat.{found, again, turned, repeat}
 use Rattle.exchange.proofs.Position.{reached_start, reached_same}
 use Rattle.exchange.proofs.Repeat.{reached_turn, reached_over}
 use Rattle.ps2_layouts.specs.declared.status.ControllerToHostStatus.{ControllerToHostStatus}

@@ -1,6 +1,5 @@
 -- `polling_send_receive_keeping` meets its contract: a sending, which keeps nothing, then a receiving from what is left of the script. Assumes nothing.
 use native.Mathlib.Omega.{arith}
-use Rattle.exchange.specs.Answer.{and_then}
 use Rattle.exchange.proofs.Counts.{counts}
 use Rattle.ps2_answers.specs.Refusals.{Success}
 use Rattle.ps2_answers.proofs.Then.{exit}

@@ -7,9 +7,6 @@ use Rattle.ps2_answers.proofs.Reading.{reads_pairs}
 use Rattle.ps2_polling.proofs.Polls.{read_turn}
 use Rattle.ps2_polling.proofs.take_turn.Goals as goal
 
-pub returns-in-Polls : goal.returns-in-Polls
-returns-in-Polls c = rw c.in-Polls.is c.poll_data.ensures
-
 pub returns-in_ok-data-in-DataReads : goal.returns-in_ok-data-in-DataReads
 returns-in_ok-data-in-DataReads c =
     let r = c.in_ok-data-in-DataReads.ensures in
