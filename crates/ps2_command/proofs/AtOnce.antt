@@ -9,6 +9,7 @@ use native.Mathlib.Omega.{arith}
 use lib.Dec.{eqb, leb}
 use Rattle.std.specs.Prelude.{Option, Some, None}
 use lib.ListN.{length, get_or, take, drop}
+use Rattle.std.proofs.lemmas.Bool.{and_parts}
 use borrow.Author.Tests.{leb-true, leb-false, le-leb, lt-leb, eqb-true, not-true}
 use Rattle.bits.specs.Bits.{bit}
 use Rattle.bits.specs.Table.{decode}
@@ -153,17 +154,13 @@ record Begins (l : List ℕ) : Type 0 where
   empty : bit input_buffer_full sent ≡ false
   full : bit output_buffer_full came ≡ true
 
-both : (a b : Bool) → (a && b) ≡ true → (a ≡ true) × (b ≡ true)
-both true b h = (refl, h)
-both false b h = absurd (true≢false (sym h))
-
 begins : (l : List ℕ) → at_once l ≡ true → Begins l
 begins [] h = absurd (true≢false (sym h))
 begins (s ∷ []) h = absurd (true≢false (sym h))
 begins (s ∷ t ∷ []) h = absurd (true≢false (sym h))
 begins (s ∷ t ∷ b ∷ l) h =
-    let p = both (not (bit input_buffer_full s)) _ h in
-    let q = both (bit output_buffer_full t) _ p.1 in
+    let p = and_parts (not (bit input_buffer_full s)) _ h in
+    let q = and_parts (bit output_buffer_full t) _ p.1 in
     record { sent = s; came = t; rest = l; is = rw (eqb-true b 0xFA q.1); empty = not-true _ p.0; full = q.0 }
 
 record Room (l : List ℕ) : Type 0 where
@@ -240,9 +237,6 @@ module _ (k : KeptBytes) (first second : HostToDevice) (script log : List ℕ) (
   both_at_once port t m some =
       ⊎_elim (λ r. let e : m ≡ pairs_to port = cc in rw (e, r.1.1) (at_port port r.0)) (λ r. let e : Some m ≡ None = sym some ∙ r.1.0 in cc)
       (by_room port (to_device first) (to_device second) log t (leb (2 * pairs_to port) (length log)) refl)
-
-pub long_enough : (l : List ℕ) → at_once l ≡ true → 3 ≤ length l
-long_enough l h = let a = begins l h in rw a.is (omega arith)
 
 pub made_at_once : (port : DevicePort) (first second : HostToDevice) (script log : List ℕ) → at_once script ≡ true → at_once (drop 3 script) ≡ true → {n : Option ℕ} {log' : List ℕ}
     → TwoWritten port (to_device first) (to_device second) log n log' → TwoAtOnce port (and_then (command_by port first) (λ _. command_by port second)) script log n log'
