@@ -10,6 +10,7 @@ use native.Mathlib.Omega.{arith}
 use lib.Dec.{eqb}
 use lib.ListN.{length, take, drop, length-drop}
 use lib.Seq.{take-nil, drop-nil}
+use Rattle.std.proofs.lemmas.Bool.{or_parts}
 use Rattle.exchange.specs.Exchange.{Exchange, Lack, End, yields, lacks}
 use Rattle.exchange.specs.Answer.{Answer, gives, refuses}
 use Rattle.keycodes_ascii.specs.declared.KeyEvent.{KeyEvent}
@@ -21,7 +22,7 @@ use Rattle.keyboard_scancodes.specs.FlagsAfter.{flags_after, flags_then}
 use Rattle.keyboard_scancodes.specs.Events.{is_known, event_of}
 use Rattle.keyboard_scancodes.specs.Remembered.{fresh_keyboard}
 use Rattle.keyboard_scancodes.specs.Waiting.{bytes_from, waiting_bytes}
-use Rattle.keyboard_scancodes.proofs.Tests.{which, neither_holds}
+use Rattle.keyboard_scancodes.proofs.Tests.{which}
 use Rattle.keyboard_scancodes.proofs.Silent.{silent_flags, silent_gives, key_gives}
 use Rattle.keyboard_scancodes.proofs.Waiting.{length_bytes}
 use Rattle.keyboard_record.proofs.WellFormed.{Formed}
@@ -96,7 +97,7 @@ module _ {profile : Profile} {k : KeyboardState} {bytes : Past ℕ} {ws : List �
     kept_flags b q = sym (silent_flags b q profile k.prefix k.modifiers.bits) ∙ as_then b
 
     key_prefix : (b : ℕ) → is_silent b ≡ false → false ≡ is_prefix b
-    key_prefix b q = sym (neither_holds (is_prefix b) (eqb b 0x00 || eqb b 0xFA) q).0
+    key_prefix b q = sym (or_parts (is_prefix b) (eqb b 0x00 || eqb b 0xFA) q).0
 
     said : Course rules k s l → Said (scanned rules k s l) (end_of rules k s l)
     unfolding prefix_said

@@ -7,6 +7,7 @@ use Prim.Native.Nat.{ℕ, ◌^◌, ◌<◌}
 use lib.Dec.{eqb, ltb}
 use lib.ListN.{length}
 use borrow.Author.Tests.{eq-eqb, ltb-true}
+use Rattle.std.proofs.lemmas.Bool.{or_parts}
 use Rattle.bits.specs.Bits.{bit, put_bit}
 use Rattle.bits.proofs.Bits.{bit_put_same, bit_put_other, put_lt}
 use Rattle.bits.proofs.PutBits.{put_put, put_comm}
@@ -15,7 +16,6 @@ use Rattle.keyboard_scancodes.specs.FlagTable.{FlagRow, flag_table, flag_limit, 
 use Rattle.keyboard_scancodes.specs.declared.Profile.{Profile}
 use Rattle.keyboard_scancodes.specs.Profile.{followed}
 use Rattle.keyboard_scancodes.specs.FlagsAfter.{flag_after, row_after, flags_after}
-use Rattle.keyboard_scancodes.proofs.Tests.{neither_holds}
 
 -- ---- what is asked of a table: no two rows have one flag, and each flag is below n
 
@@ -83,7 +83,7 @@ pub untouched : (s : Stroke) (w : ℕ) (rows : List FlagRow) → touches rows s 
 unfolding flags_after
 untouched s w [] t = refl
 untouched s w (r ∷ rows) t =
-    let p = neither_holds (is_of r s) (touches rows s) t in
+    let p = or_parts (is_of r s) (touches rows s) t in
     rw p.0 (untouched s w rows p.1)
 
 -- ---- the flags that a profile follows

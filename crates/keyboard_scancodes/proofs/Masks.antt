@@ -5,11 +5,10 @@ use mathlib.Core.Bool.{Bool, true, false, not, cond, xor, ◌&&◌, ◌||◌, an
 use mathlib.Core.List.{List, [], ◌∷◌}
 use mathlib.Core.Logic.{⊎_elim}
 use Prim.Native.Nat.{ℕ, zero, suc, ◌^◌, ◌<◌}
-use lib.Dec.{eqb, ltb}
-use borrow.Author.Tests.{eqb-true, eqb-false, ltb-true}
-use lib.Pow.{pow_pos}
+use lib.Dec.{eqb}
+use borrow.Author.Tests.{eqb-true, eqb-false}
 use Rattle.bits.specs.Bits.{odd, bit, put_bit, bitwise, without}
-use Rattle.bits.proofs.Bits.{bit_put_same, bit_put_other, bit-bitwise, bitwise-lt, bits_determine, put_lt}
+use Rattle.bits.proofs.Bits.{bit_put_same, bit_put_other, bit-bitwise, bitwise-lt, bits_determine}
 use Rattle.keyboard_scancodes.specs.Strokes.{Stroke}
 use Rattle.keyboard_scancodes.specs.FlagTable.{Kind, lock, held, left, right, FlagRow, has, is_of, is_lock}
 use Rattle.keyboard_scancodes.specs.FlagsAfter.{flag_after, flags_after, flags_of, holds, locks}
@@ -58,16 +57,6 @@ mask_apart f k (r ∷ rows) t =
     go : (c : Bool) → (k ≡ r.flag → ⊥) → bit k (flags_of f rows) ≡ false → bit k (cond c (put_bit r.flag true (flags_of f rows)) (flags_of f rows)) ≡ false
     go true n e = bit_put_other k r.flag true (flags_of f rows) n ∙ e
     go false n e = e
-
-mask_lt : (f : FlagRow → Bool) (n : ℕ) (rows : List FlagRow) → below n rows ≡ true → flags_of f rows < 2 ^ n
-mask_lt f n [] t = pow_pos n
-mask_lt f n (r ∷ rows) t =
-    let p = (and-eq-true_iff (ltb r.flag n) (below n rows)).0 t in
-    go (f r) (ltb-true r.flag n p.0) (mask_lt f n rows p.1)
-  where
-    go : (c : Bool) → r.flag < n → flags_of f rows < 2 ^ n → cond c (put_bit r.flag true (flags_of f rows)) (flags_of f rows) < 2 ^ n
-    go true h l = put_lt n r.flag true (flags_of f rows) h l
-    go false h l = l
 
 module _ (s : Stroke) (w : ℕ) where
   -- bit k after the stroke, by the masks of these rows

@@ -7,6 +7,7 @@ use Prim.Native.Nat.{ℕ, ◌<◌}
 use native.Mathlib.Omega.{arith}
 use lib.Dec.{eqb, leb, ltb}
 use borrow.Author.Tests.{ne_eqb, ltb-true, leb-true, not-true}
+use Rattle.std.proofs.lemmas.Bool.{or_parts}
 use Rattle.keyboard_scancodes.specs.Strokes.{Stroke, low_part, stroke, is_silent}
 use Rattle.keyboard_scancodes.specs.FlagTable.{FlagRow, flag_table, is_lock, is_of, presses_lock}
 use Rattle.keyboard_scancodes.specs.declared.Profile.{Profile}
@@ -15,14 +16,13 @@ use Rattle.keyboard_scancodes.specs.Events.{last_keycode, is_known}
 use Rattle.keyboard_scancodes.specs.Plain.{has_flag, is_plain_code, is_plain}
 use Rattle.keyboard_scancodes.specs.FlagsAfter.{flags_after}
 use Rattle.keyboard_scancodes.proofs.Flags.{touches, untouched}
-use Rattle.keyboard_scancodes.proofs.Tests.{neither_holds}
 
 -- a code that no row has: its strokes are of no row's key, and press no lock
 no_row : (s : Stroke) (rows : List FlagRow) → has_flag rows s.code ≡ false → (touches rows s ≡ false) × (presses_lock rows s ≡ false)
 unfolding has_flag is_of presses_lock
 no_row s [] e = (refl, refl)
 no_row s (r ∷ rows) e =
-    let p = neither_holds (eqb s.code r.code) (has_flag rows s.code) e in
+    let p = or_parts (eqb s.code r.code) (has_flag rows s.code) e in
     rw (p.0, and-false (is_lock r.kind)) (no_row s rows p.1)
 
 module _ (b : ℕ) (e : is_plain b ≡ true) where

@@ -6,13 +6,14 @@ use mathlib.Core.Logic.{⊎_elim}
 use Prim.Native.Nat.{ℕ}
 use lib.Dec.{eqb}
 use borrow.Author.Tests.{eqb-true}
+use Rattle.std.proofs.lemmas.Bool.{or_parts}
 use Rattle.keyboard_scancodes.specs.Strokes.{stroke, is_prefix, is_silent}
 use Rattle.keyboard_scancodes.specs.FlagTable.{flag_table, is_of, presses_lock}
 use Rattle.keyboard_scancodes.specs.declared.Profile.{Profile}
 use Rattle.keyboard_scancodes.specs.Profile.{followed, presses_followed}
 use Rattle.keyboard_scancodes.specs.Events.{is_known, gives_event}
 use Rattle.keyboard_scancodes.specs.FlagsAfter.{flags_after}
-use Rattle.keyboard_scancodes.proofs.Tests.{one_holds, neither_holds}
+use Rattle.keyboard_scancodes.proofs.Tests.{one_holds}
 
 one_of_two : (P : ℕ → Type 0) (x y b : ℕ) → (eqb b x || eqb b y) ≡ true → P x → P y → P b
 one_of_two P x y b e p q =
@@ -38,4 +39,4 @@ module _ (b : ℕ) (e : is_silent b ≡ true) where
   silent_gives = silent_is (λ (b : ℕ). gives_event b ≡ false) b e refl refl refl refl
 
 pub key_gives : (b : ℕ) → is_silent b ≡ false → (c : Bool) → is_known b ≡ c → gives_event b ≡ c
-key_gives b q c k = rw ((neither_holds (eqb b 0x00) (eqb b 0xFA) (neither_holds (is_prefix b) (eqb b 0x00 || eqb b 0xFA) q).1).0, k)
+key_gives b q c k = rw ((or_parts (eqb b 0x00) (eqb b 0xFA) (or_parts (is_prefix b) (eqb b 0x00 || eqb b 0xFA) q).1).0, k)
