@@ -4,9 +4,3 @@ use Rattle.ps2_packet_reading.proofs.read_after_three.Goals as goal
 
 pub returns-in-Zero : goal.returns-in-Zero
 returns-in-Zero c = rw (c.new.ensures, c.from_bytes.ensures, c.in-Zero.is) (read_here (read_start _ _))
-
-pub returns-in-Three : goal.returns-in-Three
-returns-in-Three c = rw c.in-Three.is c.read_fourth.ensures
-
-pub returns-in-Four : goal.returns-in-Four
-returns-in-Four c = rw c.in-Four.is c.read_fourth-in-Four.ensures
