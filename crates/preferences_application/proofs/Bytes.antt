@@ -39,9 +39,6 @@ rate_most n q = among_below n 200 (10 ∷ 20 ∷ 40 ∷ 60 ∷ 80 ∷ 100 ∷ 20
 pub resolution_most : (n : ℕ) → is_resolution n ≡ true → n ≤ 3
 resolution_most n q = leb-true n 3 q
 
-pub lamps_most : (n : ℕ) → is_lamps n ≡ true → n ≤ 7
-lamps_most n q = leb-true n 7 q
-
 -- ---- the fields of a record
 
 -- each of the four is within its own values

@@ -1,7 +1,6 @@
 -- Laws of the application.
 pub mod Turns
 pub mod Bytes
-pub mod Settings
 pub mod Listed
 pub mod Sent
 pub mod Steps

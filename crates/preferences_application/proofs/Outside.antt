@@ -28,7 +28,3 @@ module _ (p : Preferences) where
 
   pub plays_outside : within_values p ≡ false → (s l : List ℕ) → play (apply_preferences p) s l ≡ played (yields (refuses 28)) 0 0 l
   plays_outside q s l = rw (outside_refused q) (play-done (refuses 28) s l)
-
--- a record that is known to be p is applied as p is
-pub plays_record : (s l : List ℕ) {p x : Preferences} → p ≡ x → {o : Played (Answer Success)} → o ≡ play (apply_settings (settings_of x)) s l → o ≡ play (apply_settings (settings_of p)) s l
-plays_record s l q r = rw q r

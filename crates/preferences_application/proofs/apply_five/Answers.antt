@@ -5,15 +5,8 @@ use mathlib.Core.Path.{refl}
 use Rattle.exchange.proofs.Counts.{counts}
 use Rattle.ps2_answers.proofs.Then.{exit, first_steps, first_stops, then_ends}
 use Rattle.preferences_application.specs.Application.{set_keyboard_repeat}
-use Rattle.preferences_application.proofs.Bytes.{first_four, fifth_within}
 use Rattle.preferences_application.proofs.Steps.{plays_two}
 use Rattle.preferences_application.proofs.apply_five.Goals as goal
-
-pub apply_four-requires : goal.apply_four-requires
-apply_four-requires c = first_four c.args.four c.args.again c.requires
-
-pub byte_of-requires : goal.byte_of-requires
-byte_of-requires c = omega (arith, fifth_within c.args.four c.args.again c.requires)
 
 pub returns-in_err-applied : goal.returns-in_err-applied
 returns-in_err-applied c =

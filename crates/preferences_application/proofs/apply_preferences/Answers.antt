@@ -4,9 +4,6 @@ use mathlib.Core.Path.{◌∙◌, sym}
 use Rattle.preferences_application.proofs.Outside.{plays_within, plays_outside}
 use Rattle.preferences_application.proofs.apply_preferences.Goals as goal
 
-pub apply_within-requires : goal.apply_within-requires
-apply_within-requires c = sym c.within_values.ensures ∙ c.if-within_values.true
-
 pub returns-then-within_values : goal.returns-then-within_values
 returns-then-within_values c =
     plays_within c.args.preferences _ _ (sym c.within_values.ensures ∙ c.if-within_values.true) c.apply_within.ensures

@@ -3,14 +3,11 @@
 use Prim.Native.Nat.{◌+◌}
 use native.Mathlib.Omega.{arith}
 use lib.ListN.{get_or, drop}
-use Rattle.exchange.proofs.Position.{reached_start, reached_same}
+use Rattle.exchange.proofs.Position.{reached_same}
 use Rattle.ps2_answers.proofs.Then.{exit, then_steps, then_stops, given_here}
 use Rattle.preferences_application.specs.Application.{apply_setting, apply_settings}
 use Rattle.preferences_application.proofs.Turns.{settings_next, settings_over}
 use Rattle.preferences_application.proofs.apply_settings.Goals as goal
-
-pub loop-setting-init : goal.loop-setting-init
-loop-setting-init c = rw c.new-done.ensures (reached_start _ _ _)
 
 pub returns-in_err-done : goal.returns-in_err-done
 returns-in_err-done c =
@@ -29,18 +26,3 @@ loop-setting-preserved c =
 
 pub returns : goal.returns
 returns c = given_here c.loop-setting.done (reached_same c.loop-setting.invariant (settings_over c.args.settings c.loop-setting.setting-index (omega arith)))
-
-pub overflow_mul-tail : goal.overflow_mul-tail
-overflow_mul-tail c = omega (arith, c.loop-setting.invariant.pairs_le, c.loop-setting.invariant.same_length, c.well_formed)
-
-pub slice_bounds-apply_setting-count : goal.slice_bounds-apply_setting-count
-slice_bounds-apply_setting-count c = c.loop-setting.invariant.used_le
-
-pub slice_bounds-apply_setting-start : goal.slice_bounds-apply_setting-start
-slice_bounds-apply_setting-start c = c.loop-setting.invariant.used_le
-
-pub slice_bounds-apply_setting-count-in-loop-setting : goal.slice_bounds-apply_setting-count-in-loop-setting
-slice_bounds-apply_setting-count-in-loop-setting c = c.loop-setting.invariant.pairs_le
-
-pub slice_bounds-apply_setting-start-in-loop-setting : goal.slice_bounds-apply_setting-start-in-loop-setting
-slice_bounds-apply_setting-start-in-loop-setting c = c.loop-setting.invariant.pairs_le
