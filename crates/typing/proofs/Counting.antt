@@ -5,7 +5,7 @@ use mathlib.Core.Bool.{Bool, true, false}
 use mathlib.Core.List.{List, [], ◌∷◌}
 use mathlib.Core.Option.{Option, none, some}
 use Prim.Native.Nat.{ℕ, ◌+◌, ◌<◌, ◌≤◌}
-use native.Mathlib.Nat.{add-zero, zero-add, add_assoc}
+use native.Mathlib.Nat.{add-zero, add_assoc}
 use native.Mathlib.Numerals.{add-one}
 use native.Mathlib.Omega.{arith}
 use lib.ListN.{length, get_or, drop, drop_of_length-le}
@@ -22,10 +22,6 @@ use Rattle.typing.proofs.Table.{Entry, no_entry, plain, shifted, entry, found_no
 abbrev pub plus : ℕ → found.Option ℕ → found.Option ℕ
 plus n (Some m) = Some (n + m)
 plus n None = None
-
-plus-zero : (x : found.Option ℕ) → plus 0 x ≡ x
-plus-zero (Some m) = rw (zero-add m)
-plus-zero None = refl
 
 plus-plus : (n m : ℕ) (x : found.Option ℕ) → plus n (plus m x) ≡ plus (n + m) x
 plus-plus n m (Some l) = rw (add_assoc n m l)
@@ -68,9 +64,6 @@ pub record Counting (text : List ℕ) (i n : ℕ) : Type 0 where
   pub within : i ≤ length text
   pub few : n ≤ i
   pub all : count_of (keys_of text) ≡ plus n (count_of (keys_of (drop i text)))
-
-pub counting_begins : (text : List ℕ) → Counting text 0 0
-counting_begins text = record { within = omega arith; few = omega arith; all = sym (plus-zero (count_of (keys_of text))) }
 
 module _ {text : List ℕ} {i n : ℕ} (h : Counting text i n) (l : i < length text) where
   here : Entry (get_or text i 0) (or_none (key_of (get_or text i 0)))

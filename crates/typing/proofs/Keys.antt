@@ -7,6 +7,8 @@ use mathlib.Core.Option.{Option, none, some, some-injective, none-ne-some}
 use Prim.Native.Nat.{ℕ, ◌<◌, ◌≤◌}
 use native.Mathlib.Omega.{arith}
 use lib.Dec.{T, leb, ltb, ltb→lt, leb→le}
+use lib.Ieee.Bits.{is_false}
+use mir.Facts.{and_yes, yes_and}
 use borrow.Author.Tests.{eqb-true, le-leb, ltb-true, ltb-false}
 use Rattle.bits.specs.Bits.{bit, odd, put_bit}
 use Rattle.bits.proofs.Every.{each}
@@ -21,38 +23,20 @@ use Rattle.typing.specs.Chosen.{NoKey, Chosen}
 
 -- ---- tests of every keycode
 
-&&_left : (a b : Bool) → T (a && b) → T a
-&&_left true b t = tt
-&&_left false b t = t
-
-&&_right : (a b : Bool) → T (a && b) → T b
-&&_right true b t = t
-&&_right false b t = absurd t
-
-both : (a b : Bool) → T a → T b → T (a && b)
-both true b s t = t
-both false b s t = s
-
 either : (a b : Bool) → T b → T (a || b)
 either true b t = tt
 either false b t = t
 
 each_mono : (g h : Keycode → Bool) → ((k : Keycode) → T (g k) → T (h k)) → (ks : List Keycode) → T (each g ks) → T (each h ks)
 each_mono g h m [] t = tt
-each_mono g h m (k ∷ ks) t = both (h k) (each h ks) (m k (&&_left (g k) (each g ks) t)) (each_mono g h m ks (&&_right (g k) (each g ks) t))
+each_mono g h m (k ∷ ks) t =
+    let u = and_yes (g k) (each g ks) t in
+    yes_and (h k) (each h ks) (m k u.0) (each_mono g h m ks u.1)
 
 -- a test of the list of all keycodes is one of every keycode
 pub of_every : (f : Keycode → Bool) → T (each f keycodes) → (k : Keycode) → T (f k)
 unfolding keycodes
-of_every f t k = every_keycode f (&&_left (f Keycode.OverflowError) _ t) t k
-
-pub is_true : (a : Bool) → T a → a ≡ true
-is_true true t = refl
-is_true false t = absurd t
-
-is_false : (a : Bool) → T (not a) → a ≡ false
-is_false true t = absurd t
-is_false false t = refl
+of_every f t k = every_keycode f (and_yes (f Keycode.OverflowError) _ t).0 t k
 
 -- ---- the lowest keycode of which a test holds
 
@@ -86,20 +70,20 @@ module _ (f : Keycode → Bool) where
   itself k = either (not (f k)) (leb (number_of k) (number_of k)) (rw (le-leb (number_of k) (number_of k) (omega arith)) tt)
 
   lowest_with : (k : Keycode) (ks : List Keycode) → f k ≡ true → {o : Option Keycode} → Lowest ks o → Lowest (k ∷ ks) (lower k o)
-  lowest_with k ks e (of_none t) = of_one k e (both (no_lower k k) (each (no_lower k) ks) (itself k) (each_mono none_holds (no_lower k) (none_lower k) ks t))
+  lowest_with k ks e (of_none t) = of_one k e (yes_and (no_lower k k) (each (no_lower k) ks) (itself k) (each_mono none_holds (no_lower k) (none_lower k) ks t))
   lowest_with k ks e (of_one j h t) = by (ltb (number_of j) (number_of k)) refl
     where
       by : (b : Bool) → ltb (number_of j) (number_of k) ≡ b → Lowest (k ∷ ks) (some (cond b j k))
       by true l =
           of_one j h
-          (both (no_lower j k) (each (no_lower j) ks) (either (not (f k)) (leb (number_of j) (number_of k)) (rw (le-leb (number_of j) (number_of k) (omega (arith, ltb-true (number_of j) (number_of k) l))) tt)) t)
+          (yes_and (no_lower j k) (each (no_lower j) ks) (either (not (f k)) (leb (number_of j) (number_of k)) (rw (le-leb (number_of j) (number_of k) (omega (arith, ltb-true (number_of j) (number_of k) l))) tt)) t)
       by false l =
           of_one k e
-          (both (no_lower k k) (each (no_lower k) ks) (itself k) (each_mono (no_lower j) (no_lower k) (λ i. weaker j k i (ltb-false (number_of j) (number_of k) l)) ks t))
+          (yes_and (no_lower k k) (each (no_lower k) ks) (itself k) (each_mono (no_lower j) (no_lower k) (λ i. weaker j k i (ltb-false (number_of j) (number_of k) l)) ks t))
 
   lowest_without : (k : Keycode) (ks : List Keycode) → f k ≡ false → {o : Option Keycode} → Lowest ks o → Lowest (k ∷ ks) o
-  lowest_without k ks e (of_none t) = of_none (both (none_holds k) (each none_holds ks) (rw e tt) t)
-  lowest_without k ks e (of_one j h t) = of_one j h (both (no_lower j k) (each (no_lower j) ks) (rw e tt) t)
+  lowest_without k ks e (of_none t) = of_none (yes_and (none_holds k) (each none_holds ks) (rw e tt) t)
+  lowest_without k ks e (of_one j h t) = of_one j h (yes_and (no_lower j k) (each (no_lower j) ks) (rw e tt) t)
 
   lowest_is : (ks : List Keycode) → Lowest ks (lowest f ks)
   unfolding lowest
@@ -182,4 +166,5 @@ gives_character shift c k e = is_the_lem c (character_of k (flags_held shift)) e
 pub gives_press : (shift : Bool) (c : ℕ) (k : Keycode) → gives_it shift c k ≡ true → (0 < number_of k) × (number_of k < 0x80)
 gives_press shift c k e =
     let t : T (ltb 0 (number_of k) && ltb (number_of k) 0x80) = rw (gives_character shift c k e) at (presses shift k) in
-    (ltb→lt 0 (number_of k) (&&_left (ltb 0 (number_of k)) (ltb (number_of k) 0x80) t), ltb→lt (number_of k) 0x80 (&&_right (ltb 0 (number_of k)) (ltb (number_of k) 0x80) t))
+    let u = and_yes (ltb 0 (number_of k)) (ltb (number_of k) 0x80) t in
+    (ltb→lt 0 (number_of k) u.0, ltb→lt (number_of k) 0x80 u.1)

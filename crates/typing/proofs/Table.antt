@@ -61,11 +61,6 @@ numbered_none (no_entry e) z = sym (ap numbered e)
 numbered_none (plain k e h l) z = absurd (omega (arith, z))
 numbered_none (shifted k e h l) z = absurd (omega (arith, z))
 
-pub numbered_some : {c n : ℕ} → Entry c n → (n ≡ 0 → ⊥) → Some n ≡ numbered (key_of c)
-numbered_some (no_entry e) z = absurd (z refl)
-numbered_some (plain k e h l) z = sym (ap numbered e)
-numbered_some (shifted k e h l) z = sym (ap numbered e)
-
 pub found_none : {c n : ℕ} → Entry c n → None ≡ numbered (key_of c) → n ≡ 0
 found_none (no_entry e) q = refl
 found_none (plain k e h l) q = let s : None ≡ Some (number_of k) = q ∙ ap numbered e in absurd (cc)

@@ -6,6 +6,7 @@ use mathlib.Core.List.{[], ◌∷◌}
 use Prim.Native.Nat.{ℕ, ◌%◌}
 use native.Mathlib.Omega.{arith}
 use lib.Dec.{T, eqb}
+use lib.Ieee.Bits.{is_true}
 use borrow.Author.Tests.{eqb-true, lt-ltb, le-ltb, not-true}
 use Rattle.bits.specs.Bits.{bit, odd, put_bit}
 use Rattle.keycodes_ascii.specs.declared.Keycode.{Keycode}
@@ -14,7 +15,7 @@ use Rattle.keycodes_ascii.specs.Characters.{character_of}
 use Rattle.keycodes_ascii.proofs.Codes.{keycode_number}
 use Rattle.scancode_set1.specs.Set1.{release_of}
 use Rattle.typing.specs.Keys.{flags_held, gives_it}
-use Rattle.typing.proofs.Keys.{of_every, is_true, is_absent, gives_character, gives_press}
+use Rattle.typing.proofs.Keys.{of_every, is_absent, gives_character, gives_press}
 use Rattle.keyboard_scancodes.specs.Strokes.{stroke, is_prefix}
 use Rattle.keyboard_scancodes.specs.declared.Profile.{Profile}
 use Rattle.keyboard_scancodes.specs.Profile.{followed, presses_followed}

@@ -4,7 +4,7 @@ use borrow.Author.Rules.{rules}
 use mathlib.Core.Path.{sym, ap}
 use Rattle.typing.specs.Table.{numbered}
 use Rattle.typing.proofs.Typable.{typable_above}
-use Rattle.typing.proofs.Table.{entry, numbered_none, numbered_some}
+use Rattle.typing.proofs.Table.{entry, numbered_none}
 use Rattle.typing.proofs.KeyTable.key_of.Goals as goal
 
 pub returns-then-character-ge-END_OF_KEYS : goal.returns-then-character-ge-END_OF_KEYS
@@ -12,6 +12,3 @@ returns-then-character-ge-END_OF_KEYS c = sym (ap numbered (typable_above c.args
 
 pub returns-then-key-eq-NO_KEY : goal.returns-then-key-eq-NO_KEY
 returns-then-key-eq-NO_KEY c = numbered_none (rw c.key_in-key.ensures (entry c.args.character)) c.if-key-eq-NO_KEY.true
-
-pub returns : goal.returns
-returns c = numbered_some (rw c.key_in-key.ensures (entry c.args.character)) c.if-key-eq-NO_KEY.false
