@@ -13,6 +13,7 @@ use argument_words::{MEANS_NOTHING, identity_of};
 use keyboard_modifiers::KeyboardModifiers;
 use keycodes_ascii::{KEY_RELEASED_OFFSET, KeyAction, Keycode};
 
+// Kept, C interface, all three structs: C reads them, so a refusal stands beside the counts, and outputs are slices that C lends.
 // What a conversion answers: the refusal's number, 0 where there is none; bytes of the stream used, bytes of the output written.
 #[repr(C)]
 #[derive(Clone, Copy)]
@@ -75,7 +76,7 @@ fn keycode_of(keycode: u32) -> Option<Keycode>
     Keycode::try_from(byte).ok()
 }
 
-// The number of a character. Kept, no plainer: the arm shows that no character is 0.
+// The number of a character. Kept, no plainer: the arm shows that 0 stands for none.
 fn character_number(found: Option<u8>) -> u32
     ensures { result ≡ character_number found }
 {

@@ -13,6 +13,7 @@ use keyboard_record::{KeyboardHandler, Keyboards, Table};
 use keyboard_scancodes::Profile;
 use ps2_mouse::PS2Mouse;
 
+// Kept as three scripts and a log, here and below, a rule of the project: a step takes them so.
 // A step, whatever it answers.
 fn one_step(
     state: Dispatcher,

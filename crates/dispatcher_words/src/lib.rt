@@ -124,6 +124,7 @@ fn place_in(words: &[u64; DISPATCHER_WORDS], source: Source) -> usize
     words[place_at(source)] as usize
 }
 
+// Kept as three scripts, here and in a step, C's interface: C lends each source's by itself.
 // Which sources wait.
 fn waits_in(words: &[u64; DISPATCHER_WORDS], first: &[u8], second: &[u8], third: &[u8]) -> Waits
     ensures { (source : Source) → wait_in result source ≡ waits_now (dispatcher_of words.now) (scripts first.now second.now third.now) source }
@@ -147,6 +148,7 @@ fn put_turn(words: &mut [u64; DISPATCHER_WORDS], source: Source, place: usize)
     words[LAST_AT] = u64::from(source_number(source));
 }
 
+// Script and log are kept as two slices, here and in a step, a rule of the project: document 01 has a call take both.
 // A side's turn: one handler call on its unused bytes, on the handler's numbers. A refused call uses the turn too.
 fn serve_keyboard(
     words: &mut [u64; DISPATCHER_WORDS],
@@ -222,6 +224,7 @@ pub fn dispatcher_step(
         return no_call(21);
     };
     let waits = waits_in(lent, first, second, third);
+    // Kept a `match`, no plainer: whom a step serves is its answer too, and each arm lends another script.
     match waits.serves(last_in(lent[LAST_AT])) {
         Some(Source::Keyboard(Side::First)) => serve_keyboard(lent, Side::First, first, log),
         Some(Source::Keyboard(Side::Second)) => serve_keyboard(lent, Side::Second, second, log),

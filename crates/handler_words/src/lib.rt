@@ -33,6 +33,7 @@ use keycodes_ascii::{KeyAction, KeyEvent, Keycode};
 use ps2_answers::Lack;
 use ps2_kept::KEPT_LIMIT;
 
+// Kept as places of numbers, C's interface: C lends the record as 144 of them.
 // Where the numbers of either keyboard begin: the prefix, the flags, how many bytes wait, and the 16 waiting bytes in two numbers.
 const FIRST_AT: usize = 0;
 
@@ -62,8 +63,10 @@ const LAST_KEYCODE: u8 = 0x5D;
 pub const HANDLER_WORDS: usize = PLACES_FROM + QUEUE_LENGTH;
 
 // A lent slice is asked for its length once, in the public functions; from there on its type says it.
+// Kept as a slice there, C's interface: C passes how many numbers there are.
 type Words = [u64; HANDLER_WORDS];
 
+// Kept as numbers, C's interface, here and below: C gets what a call answers so.
 // What a handler call answers, as numbers: the refusal and that of the lamp exchange, 0 where there is none; script bytes used, pairs written and bytes dropped; and the port of the read that the script was too short for, or 0.
 #[repr(C)]
 #[derive(Clone, Copy)]
@@ -105,6 +108,7 @@ fn waiting_words(bytes: &[u8; KEPT_LIMIT]) -> (u64, u64)
     ((number % (1 << 64)) as u64, (number >> 64) as u64)
 }
 
+// Kept, no plainer, here and below: each `match` between a number and a kind is its table, since the kinds are other crates'; and no number is refused here, so `TryFrom` says less.
 // How many keyboards a record's number says: 2 is two, and any other one.
 fn keyboards_of(word: u64) -> Keyboards
     ensures { result ≡ keyboards_of word }
@@ -238,6 +242,7 @@ fn put_new(
 }
 
 // The numbers after which a record is as it was passed.
+// Kept as numbers, no plainer: the answer is C's number by then, and document 01 names these three by number.
 fn is_as_passed(refusal: u32) -> bool
     ensures { result ≡ eqb refusal 2 || (eqb refusal 3 || eqb refusal 21) }
 {
@@ -302,6 +307,7 @@ fn queue_key(
     }
 }
 
+// Kept as three parameters, here and below, no plainer: a struct of them would be built at each call and taken apart in each step.
 // Whether a call takes the script's first byte, since none waits, at a table without the profile.
 fn is_from_script(words: &Words, side: Side, script: &[u8]) -> bool
     ensures { Says (FromScript side (state_of words.now) script.now) result }
@@ -373,6 +379,7 @@ fn is_key_alone(words: &Words, side: Side, script: &[u8]) -> bool
         && !is_lock_press(Profile::Any, script[0])
 }
 
+// Script and log are kept as two slices here and below, a rule of the project: document 01 has a call take both.
 // A handler call for a side, on the numbers of a record.
 fn handle_side(words: &mut Words, side: Side, script: &[u8], log: &mut [u8]) -> HandledWords
     ensures { SideHandled side words.old script.now log.old result words.new log.new }
@@ -400,6 +407,7 @@ fn handle_side(words: &mut Words, side: Side, script: &[u8], log: &mut [u8]) -> 
 }
 
 // What most calls are: the script's first byte is taken, it is of a key that has no flag, and the record is ready for its event, which is queued.
+// Kept beside the general call, as `handle_key` is, speed: a plain key takes 6.5 ns so, and a call on the state alone 33 (docs/PERFORMANCE.md).
 fn handle_plain(words: &mut Words, side: Side, script: &[u8]) -> HandledWords
     requires { PlainKey side words.old script.now }
     ensures { KeyHandled side words.old script.now result words.new }
@@ -407,6 +415,7 @@ fn handle_plain(words: &mut Words, side: Side, script: &[u8]) -> HandledWords
     let state = state_in(words);
     let modifiers = state.keyboard_at(side).modifiers;
     put_keyboard(words, side, followed(modifiers));
+    // Kept beside the same in `queue_key`, no plainer: each has a promise of its own, and a function of both would want a third.
     put_place(
         words,
         (state.start + state.count) % QUEUE_LENGTH,

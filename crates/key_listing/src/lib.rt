@@ -81,6 +81,7 @@ fn is_last(answer: HandlerAnswer) -> bool
     )
 }
 
+// Kept functions, here and below, no plainer: a crate writes no `Display` for the types of other crates, and printed text is a string on the heap.
 // Puts the number of a refusal; an answer that is none puts nothing.
 fn put_refusal(out: &mut Writer<'_>, answer: HandlerAnswer)
     ensures { Puts (refusal_line (number_ended (said_call answer))) out.old out.new }

@@ -48,6 +48,7 @@ pub enum HandlerRefusal {
 // How a handler call ends.
 pub type HandlerAnswer = Result<(), HandlerRefusal>;
 
+// Kept beside the answer, no plainer: which bytes still wait is told with a lack too.
 // The byte that a call takes, or that there is none; the script bytes used for it; and the bytes that still wait.
 #[derive(Clone, Copy)]
 struct TakenByte {
@@ -55,6 +56,7 @@ struct TakenByte {
     answer: Answer<u8>,
 }
 
+// `used` and `pairs` stand beside each answer in the next five, a rule of the project: document 01 has every answer give them; and the fields that these share are kept in each, no plainer: one within another, each would be read by two names.
 // Kept in this and the next three: `lamps_failed` is document 01's 14, shown beside the answer and not in its place; and event and answer stand apart, since the two in one `Result` measured slower.
 // What a call gives back for its keyboard: the event that its byte gives; where it gives none, the answer. A lamp exchange that failed, document 01's 14, is shown beside the answer, and so is the number of the bytes that it threw away and that found no place to wait.
 #[derive(Clone, Copy)]

@@ -51,6 +51,7 @@ const ALT_AND_ALT_RIGHT: KeyboardModifiers = KeyboardModifiers {
     bits: 1 << 4 | 1 << 10,
 };
 
+// Kept as two words of 64 bits, here and below, no plainer: a shift of one word by less than its width is what the table's law speaks of.
 // The keys that rated games allow, a bit for each keycode: Escape, the digits, Q to P, Enter, Control, A to L, the left Shift, Z to M, the right Shift;
 const TOURNAMENT_KEYS: u64 = 1 << 0x01
     | 0x3FF << 0x02

@@ -169,7 +169,7 @@ impl TryFrom<u8> for Keycode {
 
     ghost try_from_gives = { λ byte r. r ≡ keycode_read byte };
 
-    // The enum's numbers once more, kept for speed: a `match` on a byte is one lookup, where a table that is searched lies on the stack at each call (docs/DECISIONS.md).
+    // The enum's numbers once more. Kept a `match`, no plainer: its rows are what is to be read, and a table that is searched would have the same ones.
     #[tactic(auto, unfolding(crate::specs::Keycode::keycode_of, crate::specs::Keycode::numbered, crate::specs::Keycode::keycodes))]
     fn try_from(byte: u8) -> Result<Keycode, NoKeycode> {
         let keycode = match byte {

@@ -12,6 +12,7 @@ use std::alloc::Global;
 use std::io::{Read, Result, Write};
 
 // The number of an outcome that there is nothing to answer of, and of a call that can't be made: there is no such operation, or not with this argument.
+// Kept as numbers, no plainer: an outcome that says nothing goes where any other does; as an `Option` each of a turn's two ways would hold one.
 pub const SILENT: u8 = 254;
 
 pub const NO_CALL: u8 = 255;
@@ -19,6 +20,7 @@ pub const NO_CALL: u8 = 255;
 // The operation of an instruction that is a part of the script, of one that no program makes, and of the last one.
 const PART: u8 = 0;
 
+// 254 is kept a number, a rule of the project: such a call is answered as that operation, by the format.
 const UNMADE: u8 = 254;
 
 const END: u8 = 255;

@@ -77,7 +77,7 @@ impl Value for u8 {
     ghost worth = { byte_value };
 
     fn number(self) -> u64 {
-        u64::from(self)
+        u64::from(self) // a byte is its own number
     }
 }
 
@@ -90,12 +90,11 @@ impl Value for u64 {
     }
 }
 
-// 1 where it is so.
 impl Value for bool {
     ghost worth = { weigh };
 
     fn number(self) -> u64 {
-        u64::from(self)
+        u64::from(self) // 1 where it is so
     }
 }
 
@@ -103,7 +102,7 @@ impl Value for ScancodeSet {
     ghost worth = { scancode_set_byte };
 
     fn number(self) -> u64 {
-        u64::from(u8::from(self))
+        u64::from(u8::from(self)) // the set's byte
     }
 }
 
@@ -111,7 +110,7 @@ impl Value for MouseId {
     ghost worth = { mouse_id_byte };
 
     fn number(self) -> u64 {
-        u64::from(u8::from(self))
+        u64::from(u8::from(self)) // the identity's byte
     }
 }
 

@@ -29,8 +29,10 @@ const ATTEMPTS: u8 = 4;
 const SELF_TEST_PASSED: u8 = 0xAA;
 
 // A device's byte for a command that it accepts.
+// Kept as a byte, no plainer: it is compared with a byte of the script, which would be read as a response first.
 const ACKNOWLEDGE: u8 = 0xFA;
 
+// Kept beside the answer, a rule of the project: the bytes thrown away are handed back with a failure too (request 2.3).
 // What a command comes to, with the bytes that its whole run threw away.
 #[derive(Clone, Copy)]
 pub struct Commanded {
@@ -122,6 +124,7 @@ fn command_by_onto(
     }
 }
 
+// Kept as `port, first, second`, here and below, no plainer: a struct would be built in each call and taken apart here.
 // Two commands to a device, the second only where the first was accepted.
 // Kept beside the next, and beside `command_pair`, no plainer: each promises another definition, in a few lines over this one. `command_by` and `command_by_onto` likewise.
 pub fn command_pair_keeping(
@@ -276,6 +279,7 @@ pub fn failing_as<T: Copy>(answer: Answer<T>, failure: Failure) -> Answer<T>
     ensures used { used_of result ≡ used_of answer }
     ensures pairs { pairs_of result ≡ pairs_of answer }
 {
+    // Kept a `match`, no plainer: with `map_err` the promise of end and counts would be a closure's first.
     match answer {
         Ok(done) => Ok(done),
         Err(refused) => Err(refused.with(refusing_as(refused.value, failure))),

@@ -4,6 +4,7 @@
 ghost use Rattle.std.specs.Prelude.{◌≡◌, ◌<◌};
 ghost use Rattle.bits.specs.Bits.{put_bit};
 
+// Each byte is a struct of its own with `From` both ways, no plainer as one generic: all that they share is a byte.
 mod configuration;
 mod leds;
 mod status;

@@ -265,6 +265,7 @@ fn call(i: Instruction, script: &[u8], log: &mut [u8]) -> Option<Outcome> {
 }
 
 // The call as often as the instruction tells, and the outcome of the last: more than once is for measuring.
+// Kept a loop of its own in each call that is measured, no plainer: one over a closure would want a `requires` that it may be called.
 pub fn call_times(i: Instruction, script: &[u8], log: &mut [u8]) -> Outcome {
     let mut outcome = call(i, script, log);
     for _ in 1..i.times {

@@ -5,6 +5,7 @@ use ps2_kept::KeptBytes;
 use ps2_polling::polling_receive;
 use std::io::{Result, Write};
 
+// Kept as numbers, here and below, a rule of the project: they are tests/traces' format.
 // The packed call. Its state is the operation, and its argument that of the operation.
 pub const KEEPING: u8 = 39;
 

@@ -16,6 +16,7 @@ fn converted(c: Conversion, room: usize) -> Outcome {
 }
 
 // The conversion as often as is told: more than once is for measuring.
+// Kept a loop of its own in each call that is measured, no plainer: one over a closure would want a `requires` that it may be called.
 fn convert_times(stream: &[u8], output: &mut [u8], times: u32) -> Outcome {
     let mut outcome = converted(convert(stream, output), output.len());
     for _ in 1..times {

@@ -15,6 +15,7 @@ use replay_records::{
 use std::ops::ControlFlow;
 
 // Where in the script the second side's and the mouse's begin; at its end where it was not told.
+// Kept a number past every end, no plainer: `min` takes it for the script's end, where an `Option` would be asked.
 #[derive(Clone, Copy)]
 struct Parts {
     second: usize,
@@ -38,6 +39,7 @@ fn source_of(number: u8) -> Source {
     }
 }
 
+// Kept beside dispatcher_words', no plainer: those are C's numbers, and these tests/traces'.
 fn source_number(source: Source) -> u8 {
     match source {
         Source::Keyboard(Side::First) => 1,
@@ -78,6 +80,7 @@ fn key_outcome(side: Side, call: CallAnswer) -> Outcome {
     }
 }
 
+// Kept beside `answered` of replay, no plainer: one for all would be public in a library, with a promise and a wrong program of its own.
 // What the mouse's turn answered: `left` is 3, and the value the packet.
 fn packet_outcome(read: Answer<SignedPacket>) -> Outcome {
     let outcome = match read {
@@ -141,6 +144,7 @@ impl Dispatching {
         }
     }
 
+    // Script and log are kept as two slices here and below, a rule of the project: document 01 has a call take both.
     // A step, 56, on the parts of the script: the first side's is before the second's, which is before the mouse's.
     fn step(&mut self, script: &[u8], log: &mut [u8]) -> Turn {
         let (keys, mouse) = script.split_at(self.parts.third.min(script.len()));
@@ -155,10 +159,9 @@ impl Dispatching {
         let t = take_event(self.state.handler);
         self.state.handler = t.handler;
         let outcome = taken_outcome(t.event);
-        if outcome.left == 3 {
-            ControlFlow::Continue(outcome)
-        } else {
-            ControlFlow::Break(outcome)
+        match t.event {
+            Ok(Some(_)) => ControlFlow::Continue(outcome),
+            Ok(None) | Err(_) => ControlFlow::Break(outcome),
         }
     }
 

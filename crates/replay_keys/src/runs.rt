@@ -1,5 +1,5 @@
 // A run of handler calls and takings on one record, and what else is on keys.
-use keyboard::{handle, number_of};
+use keyboard::{HandlerRefusal, handle, number_of};
 use keyboard_init::{KeyboardInitialized, keyboard_init};
 use keyboard_modifiers::KeyboardModifiers;
 use keyboard_record::{KeyboardHandler, take_event};
@@ -70,6 +70,7 @@ impl Reading {
     }
 }
 
+// Kept beside `answered` of replay, no plainer: one for all would be public in a library, with a promise and a wrong program of its own.
 // How keyboard initialisation ended; the value is the record that it gives, where it gives one.
 fn initialized(c: KeyboardInitialized) -> Outcome {
     match c.answer {
@@ -124,16 +125,19 @@ impl Run {
         }
     }
 
+    // Script and log are kept as two slices here and below, a rule of the project: document 01 has a call take both.
     // A side's handler call on what is left of its script, with the whole log. It ends the run by 2, 3 or 21. `left` is 1 where a lamp exchange failed, and the value tells how many bytes were dropped.
     fn call(&mut self, at: Reading, side: Side, script: &[u8], log: &mut [u8]) -> Turn {
         let done = handle(self.handler, side, script, log);
-        let number = number_of(done.answer);
         let outcome = Outcome {
             left: u8::from(done.lamps_failed),
-            ..ending(number, done.used, done.pairs, u64::from(done.dropped))
+            ..ending(number_of(done.answer), done.used, done.pairs, u64::from(done.dropped))
         };
         self.handler = done.handler;
-        if matches!(number, 2 | 3 | 21) {
+        if matches!(
+            done.answer,
+            Err(HandlerRefusal::Lacking(_) | HandlerRefusal::MalformedRecord)
+        ) {
             self.at = None;
             return ControlFlow::Break(outcome);
         }
@@ -169,14 +173,14 @@ impl Run {
         let t = take_event(self.handler);
         self.handler = t.handler;
         let outcome = taken_outcome(t.event);
-        if outcome.number == 21 {
-            self.at = None;
-            return ControlFlow::Break(outcome);
+        match t.event {
+            Err(_) => {
+                self.at = None;
+                ControlFlow::Break(outcome)
+            }
+            Ok(None) if op == 36 => ControlFlow::Break(outcome),
+            Ok(_) => ControlFlow::Continue(outcome),
         }
-        if op == 36 && outcome.left != 3 {
-            return ControlFlow::Break(outcome);
-        }
-        ControlFlow::Continue(outcome)
     }
 
     // The record is told of an event or of a byte that waits, which is added at each turn.

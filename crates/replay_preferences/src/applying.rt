@@ -10,6 +10,7 @@ pub const APPLYING: u8 = 47;
 
 const FIELD_BYTES: usize = 20;
 
+// Kept beside `answered` of replay, no plainer: one for all would be public in a library, with a promise and a wrong program of its own.
 fn outcome_of(answer: Answer<()>) -> Outcome {
     match answer {
         Ok(done) => ending(0, done.used, done.pairs, 0),
@@ -17,6 +18,7 @@ fn outcome_of(answer: Answer<()>) -> Outcome {
     }
 }
 
+// Kept beside replay_bytes' `record_of`, no plainer: that one takes any other version for the second, and sharing it would want a crate.
 // The record of a version, 1 or 2, that the fields tell.
 fn record_of(version: u8, bytes: &[u8]) -> Option<Preferences> {
     let fields = Fields {

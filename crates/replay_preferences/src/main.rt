@@ -21,6 +21,7 @@ impl Session for Applications {
         let i = where_held(i, script, usize::from(i.room), &self.log);
         let room = usize::from(i.room).min(LOG_SPACE);
         let log = &mut self.log[..room];
+        // Kept as a number, a rule of the project: it is tests/traces' format.
         let outcome = match i.op {
             APPLYING => answer_applying(i, script, log),
             _ => None,

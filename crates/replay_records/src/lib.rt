@@ -226,6 +226,7 @@ pub fn record_after(i: Instruction, handler: KeyboardHandler) -> KeyboardHandler
 }
 
 /// The number of such an instruction's outcome: there is nothing to answer, or it is no call where it asks for a keycode that there is not.
+// Kept as numbers, here and below, a rule of the project: they are tests/traces' format.
 pub fn record_end(i: Instruction) -> u8
     ensures { result ≡ record_end i }
 {

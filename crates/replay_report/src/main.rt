@@ -44,6 +44,7 @@ struct Reports {
 }
 
 // An event, which is told by its keycode and its action, as a report takes it.
+// Kept, no plainer: in the format any number but 0 is a release, so a `TryFrom` would refuse what it lets through.
 fn code_of(keycode: u8, action: u8) -> u8 {
     let action = if action == 0 {
         KeyAction::Pressed

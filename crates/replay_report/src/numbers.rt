@@ -72,6 +72,7 @@ pub fn narrow(totals: Totals) -> Report {
     }
 }
 
+// Kept functions, here and below, a rule of the project: tests/traces' format tells a number by an answer of its own, and no text is printed.
 // What has a number, or none: the answer's own number is 0, and 1 where a number is below 0, which is told as far as it is from -1 then.
 fn told_number(number: u64) -> Outcome {
     ending(0, 0, 0, number)

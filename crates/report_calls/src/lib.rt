@@ -8,6 +8,7 @@ ghost use Rattle.report_calls.specs.Numbers.{called};
 use ps2_bytes::MouseId;
 use report::{Report, Season, answer_number};
 
+// Kept as numbers, C's interface: a program links it, and enums don't cross `extern "C"`.
 // What the session came to.
 #[repr(C)]
 #[derive(Clone, Copy)]

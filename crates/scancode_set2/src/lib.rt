@@ -33,6 +33,7 @@ pub struct Conversion {
 const BREAK: u8 = 0xF0;
 
 // What stands for the byte of a code that has no entry.
+// Kept as 00, no plainer: a code's number has room for three bytes, and each may be none.
 const NO_ENTRY: u8 = 0x00;
 
 // From here on a code has the top bit: F0, E0 and E1, and two keys.

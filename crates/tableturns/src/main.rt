@@ -2,7 +2,7 @@
 #![tactic(auto)]
 
 use dispatcher::{Dispatcher, Served};
-use keyboard::{CallAnswer, number_of};
+use keyboard::{CallAnswer, HandlerRefusal};
 use keyboard_record::{KeyboardHandler, Keyboards, SideEvent, Table, take_event};
 use keyboard_scancodes::Profile;
 use keyboard_sides::Side;
@@ -33,11 +33,10 @@ fn name_of(side: Side) -> &'static str {
 // Kept functions, here and below, no plainer: a program writes no `Display` for the types of other crates.
 // A call's refusal, if it is refused; its event is told when it is taken.
 fn tell_call(rt: &impl Print, side: Side, call: CallAnswer) -> Result<()> {
-    let number = number_of(call.answer);
-    if number == 0 {
-        return Ok(());
+    match call.answer {
+        Ok(()) => Ok(()),
+        Err(refusal) => println!(rt; "{}: refused {}", name_of(side), refusal.number()),
     }
-    println!(rt; "{}: refused {number}", name_of(side))
 }
 
 fn tell_event(rt: &impl Print, e: SideEvent) -> Result<()> {
@@ -84,7 +83,11 @@ fn tell_served(rt: &impl Print, served: Served) -> Result<()> {
 
 // Whether a call took neither a byte of its script nor one that waited: it used none, and ended in 2, 3 or 21.
 fn took_none(call: CallAnswer) -> bool {
-    call.used == 0 && matches!(number_of(call.answer), 2 | 3 | 21)
+    call.used == 0
+        && matches!(
+            call.answer,
+            Err(HandlerRefusal::Lacking(_) | HandlerRefusal::MalformedRecord)
+        )
 }
 
 // How many steps in a row took no byte, after one more: 3 are a whole round of those that wait. An idle step ends them all, and leaves nothing to count.

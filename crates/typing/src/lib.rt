@@ -32,6 +32,7 @@ const SHIFT_RELEASED: u8 = 0xAA;
 const RELEASED: u8 = 0x80;
 
 // What the table adds to the keycode of a key that needs Shift, and what it has for a character without a key.
+// Kept in one byte, no plainer: the table is a string of bytes, and as options it would be 128 values written out.
 const NEEDS_SHIFT: u8 = 0x80;
 
 const NO_KEY: u8 = 0x00;
