@@ -10,6 +10,3 @@ use Rattle.keycodes_ascii.proofs.Keycode.to_ascii.Goals as goal
 pub character_in-requires : goal.character_in-requires
 unfolding all_right row_right entry_right same keycodes xor
 character_in-requires c = agreement _ refl
-
-pub returns : goal.returns
-returns c = c.character_in.ensures
