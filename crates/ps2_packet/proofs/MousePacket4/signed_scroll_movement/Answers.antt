@@ -21,6 +21,3 @@ overflow_sub-result c =
 
 pub returns-then-has : goal.returns-then-has
 returns-then-has c = to_z-of_z (overflow_sub-result c) ∙ rw (read (goal.at.returns-then-has c).After-scroll_movement-unsigned, sym c.has.ensures ∙ c.if-has.true)
-
-pub returns-else-has : goal.returns-else-has
-returns-else-has c = rw (read (goal.at.returns-else-has c).After-scroll_movement-unsigned, sym c.has.ensures ∙ c.if-has.false)

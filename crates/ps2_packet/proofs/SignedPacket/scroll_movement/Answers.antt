@@ -20,8 +20,5 @@ other (Zero p) k = refl
 other (Three p) k = refl
 other (Four p) k = ⊎_elim (λ q. absurd (omega (arith, q))) (λ q. absurd (omega (arith, q))) k
 
-pub returns-in-Four : goal.returns-in-Four
-returns-in-Four c = cc (returned w8 c.signed_scroll_movement.result c.signed_scroll_movement.type_inv)
-
 pub returns-in_default : goal.returns-in_default
 returns-in_default c = returned w8 c.scroll_movement.result c.scroll_movement.type_inv ∙ c.scroll_movement.ensures ∙ other c.args.self.packet (opened c.in_default.in_default-own.keys2)
