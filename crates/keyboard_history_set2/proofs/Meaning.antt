@@ -9,6 +9,7 @@ use Prim.Native.Nat.{ℕ, suc, ◌+◌, ◌%◌, ◌<◌}
 use native.Mathlib.Omega.{arith}
 use lib.Dec.{T, eqb, ltb, ltb→lt}
 use lib.ListN.{take}
+use mir.Facts.{and_yes}
 use borrow.Author.Tests.{ltb-true, ltb-false, lt-ltb, le-ltb, ne_eqb, eqb-true}
 use Rattle.bits.specs.Bits.{odd, bit}
 use Rattle.bits.proofs.Every.{every, agree_bool, each}
@@ -17,7 +18,7 @@ use Rattle.exchange.specs.Answer.{Answer}
 use Rattle.scancode_set2.specs.Table.{printed, entry_of}
 use Rattle.scancode_set2.specs.Codes.{is_prefix, Code}
 use Rattle.scancode_set2.specs.Convert.{with_top_bit, convert_stream}
-use Rattle.scancode_set2.proofs.Table.{entry_above, both, entry_press}
+use Rattle.scancode_set2.proofs.Table.{entry_above, entry_press}
 use Rattle.scancode_set2.proofs.Becomes.{top_bit}
 use Rattle.scancode_set2.proofs.Laws.{convert_became}
 use Rattle.keyboard_sides.specs.declared.Side.{Side}
@@ -71,15 +72,15 @@ module _ (p : ℕ) (t : T (is_flagged p)) where
 
   bounds : (0 < key_of p) × (key_of p < 0x60) × (p < 0x85)
   bounds =
-      let l = both (ltb 0 (key_of p)) (ltb (key_of p) 0x60 && ltb p 0x85) (both (every shared 0x85) low t).1 in
-      let m = both (ltb (key_of p) 0x60) (ltb p 0x85) l.1 in
+      let l = and_yes (ltb 0 (key_of p)) (ltb (key_of p) 0x60 && ltb p 0x85) (and_yes (every shared 0x85) low t).1 in
+      let m = and_yes (ltb (key_of p) 0x60) (ltb p 0x85) l.1 in
       (ltb→lt 0 (key_of p) l.0, ltb→lt (key_of p) 0x60 m.0, ltb→lt p 0x85 m.1)
 
   flagged : Flagged p
   flagged = record { alike = λ c. by c (ltb c 0x85) refl; no_prefix = none }
     where
       by : (c : ℕ) (u : Bool) → ltb c 0x85 ≡ u → eqb (key_of c) (key_of p) ≡ eqb c p
-      by c true h = agree_bool (λ (c : ℕ). eqb (key_of c) (key_of p)) (λ (c : ℕ). eqb c p) 0x85 (both (every shared 0x85) low t).0 c (ltb-true c 0x85 h)
+      by c true h = agree_bool (λ (c : ℕ). eqb (key_of c) (key_of p)) (λ (c : ℕ). eqb c p) 0x85 (and_yes (every shared 0x85) low t).0 c (ltb-true c 0x85 h)
       by c false h =
           let l = ltb-false c 0x85 h in
           let b = bounds in
@@ -95,8 +96,8 @@ module _ (p : ℕ) (t : T (is_flagged p)) where
       none b h = ⊎_elim (λ e. is_e0 b (eqb-true b 0xE0 e)) (λ e. is_e1 b (eqb-true b 0xE1 e)) (one_holds (eqb b 0xE0) (eqb b 0xE1) h)
 
 each_in : (f : FlagRow → Bool) {r : FlagRow} {rows : List FlagRow} → T (each f rows) → Memᴰ r rows → T (f r)
-each_in f t (Memᴰ.head {x = x} {xs = xs} e) = rw e (both (f x) (each f xs) t).0
-each_in f t (Memᴰ.tail {x = x} {xs = xs} m) = each_in f (both (f x) (each f xs) t).1 m
+each_in f t (Memᴰ.head {x = x} {xs = xs} e) = rw e (and_yes (f x) (each f xs) t).0
+each_in f t (Memᴰ.tail {x = x} {xs = xs} m) = each_in f (and_yes (f x) (each f xs) t).1 m
 
 -- ---- one code
 

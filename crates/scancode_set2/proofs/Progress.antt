@@ -3,7 +3,7 @@
 use mathlib.Core.Path.{◌≡◌, refl, sym, ap, ap₂, subst, ◌∙◌}
 use mathlib.Core.List.{List, [], ◌∷◌, ◌++◌, append-nil, append_assoc}
 use Prim.Native.Nat.{ℕ, suc, ◌+◌, ◌-◌, ◌<◌, ◌≤◌}
-use native.Mathlib.Nat.{add-zero, zero-add, add_assoc, sub-zero}
+use native.Mathlib.Nat.{add-zero, zero-add, add_assoc}
 use native.Mathlib.Numerals.{add-one}
 use native.Mathlib.Omega.{arith}
 use lib.ListN.{length, get_or, take, drop, set, length-set, take-append-drop, drop_of_length-le}
@@ -49,10 +49,6 @@ pub record Reached (stream before : List ℕ) (used written : ℕ) (out : List �
 
 pub so_far : {stream before out : List ℕ} {used n written : ℕ} → used ≡ n → Reached stream before used written out → Reached stream before n written out
 so_far {stream} {before} {out} {written = written} e = subst (λ (m : ℕ). Reached stream before m written out) e
-
-pub reached_start : (stream out : List ℕ) → Reached stream out 0 0 out
-reached_start stream out =
-    record { used_le = omega arith; written_le = omega arith; same = refl; all = rw (sub-zero (length out)) (sym (behind_none (convert_stream stream (length out)))); rest = refl }
 
 module _ {stream before out : List ℕ} {used written : ℕ} (h : Reached stream before used written out) where
   -- where nothing more is converted, the outcome is what the code has

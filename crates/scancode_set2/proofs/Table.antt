@@ -9,6 +9,7 @@ use Prim.Native.String.{String}
 use native.Mathlib.Omega.{arith}
 use lib.Dec.{T, eqb, ltb, ltb→lt}
 use lib.ListN.{get_or}
+use mir.Facts.{and_yes}
 use borrow.Author.Tests.{le-leb, lt-leb, ltb-true, ltb-false, ne_eqb}
 use Rattle.bits.specs.Table.{listed}
 use Rattle.bits.proofs.Every.{every, every_at, agree, each}
@@ -54,14 +55,10 @@ press_byte c = by (ltb c 0x85) refl
     by true e = every_at (λ (c : ℕ). is_press_byte (entry_of c)) 0x85 press_bytes c (ltb-true c 0x85 e)
     by false e = rw (entry_above c (omega (arith, ltb-false c 0x85 e))) tt
 
-pub both : (a b : Bool) → T (a && b) → T a × T b
-both true b t = (tt, t)
-both false b t = absurd t
-
 -- every entry is one
 pub entry_press : (c : ℕ) {e : ℕ} → entry_of c ≡ some e → (0 < e) × (e < 0x80)
 entry_press c {e} h =
-    let t = both (ltb 0 e) (ltb e 0x80) (subst (λ (x : Option ℕ). T (is_press_byte x)) h (press_byte c)) in
+    let t = and_yes (ltb 0 e) (ltb e 0x80) (subst (λ (x : Option ℕ). T (is_press_byte x)) h (press_byte c)) in
     (ltb→lt 0 e t.0, ltb→lt e 0x80 t.1)
 
 -- the place of a number in a list

@@ -4,15 +4,9 @@ use Prim.Native.Nat.{◌-◌, ◌/◌, ◌%◌, ◌^◌}
 use native.Mathlib.Omega.{arith}
 use Rattle.scancode_set2.proofs.Bytes.{low_alone, high_alone}
 use Rattle.scancode_set2.proofs.Codes.{cut_at}
-use Rattle.scancode_set2.proofs.Progress.{reached_start, reached_end, stop_done, stop_22, stop_23, stop_24, Stands, stands_alone, stands_after, so_wide, goes_on, so_far}
+use Rattle.scancode_set2.proofs.Progress.{reached_end, stop_done, stop_22, stop_23, stop_24, Stands, stands_alone, stands_after, so_wide, goes_on, so_far}
 use Rattle.scancode_set2.proofs.convert.Goals as goal
 use Rattle.scancode_set2.proofs.convert.Goals.{After-row_known-1, else-code-lt-TOP_BIT+else-code, else-code-lt-TOP_BIT+then-code+else-after-stream, then-code-lt-TOP_BIT}
-
-pub loop-used-init : goal.loop-used-init
-loop-used-init c = reached_start _ _
-
-pub shape_of-out-then-after-stream : goal.shape_of-out-then-after-stream
-shape_of-out-then-after-stream c = c.loop-used.invariant.same
 
 -- F0 at the end
 pub returns-then-after-stream : goal.returns-then-after-stream
@@ -20,13 +14,6 @@ returns-then-after-stream c =
     let l = c.loop-used in
     let stream = c.args.stream.now in
     reached_end l.invariant (stop_24 stream l.used _ (cut_at stream l.used c.loop-used-test.true c.if-code.true (omega (arith, c.if-after-stream.true))))
-
-pub overflow_shr-byte : goal.overflow_shr-byte
-overflow_shr-byte c = elim c.if-code-lt-TOP_BIT.branch [
-  | then-code-lt-TOP_BIT w ↦ omega arith
-  | else-code-lt-TOP_BIT+then-code+else-after-stream w ↦ omega arith
-  | else-code-lt-TOP_BIT+else-code w ↦ omega arith
-]
 
 -- where the kinds of code meet: a code stands at the place, of the bytes up to the next, and becomes the byte
 stands : (c : After-row_known-1)
@@ -44,15 +31,9 @@ stands c =
       | else-code-lt-TOP_BIT+else-code w ↦ rw (w.next-is, w.shift-is) (so_wide (omega arith) (stands_alone _ _ _ h w.if-code.false (high_alone (rw w.key-is at both) w.if-code-lt-TOP_BIT.false)))
     ]
 
-pub shape_of-out-then-byte-eq-NO_ENTRY : goal.shape_of-out-then-byte-eq-NO_ENTRY
-shape_of-out-then-byte-eq-NO_ENTRY c = c.loop-used.invariant.same
-
 -- a code without an entry
 pub returns-then-byte-eq-NO_ENTRY : goal.returns-then-byte-eq-NO_ENTRY
 returns-then-byte-eq-NO_ENTRY c = reached_end c.loop-used.invariant (stop_22 (stands (goal.at.returns-then-byte-eq-NO_ENTRY c).After-row_known-1) _ c.if-byte-eq-NO_ENTRY.true)
-
-pub shape_of-out-then-out-written : goal.shape_of-out-then-out-written
-shape_of-out-then-out-written c = c.loop-used.invariant.same
 
 -- a full output
 pub returns-then-out-written : goal.returns-then-out-written
@@ -60,35 +41,11 @@ returns-then-out-written c =
     let r = c.loop-used.invariant in
     reached_end r (stop_23 (stands (goal.at.returns-then-out-written c).After-row_known-1) (λ e. omega (arith, e)) _ (omega (arith, r.same)))
 
-pub loop-used-smaller : goal.loop-used-smaller
-loop-used-smaller c = omega (arith, (stands (goal.at.loop-used-smaller c).After-row_known-1).some_bytes, (stands (goal.at.loop-used-smaller c).After-row_known-1).within)
-
 pub loop-used-preserved : goal.loop-used-preserved
 loop-used-preserved c =
     let l = c.loop-used in
     let s = stands (goal.at.loop-used-preserved c).After-row_known-1 in
     so_far (omega (arith, s.some_bytes)) (goes_on s c.if-byte-eq-NO_ENTRY.false l.invariant c.if-out-written.false)
 
-pub shape_of-out : goal.shape_of-out
-shape_of-out c = c.loop-used.invariant.same
-
 pub returns : goal.returns
 returns c = reached_end c.loop-used.invariant (stop_done _ _ _ c.loop-used-test.false)
-
-pub bounds-stream-used : goal.bounds-stream-used
-bounds-stream-used c = omega arith
-
-pub overflow_add-after : goal.overflow_add-after
-overflow_add-after c = omega arith
-
-pub bounds-stream-after : goal.bounds-stream-after
-bounds-stream-after c = omega arith
-
-pub overflow_add-next : goal.overflow_add-next
-overflow_add-next c = omega arith
-
-pub bounds-out-written : goal.bounds-out-written
-bounds-out-written c = omega arith
-
-pub overflow_add-written : goal.overflow_add-written
-overflow_add-written c = omega arith
