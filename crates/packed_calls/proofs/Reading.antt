@@ -1,15 +1,14 @@
 -- What is read, one read after another, and the calls that a session is handed.
 -- Assumes nothing.
-use Rattle.std.proofs.Common.{◌≡◌, ℕ, ◌+◌, ◌-◌, ◌≤◌, List, [], ◌∷◌, ◌++◌, arith, length, take, drop, slice_range, sym, ap, ◌∙◌, subst, refl, drop_at, length-take-le, None, Some, IfSome, suc, zero, append_assoc, append-nil, get_or, set, min}
+use Rattle.std.proofs.Common.{◌≡◌, ℕ, ◌+◌, ◌-◌, ◌≤◌, List, [], ◌∷◌, ◌++◌, arith, length, take, drop, slice_range, sym, ap, ◌∙◌, subst, refl, drop_at, length-take-le, None, Some, IfSome, suc, append_assoc, append-nil, get_or, set, min}
 use Rattle.std.specs.declared.option.Option.{Option}
-use Rattle.std.specs.Io.KnownBytes.{Consumes, IsAtEnd}
-use Rattle.std.proofs.lemmas.List.{take_at, take_all, drop_all, length-take, length-drop}
+use Rattle.std.proofs.lemmas.List.{length-take, length-drop}
 use borrow.Rule.Slice.PartMut.{put_mid, post_of}
 use borrow.Author.Tests.{eq-eqb, ne_eqb}
 use lib.Seq.{take-add, take-append-le}
 use Rattle.packed_calls.specs.declared.Instruction.{Instruction}
 use Rattle.packed_calls.specs.Packed.{instruction_bytes, unpacked}
-use Rattle.packed_calls.specs.Replaying.{Taken, TakenInstruction, ReadBehind, PartRead, repeated, part_start, fitting, bytes_after, script_space, HandedOne, HandedAll, calls}
+use Rattle.packed_calls.specs.Replaying.{TakenInstruction, ReadBehind, PartRead, repeated, fitting, bytes_after, script_space, HandedOne, HandedAll, calls}
 
 -- ---- bytes
 
@@ -24,21 +23,6 @@ slice_range-put_mid a k n xs ys within fits =
     let same : (a + n) - a ≡ n = omega arith in
     let after = post_of a k xs in
     ap (take ((a + n) - a)) (drop_at (take a xs) (ys ++ after) a (length-take-le a xs within)) ∙ ap (λ m. take m (ys ++ after)) same ∙ take-append-le n ys after fits
-
--- as many as were wanted
-pub taken_all : (old new : Option (List ℕ)) (bs : List ℕ) (k : ℕ) → Consumes old new bs → length bs ≡ k → Taken k old new bs
-taken_all None new bs k c e = tt
-taken_all (Some xs) None bs k c e = absurd c
-taken_all (Some xs) (Some ys) bs k c e =
-    (sym (ap (take k) c ∙ take_at bs ys k e), ap (λ l. Some l) (sym (ap (drop k) c ∙ drop_at bs ys k e)))
-
--- all that there were
-pub taken_end : (old new : Option (List ℕ)) (bs : List ℕ) (k : ℕ) → Consumes old new bs → IsAtEnd new → length bs ≤ k → Taken k old new bs
-taken_end None new bs k c e h = tt
-taken_end (Some xs) None bs k c e h = absurd c
-taken_end (Some xs) (Some ys) bs k c e h =
-    let same : xs ≡ bs = c ∙ ap (λ l. bs ++ l) e ∙ append-nil bs in
-    (sym (ap (take k) same ∙ take_all k bs h), ap (λ l. Some l) (e ∙ sym (ap (drop k) same ∙ drop_all k bs h)))
 
 -- ---- a part
 

@@ -1,6 +1,6 @@
 -- `packed_calls::read_behind` meets its contract: only the places that were lent change, and those up to the end hold what was read.
 -- Assumes nothing.
-use Rattle.std.proofs.Common.{◌≡◌, ◌+◌, ◌-◌, ◌≤◌, ℕ, rules, arith, sym, ap, ◌∙◌, subst, length, take, drop, min, le_refl, slice_range}
+use Rattle.std.proofs.Common.{◌≡◌, ◌+◌, ◌-◌, ◌≤◌, ℕ, rules, arith, ◌∙◌, subst, length, take, drop, min, le_refl}
 use Rattle.std.proofs.lemmas.List.{length-take, length-drop}
 use Rattle.std.proofs.lemmas.Slice.{take-put_mid_below, drop-put_mid}
 use borrow.Rule.Slice.PartMut.{put_mid}

@@ -1,5 +1,5 @@
 -- `packed_calls::read_full` meets its contract: what was read stands at the front, and each read adds what it took.
-use Rattle.std.proofs.Common.{◌≡◌, ◌+◌, ◌-◌, ◌++◌, sym, rules, arith, length, take, ap, ◌∙◌, subst, le_refl}
+use Rattle.std.proofs.Common.{◌+◌, ◌-◌, ◌++◌, sym, rules, arith, length, take, ap, ◌∙◌, subst, le_refl}
 use Rattle.std.proofs.lemmas.Slice.{take-put_mid_below}
 use Rattle.std.proofs.KnownBytes.{Consumes-trans}
 use Rattle.std.specs.Io.KnownBytes.{Consumes}

@@ -1,6 +1,6 @@
 -- `packed_calls::repeat` meets its contract: each turn fills one place more.
 -- Assumes nothing.
-use Rattle.std.proofs.Common.{◌≡◌, ◌+◌, ◌-◌, suc, arith, rules, sym, ap, ◌∙◌, length, slice_set, get_or}
+use Rattle.std.proofs.Common.{◌≡◌, ◌+◌, ◌-◌, suc, arith, rules, sym, ap, ◌∙◌, slice_set, get_or}
 use Rattle.packed_calls.specs.Replaying.{repeated}
 use Rattle.packed_calls.proofs.Reading.{repeated_step, repeated_none}
 use Rattle.packed_calls.proofs.repeat.Goals as goal
