@@ -5,20 +5,14 @@ use Rattle.std.proofs.Math.Option.{Option, none, some}
 use Rattle.bits.specs.Table.{rows, decode}
 use Rattle.ps2_layouts.specs.declared.leds.LEDState.{LEDState}
 use Rattle.ps2_bytes.specs.declared.command.HostToKeyboardCommand.{HostToKeyboardCommand}
-use Rattle.ps2_bytes.specs.declared.command.HostToKeyboardCommand.TheVariants.{SetLEDStatus, ScancodeSet as GetOrSetScancodeSet, IdentifyKeyboard, SetRepeatRateAndDelay, EnableScanning, DisableScanning, ResendByte, ResetAndStartSelfTest}
 use Rattle.ps2_bytes.specs.declared.data.ScancodeSet.{ScancodeSet}
 use Rattle.ps2_bytes.specs.declared.data.ScancodeSet.TheVariants.{Set1, Set2, Set3}
-use Rattle.ps2_bytes.specs.Commands.{keyboard_byte}
+use Rattle.ps2_bytes.specs.Commands.{to_keyboard_commands}
 use Rattle.ps2_bytes.specs.Data.{scancode_set_byte}
 
 -- A command to the keyboard, by its byte.
-abbrev pub commands : List (ℕ × HostToKeyboardCommand)
-commands =
-    rows keyboard_byte
-    (SetLEDStatus ∷ GetOrSetScancodeSet ∷ IdentifyKeyboard ∷ SetRepeatRateAndDelay ∷ EnableScanning ∷ DisableScanning ∷ ResendByte ∷ ResetAndStartSelfTest ∷ [])
-
 abbrev pub command_at : ℕ → Option HostToKeyboardCommand
-command_at n = decode some none commands n
+command_at n = decode some none to_keyboard_commands n
 
 -- "F0 and its byte .. 1 to 3 set it": a scancode set, by its number.
 abbrev pub set_numbers : List (ℕ × ScancodeSet)

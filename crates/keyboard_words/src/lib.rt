@@ -31,24 +31,16 @@ use ps2_layouts::LEDState;
 
 // ---- what arguments stand for
 
-// Kept as a `match` on the number that C passes, here and below: no type in ps2_bytes is read as these eight commands, or as a set without 0.
-
 // The command to the keyboard that is sent as this byte.
+#[tactic(auto, unfolding(bits::specs::Table::decode))]
 fn command_of(byte: u32) -> Option<HostToKeyboardCommand>
     ensures { said_found result ≡ command_at byte }
 {
-    match byte {
-        0xED => Some(HostToKeyboardCommand::SetLEDStatus),
-        0xF0 => Some(HostToKeyboardCommand::ScancodeSet),
-        0xF2 => Some(HostToKeyboardCommand::IdentifyKeyboard),
-        0xF3 => Some(HostToKeyboardCommand::SetRepeatRateAndDelay),
-        0xF4 => Some(HostToKeyboardCommand::EnableScanning),
-        0xF5 => Some(HostToKeyboardCommand::DisableScanning),
-        0xFE => Some(HostToKeyboardCommand::ResendByte),
-        0xFF => Some(HostToKeyboardCommand::ResetAndStartSelfTest),
-        _ => None,
-    }
+    let byte = u8::try_from(byte).ok()?;
+    HostToKeyboardCommand::try_from(byte).ok()
 }
+
+// Kept as a `match` on the number that C passes: no type in ps2_bytes is read as a set without 0.
 
 // The scancode set of a number. 0 sets none: it asks.
 fn set_of(number: u32) -> Option<ScancodeSet>

@@ -1,24 +1,17 @@
 -- What the numbers of an argument stand for.
 -- Assumes nothing.
-use Rattle.std.specs.Prelude.{List, [], ◌∷◌, ℕ}
+use Rattle.std.specs.Prelude.{ℕ}
 use Rattle.std.proofs.Math.Option.{Option, none, some}
-use Rattle.bits.specs.Table.{rows, decode}
+use Rattle.bits.specs.Table.{decode}
 use Rattle.ps2_bytes.specs.declared.command.HostToMouseCommand.{HostToMouseCommand}
-use Rattle.ps2_bytes.specs.declared.command.HostToMouseCommand.TheVariants.{SetScaling, SetResolution, StatusRequest, SetStreamMode, ReadData, ResetWrapMode, SetWrapMode, SetRemoteMode, GetDeviceID, SampleRate, EnableDataReporting, DisableDataReporting, SetDefaults, ResendByte, Reset}
 use Rattle.ps2_bytes.specs.declared.data.MouseResolution.{MouseResolution}
 use Rattle.ps2_bytes.specs.declared.data.MouseSampleRate.{MouseSampleRate}
-use Rattle.ps2_bytes.specs.Commands.{mouse_byte}
+use Rattle.ps2_bytes.specs.Commands.{to_mouse_commands}
 use Rattle.ps2_bytes.specs.Data.{sample_rates, resolutions}
 
 -- A command is passed as its byte, that which the wiki lists for it.
-abbrev pub commands : List (ℕ × HostToMouseCommand)
-commands =
-    rows mouse_byte
-    (SetScaling ∷ SetResolution ∷ StatusRequest ∷ SetStreamMode ∷ ReadData ∷ ResetWrapMode ∷ SetWrapMode ∷ SetRemoteMode
-    ∷ GetDeviceID ∷ SampleRate ∷ EnableDataReporting ∷ DisableDataReporting ∷ SetDefaults ∷ ResendByte ∷ Reset ∷ [])
-
 abbrev pub command_at : ℕ → Option HostToMouseCommand
-command_at n = decode some none commands n
+command_at n = decode some none to_mouse_commands n
 
 -- "the seven rates 10, 20, 40, 60, 80, 100, 200", each by its number.
 abbrev pub rate_at : ℕ → Option MouseSampleRate

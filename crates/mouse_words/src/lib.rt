@@ -28,28 +28,12 @@ use ps2_packet_reading::read_signed_packet;
 
 // ---- arguments
 
-// The command that a number stands for: C passes it as its byte, which no one else reads.
+// The command that a number stands for: C passes it as its byte.
 fn command_of(byte: u32) -> Option<HostToMouseCommand>
     ensures { said_found result ≡ command_at byte }
 {
-    match byte {
-        0xE6 => Some(HostToMouseCommand::SetScaling),
-        0xE8 => Some(HostToMouseCommand::SetResolution),
-        0xE9 => Some(HostToMouseCommand::StatusRequest),
-        0xEA => Some(HostToMouseCommand::SetStreamMode),
-        0xEB => Some(HostToMouseCommand::ReadData),
-        0xEC => Some(HostToMouseCommand::ResetWrapMode),
-        0xEE => Some(HostToMouseCommand::SetWrapMode),
-        0xF0 => Some(HostToMouseCommand::SetRemoteMode),
-        0xF2 => Some(HostToMouseCommand::GetDeviceID),
-        0xF3 => Some(HostToMouseCommand::SampleRate),
-        0xF4 => Some(HostToMouseCommand::EnableDataReporting),
-        0xF5 => Some(HostToMouseCommand::DisableDataReporting),
-        0xF6 => Some(HostToMouseCommand::SetDefaults),
-        0xFE => Some(HostToMouseCommand::ResendByte),
-        0xFF => Some(HostToMouseCommand::Reset),
-        _ => None,
-    }
+    let byte = u8::try_from(byte).ok()?;
+    HostToMouseCommand::try_from(byte).ok()
 }
 
 // The sampling rate that a number stands for. Kept, no plainer: one function over `TryFrom<u8>` would have the promise of a type, where each says its table here.

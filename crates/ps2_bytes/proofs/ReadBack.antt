@@ -3,8 +3,13 @@
 use mathlib.Core.Path.{◌≡◌, refl}
 use Rattle.std.specs.Prelude.{Ok}
 use Rattle.bits.specs.Table.{decode}
+use Rattle.ps2_bytes.specs.Commands.{keyboard_byte, keyboard_read, mouse_byte, mouse_read}
 use Rattle.ps2_bytes.specs.Responses.{port_test_result_byte, port_test_read, response_byte, response_read, mouse_id_byte, mouse_id_read}
 use Rattle.ps2_bytes.specs.Data.{scancode_set_byte, scancode_set_read, sample_rate_byte, sample_rate_read, resolution_byte, resolution_read}
+use Rattle.ps2_bytes.specs.declared.command.HostToKeyboardCommand.{HostToKeyboardCommand}
+use Rattle.ps2_bytes.specs.declared.command.HostToKeyboardCommand.TheVariants as Keyboard
+use Rattle.ps2_bytes.specs.declared.command.HostToMouseCommand.{HostToMouseCommand}
+use Rattle.ps2_bytes.specs.declared.command.HostToMouseCommand.TheVariants as Mouse
 use Rattle.ps2_bytes.specs.declared.response.PortTestResult.{PortTestResult}
 use Rattle.ps2_bytes.specs.declared.response.PortTestResult.TheVariants.{Passed, ClockLineStuckLow, ClockLineStuckHigh, DataLineStuckLow, DataLineStuckHigh}
 use Rattle.ps2_bytes.specs.declared.response.DeviceToHostResponse.{DeviceToHostResponse}
@@ -17,6 +22,35 @@ use Rattle.ps2_bytes.specs.declared.data.MouseSampleRate.{MouseSampleRate}
 use Rattle.ps2_bytes.specs.declared.data.MouseSampleRate.TheVariants.{_10, _20, _40, _60, _80, _100, _200}
 use Rattle.ps2_bytes.specs.declared.data.MouseResolution.{MouseResolution}
 use Rattle.ps2_bytes.specs.declared.data.MouseResolution.TheVariants.{Count1PerMm, Count2PerMm, Count4PerMm, Count8PerMm}
+
+pub keyboard_read_back : (v : HostToKeyboardCommand) → keyboard_read (keyboard_byte v) ≡ Ok v
+unfolding decode
+keyboard_read_back Keyboard.SetLEDStatus = refl
+keyboard_read_back Keyboard.ScancodeSet = refl
+keyboard_read_back Keyboard.IdentifyKeyboard = refl
+keyboard_read_back Keyboard.SetRepeatRateAndDelay = refl
+keyboard_read_back Keyboard.EnableScanning = refl
+keyboard_read_back Keyboard.DisableScanning = refl
+keyboard_read_back Keyboard.ResendByte = refl
+keyboard_read_back Keyboard.ResetAndStartSelfTest = refl
+
+pub mouse_read_back : (v : HostToMouseCommand) → mouse_read (mouse_byte v) ≡ Ok v
+unfolding decode
+mouse_read_back Mouse.SetScaling = refl
+mouse_read_back Mouse.SetResolution = refl
+mouse_read_back Mouse.StatusRequest = refl
+mouse_read_back Mouse.SetStreamMode = refl
+mouse_read_back Mouse.ReadData = refl
+mouse_read_back Mouse.ResetWrapMode = refl
+mouse_read_back Mouse.SetWrapMode = refl
+mouse_read_back Mouse.SetRemoteMode = refl
+mouse_read_back Mouse.GetDeviceID = refl
+mouse_read_back Mouse.SampleRate = refl
+mouse_read_back Mouse.EnableDataReporting = refl
+mouse_read_back Mouse.DisableDataReporting = refl
+mouse_read_back Mouse.SetDefaults = refl
+mouse_read_back Mouse.ResendByte = refl
+mouse_read_back Mouse.Reset = refl
 
 pub port_test_read_back : (v : PortTestResult) → port_test_read (port_test_result_byte v) ≡ Ok v
 unfolding decode

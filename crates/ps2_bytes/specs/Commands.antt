@@ -1,8 +1,9 @@
--- Commands: the bytes of the OSDev wiki's tables, and which row of them each of our commands is.
+-- Commands: the bytes of the OSDev wiki's tables, which row of them each of our commands is, and which command to a device a byte stands for.
 -- Assumes nothing.
-use Rattle.std.specs.Prelude.{List, [], ◌∷◌, ℕ}
+use Rattle.std.specs.Prelude.{List, [], ◌∷◌, ℕ, Result, Ok, Err}
 use Prim.Native.String.{String}
-use Rattle.bits.specs.Table.{listed}
+use Rattle.bits.specs.Table.{rows, decode, listed}
+use Rattle.ps2_bytes.specs.declared.Unlisted.{Unlisted}
 use Rattle.ps2_bytes.specs.declared.command.HostToControllerCommand.{HostToControllerCommand}
 use Rattle.ps2_bytes.specs.declared.command.HostToControllerCommand.TheVariants.{ReadFromInternalRAMByte0, WriteToInternalRAMByte0, DisablePort2, EnablePort2, TestPort2, TestController, TestPort1, DisablePort1, EnablePort1, WriteByteToPort2InputBuffer}
 use Rattle.ps2_bytes.specs.declared.command.HostToKeyboardCommand.{HostToKeyboardCommand}
@@ -76,6 +77,15 @@ keyboard_byte DisableScanning = listed keyboard_commands "disable scanning"
 keyboard_byte ResendByte = listed keyboard_commands "resend the last byte"
 keyboard_byte ResetAndStartSelfTest = listed keyboard_commands "reset and self test"
 
+abbrev pub to_keyboard_commands : List (ℕ × HostToKeyboardCommand)
+to_keyboard_commands =
+    rows keyboard_byte
+    (SetLEDStatus ∷ ScancodeSet ∷ IdentifyKeyboard ∷ SetRepeatRateAndDelay ∷ EnableScanning ∷ DisableScanning ∷ ResendByte ∷ ResetAndStartSelfTest ∷ [])
+
+-- A byte as a command.
+abbrev pub keyboard_read : ℕ → Result HostToKeyboardCommand Unlisted
+keyboard_read b = decode Ok (Err (record { 0 = b })) to_keyboard_commands b
+
 -- ---- the mouse, "PS/2 Mouse"
 
 -- Its table of commands.
@@ -116,6 +126,16 @@ mouse_byte DisableDataReporting = listed mouse_commands "disable packets"
 mouse_byte SetDefaults = listed mouse_commands "set defaults"
 mouse_byte MouseResendByte = listed mouse_commands "resend"
 mouse_byte Reset = listed mouse_commands "reset"
+
+abbrev pub to_mouse_commands : List (ℕ × HostToMouseCommand)
+to_mouse_commands =
+    rows mouse_byte
+    (SetScaling ∷ SetResolution ∷ StatusRequest ∷ SetStreamMode ∷ ReadData ∷ ResetWrapMode ∷ SetWrapMode ∷ SetRemoteMode
+    ∷ GetDeviceID ∷ SampleRate ∷ EnableDataReporting ∷ DisableDataReporting ∷ SetDefaults ∷ MouseResendByte ∷ Reset ∷ [])
+
+-- A byte as a command.
+abbrev pub mouse_read : ℕ → Result HostToMouseCommand Unlisted
+mouse_read b = decode Ok (Err (record { 0 = b })) to_mouse_commands b
 
 -- ---- what is not sent
 

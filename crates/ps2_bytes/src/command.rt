@@ -1,6 +1,12 @@
 // Commands: to the controller, to the keyboard and to the mouse. Each is one byte.
+#![tactic(auto, unfolding(bits::specs::Table::decode))]
+
 ghost use Rattle.std.specs.Prelude.{◌≡◌};
-ghost use Rattle.ps2_bytes.specs.Commands.{controller_byte, keyboard_byte, mouse_byte};
+ghost use Rattle.ps2_bytes.specs.Commands.{controller_byte, keyboard_byte, keyboard_read, mouse_byte, mouse_read};
+
+use crate::Unlisted;
+
+// A device's command has its own `match`, as the types of data.rt have.
 
 // Commands to the controller itself, written to port 64. "Output" is what a device sends to the host, "input" what it gets.
 #[derive(Clone, Copy, PartialEq, Eq)]
@@ -51,6 +57,26 @@ pub enum HostToKeyboardCommand {
     ResetAndStartSelfTest = 0xFF,
 }
 
+impl TryFrom<u8> for HostToKeyboardCommand {
+    type Error = Unlisted;
+
+    ghost try_from_gives = { λ byte read. read ≡ keyboard_read byte };
+
+    fn try_from(byte: u8) -> Result<Self, Unlisted> {
+        match byte {
+            0xED => Ok(HostToKeyboardCommand::SetLEDStatus),
+            0xF0 => Ok(HostToKeyboardCommand::ScancodeSet),
+            0xF2 => Ok(HostToKeyboardCommand::IdentifyKeyboard),
+            0xF3 => Ok(HostToKeyboardCommand::SetRepeatRateAndDelay),
+            0xF4 => Ok(HostToKeyboardCommand::EnableScanning),
+            0xF5 => Ok(HostToKeyboardCommand::DisableScanning),
+            0xFE => Ok(HostToKeyboardCommand::ResendByte),
+            0xFF => Ok(HostToKeyboardCommand::ResetAndStartSelfTest),
+            _ => Err(Unlisted(byte)),
+        }
+    }
+}
+
 impl From<HostToKeyboardCommand> for u8 {
     ghost from_gives = { λ to_keyboard byte. byte ≡ keyboard_byte to_keyboard };
 
@@ -80,6 +106,33 @@ pub enum HostToMouseCommand {
     SetDefaults = 0xF6,
     ResendByte = 0xFE,
     Reset = 0xFF,
+}
+
+impl TryFrom<u8> for HostToMouseCommand {
+    type Error = Unlisted;
+
+    ghost try_from_gives = { λ byte read. read ≡ mouse_read byte };
+
+    fn try_from(byte: u8) -> Result<Self, Unlisted> {
+        match byte {
+            0xE6 => Ok(HostToMouseCommand::SetScaling),
+            0xE8 => Ok(HostToMouseCommand::SetResolution),
+            0xE9 => Ok(HostToMouseCommand::StatusRequest),
+            0xEA => Ok(HostToMouseCommand::SetStreamMode),
+            0xEB => Ok(HostToMouseCommand::ReadData),
+            0xEC => Ok(HostToMouseCommand::ResetWrapMode),
+            0xEE => Ok(HostToMouseCommand::SetWrapMode),
+            0xF0 => Ok(HostToMouseCommand::SetRemoteMode),
+            0xF2 => Ok(HostToMouseCommand::GetDeviceID),
+            0xF3 => Ok(HostToMouseCommand::SampleRate),
+            0xF4 => Ok(HostToMouseCommand::EnableDataReporting),
+            0xF5 => Ok(HostToMouseCommand::DisableDataReporting),
+            0xF6 => Ok(HostToMouseCommand::SetDefaults),
+            0xFE => Ok(HostToMouseCommand::ResendByte),
+            0xFF => Ok(HostToMouseCommand::Reset),
+            _ => Err(Unlisted(byte)),
+        }
+    }
 }
 
 impl From<HostToMouseCommand> for u8 {

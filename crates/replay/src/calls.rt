@@ -131,54 +131,21 @@ fn leds_of(number: u8) -> Option<LEDState> {
     (number < 8).then_some(leds)
 }
 
-fn keyboard_command(byte: u8) -> Option<HostToKeyboardCommand> {
-    Some(match byte {
-        0xED => HostToKeyboardCommand::SetLEDStatus,
-        0xF0 => HostToKeyboardCommand::ScancodeSet,
-        0xF2 => HostToKeyboardCommand::IdentifyKeyboard,
-        0xF3 => HostToKeyboardCommand::SetRepeatRateAndDelay,
-        0xF4 => HostToKeyboardCommand::EnableScanning,
-        0xF5 => HostToKeyboardCommand::DisableScanning,
-        0xFE => HostToKeyboardCommand::ResendByte,
-        0xFF => HostToKeyboardCommand::ResetAndStartSelfTest,
-        _ => return None,
-    })
-}
-
 // What an argument tells to send to the keyboard: for 8 a command, for 10 and 11 lamps, else a scancode set.
 fn keyboard_value(op: u8, argument: u8) -> Option<HostToKeyboardCommandOrData> {
     Some(match op {
-        8 => HostToKeyboardCommandOrData::KeyboardCommand(keyboard_command(argument)?),
+        8 => HostToKeyboardCommandOrData::KeyboardCommand(HostToKeyboardCommand::try_from(
+            argument,
+        ).ok()?),
         10 | 11 => HostToKeyboardCommandOrData::LEDState(leds_of(argument)?),
         _ => HostToKeyboardCommandOrData::ScancodeSet(ScancodeSet::try_from(argument).ok()?),
-    })
-}
-
-fn mouse_command(byte: u8) -> Option<HostToMouseCommand> {
-    Some(match byte {
-        0xE6 => HostToMouseCommand::SetScaling,
-        0xE8 => HostToMouseCommand::SetResolution,
-        0xE9 => HostToMouseCommand::StatusRequest,
-        0xEA => HostToMouseCommand::SetStreamMode,
-        0xEB => HostToMouseCommand::ReadData,
-        0xEC => HostToMouseCommand::ResetWrapMode,
-        0xEE => HostToMouseCommand::SetWrapMode,
-        0xF0 => HostToMouseCommand::SetRemoteMode,
-        0xF2 => HostToMouseCommand::GetDeviceID,
-        0xF3 => HostToMouseCommand::SampleRate,
-        0xF4 => HostToMouseCommand::EnableDataReporting,
-        0xF5 => HostToMouseCommand::DisableDataReporting,
-        0xF6 => HostToMouseCommand::SetDefaults,
-        0xFE => HostToMouseCommand::ResendByte,
-        0xFF => HostToMouseCommand::Reset,
-        _ => return None,
     })
 }
 
 // What an argument tells to send to the mouse: for 12 a command, for 13 and 15 a rate, else a resolution.
 fn mouse_value(op: u8, argument: u8) -> Option<HostToMouseCommandOrData> {
     Some(match op {
-        12 => HostToMouseCommandOrData::MouseCommand(mouse_command(argument)?),
+        12 => HostToMouseCommandOrData::MouseCommand(HostToMouseCommand::try_from(argument).ok()?),
         13 | 15 => HostToMouseCommandOrData::SampleRate(MouseSampleRate::try_from(argument).ok()?),
         _ => HostToMouseCommandOrData::MouseResolution(MouseResolution::try_from(argument).ok()?),
     })
