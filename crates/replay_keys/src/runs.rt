@@ -131,7 +131,12 @@ impl Run {
         let done = handle(self.handler, side, script, log);
         let outcome = Outcome {
             left: u8::from(done.lamps_failed),
-            ..ending(number_of(done.answer), done.used, done.pairs, u64::from(done.dropped))
+            ..ending(
+                number_of(done.answer),
+                done.used,
+                done.pairs,
+                u64::from(done.dropped),
+            )
         };
         self.handler = done.handler;
         if matches!(
