@@ -313,8 +313,10 @@ impl Keycode {
         ensures { result ≡ character_of self modifiers }
     {
         let at = column(modifiers.is_shift(), modifiers.is_caps_lock());
-        let row = table.get(usize::from(u8::from(self)))?;
-        of_entry(row[at])
+        match table.get(usize::from(u8::from(self))) {
+            Some(row) => of_entry(row[at]),
+            None => None,
+        }
     }
 
     // Whether this is a letter from A to Z.
