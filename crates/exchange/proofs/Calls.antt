@@ -57,18 +57,6 @@ module _ {A B : Type 0} {whole : Exchange A} {s l : List ℕ} {rest : Exchange A
 pub part_used_le : {A : Type 0} {t : Exchange A} (s : List ℕ) (u : ℕ) {e : End A} {u₂ w₂ : ℕ} → u ≤ length s → Reads t (part u s) e u₂ w₂ → u + u₂ ≤ length s
 part_used_le {t = t} s u h r = left_used_le t s u [] h (r.with_any [])
 
--- the same of two calls, one after the other
-module _ {A B : Type 0} (t : Exchange A) (n : Exchange B) (s l : List ℕ) {e : End A} {u w : ℕ} {l' : List ℕ} (r : played e u w l' ≡ play t s l) where
-  module _ {e₂ : End B} {k u₂ w₂ : ℕ} {m : List ℕ} (h : k ≡ 2 * w) (r₂ : played e₂ u₂ w₂ m ≡ play n (part u s) (part k l')) where
-    pub two_used_le : u + u₂ ≤ length s
-    two_used_le = left_used_le n s u (part k l') (call_used_le t s l r) r₂
-
-    pub two_pairs_le : 2 * (w + w₂) ≤ length l
-    two_pairs_le = rw (call_log_length t s l r) at (left_pairs_le n (part u s) l' w (call_tail_le t s l r) h r₂)
-
-  pub two_used_le_reads : {e₂ : End B} {u₂ w₂ : ℕ} → Reads n (part u s) e₂ u₂ w₂ → u + u₂ ≤ length s
-  two_used_le_reads r₂ = part_used_le s u (call_used_le t s l r) r₂
-
 -- its contract without the form of the parts, and the log with its part given back
 on_what_is_left : {A : Type 0} (t : Exchange A) (s : List ℕ) (u : ℕ) (l : List ℕ) (w : ℕ) {e : End A} {k u₂ w₂ : ℕ} {m : List ℕ} → k ≡ 2 * w
     → played e u₂ w₂ m ≡ play t (part u s) (part k l) → played e u₂ w₂ m ≡ play t (drop u s) (drop (2 * w) l)
@@ -113,11 +101,6 @@ module _ {A : Type 0} {whole : Exchange A} {s l : List ℕ} {u w : ℕ} {l' : Li
     reached_lacks_reads q =
         rw (add-zero w, take-append-drop) at (reached_ends at (bind_lacks t g (drop u s) (drop (2 * w) l') ((reads_left t s u r).with_any (drop (2 * w) l')) q))
 
--- one that only writes, before which nothing was written, leaves the script as it is
-pub reached_last_writes : {A : Type 0} {whole : Exchange A} {s l : List ℕ} {u : ℕ} {l' : List ℕ} (t : Exchange A) → Reached whole s l t u 0 l'
-    → {e : End A} {u₂ w₂ : ℕ} {m : List ℕ} → Writes t l' e u₂ w₂ m → played e u w₂ m ≡ play whole s l
-reached_last_writes {s = s} {u = u} t at {w₂ = w₂} r = rw (zero-add w₂, add-zero u) at (reached_ends at (r.with_any (drop u s)))
-
 -- ---- two callees, one after the other
 
 module _ {A B : Type 0} (t : Exchange A) (g : A → Exchange B) (s l : List ℕ) {e : End A} {u w : ℕ} {l' : List ℕ} (r : played e u w l' ≡ play t s l) where
@@ -130,10 +113,6 @@ module _ {A B : Type 0} (t : Exchange A) (g : A → Exchange B) (s l : List ℕ)
       → played e₂ (u + u₂) w l' ≡ play (bind t g) s l
   bind_yields_reads {a} q = reached_last_reads (g a) (bind_reached t g s l r q)
 
-  pub bind_yields_writes : {a : A} → e ≡ yields a → {e₂ : End B} {k u₂ w₂ : ℕ} {m : List ℕ} → k ≡ 2 * w → Writes (g a) (part k l') e₂ u₂ w₂ m
-      → played e₂ u (w + w₂) (restored k l' m) ≡ play (bind t g) s l
-  bind_yields_writes q h x = rw (add-zero u) at (bind_yields q h (x.with_any (part u s)))
-
   -- nothing is left to read or write
   pub bind_done : {a : A} {b : B} → e ≡ yields a → g a ≡ done b → played (yields b) u w l' ≡ play (bind t g) s l
   bind_done q d = reached_done (rw d at (bind_reached t g s l r q))
@@ -143,19 +122,11 @@ module _ {A B : Type 0} (t : Exchange A) (g : A → Exchange B) (s : List ℕ) {
   pub reads_reached : {a : A} (l : List ℕ) → e ≡ yields a → Reached (bind t g) s l (g a) u 0 l
   reads_reached l q = bind_reached t g s l (r.with_any l) q
 
-  pub reads_then : {a : A} (l : List ℕ) → e ≡ yields a → {e₂ : End B} {u₂ w₂ : ℕ} {m : List ℕ} → played e₂ u₂ w₂ m ≡ play (g a) (part u s) l
-      → played e₂ (u + u₂) w₂ m ≡ play (bind t g) s l
-  reads_then {a} l q {w₂ = w₂} x = rw (zero-add w₂) at (reached_ends (reads_reached l q) (rw (part_drop u s) at x))
-
   pub reads_then_lacks : {x : Lack} (l : List ℕ) → e ≡ lacks x → played (lacks x) u 0 l ≡ play (bind t g) s l
   reads_then_lacks l q = bind_lacks t g s l (r.with_any l) q
 
   pub reads_then_done : {a : A} {b : B} (l : List ℕ) → e ≡ yields a → g a ≡ done b → played (yields b) u 0 l ≡ play (bind t g) s l
   reads_then_done l q d = bind_done t g s l (r.with_any l) q d
-
-  -- both only read
-  pub reads_yields : {a : A} → e ≡ yields a → {e₂ : End B} {u₂ w₂ : ℕ} → Reads (g a) (part u s) e₂ u₂ w₂ → Reads (bind t g) s e₂ (u + u₂) 0
-  reads_yields q x = record { with_any = λ l. bind_yields_reads t g s l (r.with_any l) q x; no_pairs = refl }
 
   pub reads_lacks : {x : Lack} → e ≡ lacks x → Reads (bind t g) s (lacks x) u 0
   reads_lacks q = record { with_any = λ l. reads_then_lacks l q; no_pairs = refl }
@@ -167,10 +138,6 @@ module _ {A B : Type 0} (t : Exchange A) (g : A → Exchange B) (s : List ℕ) {
 module _ {A B : Type 0} (t : Exchange A) (g : A → Exchange B) (l : List ℕ) {e : End A} {u w : ℕ} {l' : List ℕ} (r : Writes t l e u w l') where
   pub writes_reached : {a : A} (s : List ℕ) → e ≡ yields a → Reached (bind t g) s l (g a) 0 w l'
   writes_reached s q = bind_reached t g s l (r.with_any s) q
-
-  pub writes_then_reads : {a : A} (s : List ℕ) → e ≡ yields a → {e₂ : End B} {u₂ w₂ : ℕ} → Reads (g a) s e₂ u₂ w₂ → played e₂ u₂ w l' ≡ play (bind t g) s l
-  writes_then_reads s q {u₂ = u₂} x =
-      rw (zero-add u₂, add-zero w, take-append-drop) at (reached_ends (writes_reached s q) (x.with_any (drop (2 * w) l')))
 
   pub writes_then : {a : A} (s : List ℕ) → e ≡ yields a → {e₂ : End B} {k u₂ w₂ : ℕ} {m : List ℕ} → k ≡ 2 * w → played e₂ u₂ w₂ m ≡ play (g a) s (part k l')
       → played e₂ u₂ (w + w₂) (restored k l' m) ≡ play (bind t g) s l

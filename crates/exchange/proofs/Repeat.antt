@@ -9,7 +9,7 @@ use Rattle.exchange.specs.Parts.{part, restored}
 use Rattle.exchange.specs.Position.{Reached}
 use Rattle.exchange.specs.Repeat.{Turn, found, again, turned, found_end, repeat}
 use Rattle.exchange.proofs.Position.{reached_done}
-use Rattle.exchange.proofs.Calls.{bind_done, bind_lacks, reached_last, reached_call, reached_lacks, reached_call_reads, reached_lacks_reads}
+use Rattle.exchange.proofs.Calls.{bind_done, bind_lacks, reached_call, reached_lacks, reached_call_reads, reached_lacks_reads}
 
 -- the next of the turns that are left, and none left; n may count down, or be what a count up leaves
 pub repeat_step : {A : Type 0} (n m : ℕ) (d : A) (t : Exchange (Turn A)) → n ≡ suc m → repeat n d t ≡ bind t (λ r. turned r (repeat m d t))
@@ -44,12 +44,6 @@ module _ {A : Type 0} {whole : Exchange A} {s l : List ℕ} {u w : ℕ} {l' : Li
 
   -- a callee that makes one turn on what is left
   module _ {e : End (Turn A)} {k u₂ w₂ : ℕ} {x : List ℕ} (h : k ≡ 2 * w) (r : played e u₂ w₂ x ≡ play t (part u s) (part k l')) where
-    -- the turn ends the whole, with what it found or for lack of a byte or room
-    pub turn_ended : (y : End A) → 0 < n → e ≡ found_end y → played y (u + u₂) (w + w₂) (restored k l' x) ≡ play whole s l
-    turn_ended y c q =
-        reached_last (bind t (λ z. turned z (repeat (n - 1) d t))) (reached_turn (n - 1) (less_one n c)) h
-        (bind_ended t (repeat (n - 1) d t) (part u s) (part k l') y (rw q at r))
-
     pub reached_again : (m : ℕ) → n ≡ suc m → e ≡ yields again → Reached whole s l (repeat m d t) (u + u₂) (w + w₂) (restored k l' x)
     reached_again m c q = reached_call t (λ y. turned y (repeat m d t)) (reached_turn m c) h r q
 

@@ -132,13 +132,3 @@ module _ (side : Side) (ws s l : List ℕ) (x : Effect) {state : HandlerState} (
           → {ws' : List ℕ} → (ws' ≡ with_event ((state.start + state.count) % 128) x.state (said_event x.event) us) × (reread (said_event x.event) ≡ said_event x.event)
           → SideHandled side ws s l (record { refusal = refusal; lamps = lamps; used = x.used; pairs = x.pairs; dropped = x.dropped; port = port }) ws' l'
       written t q u v = moved_on side ws s l (said_effect x) effect_is a b c h t q u (rw is at v)
-
--- ---- by the side that a number stands for
-
-module _ {ws : List ℕ} {n : ℕ} {s l : List ℕ} {answer : HandledWords} {ws' l' : List ℕ} where
-  pub at_number : (side : Side) → n ≡ side_number side → AtSide (some side) ws s l answer ws' l' → WordsHandled ws n s l answer ws' l'
-  at_number Side.First e a = record { is = rw e a }
-  at_number Side.Second e a = record { is = rw e a }
-
-  pub at_nothing : n ≢ side_number Side.First → n ≢ side_number Side.Second → AtSide none ws s l answer ws' l' → WordsHandled ws n s l answer ws' l'
-  at_nothing e f a = record { is = rw (ne_eqb n (side_number Side.First) e, ne_eqb n (side_number Side.Second) f) a }

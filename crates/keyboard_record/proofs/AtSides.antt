@@ -25,10 +25,6 @@ pub with_keyboard_same : (side : Side) (s : HandlerState) → with_keyboard side
 with_keyboard_same Side.First s = refl
 with_keyboard_same Side.Second s = refl
 
-pub with_keyboard_twice : (side : Side) (j k : KeyboardState) (s : HandlerState) → with_keyboard side k (with_keyboard side j s) ≡ with_keyboard side k s
-with_keyboard_twice Side.First j k s = refl
-with_keyboard_twice Side.Second j k s = refl
-
 -- ---- what the table is laid with, and the queue
 
 pub table_with : (side : Side) (k : KeyboardState) (s : HandlerState) → (with_keyboard side k s).table ≡ s.table
@@ -42,10 +38,6 @@ start_with Side.Second k s = refl
 pub count_with : (side : Side) (k : KeyboardState) (s : HandlerState) → (with_keyboard side k s).count ≡ s.count
 count_with Side.First k s = refl
 count_with Side.Second k s = refl
-
-pub sides_with : (side : Side) (k : KeyboardState) (s : HandlerState) → waiting_sides (with_keyboard side k s) ≡ waiting_sides s
-sides_with Side.First k s = refl
-sides_with Side.Second k s = refl
 
 pub place_with : (side t : Side) (key : Keycode) (k : KeyboardState) (s : HandlerState) → place t key (with_keyboard side k s) ≡ place t key s
 place_with Side.First t key k s = refl

@@ -165,14 +165,3 @@ given_keyboard_at side t s (refuses n) = refl
 
 pub keyboard_at-joined : (side t : Side) (key : Keycode) (s : HandlerState) → keyboard_at t (joined side key s) ≡ keyboard_at t s
 keyboard_at-joined side t key s = given_keyboard_at side t s (place side key s)
-
--- an event joins whatever is remembered of a keyboard
-given_with : (side t : Side) (k : KeyboardState) (s : HandlerState) (a : Answer Success)
-    → if_given a (one_more t (with_keyboard side k s)) (with_keyboard side k s) ≡ with_keyboard side k (if_given a (one_more t s) s)
-given_with side t k s (gives x) = one_more_with side t k s
-given_with side t k s (refuses n) = refl
-
-pub joined_with : (side t : Side) (key : Keycode) (k : KeyboardState) (s : HandlerState) → joined t key (with_keyboard side k s) ≡ with_keyboard side k (joined t key s)
-joined_with side t key k s =
-    ap (λ (a : Answer Success). if_given a (one_more t (with_keyboard side k s)) (with_keyboard side k s)) (place_with side t key k s)
-    ∙ given_with side t k s (place t key s)

@@ -16,12 +16,6 @@ unfolding bytes_from
 length_bytes ps k zero = refl
 length_bytes ps k (suc n) = ap suc (length_bytes ps (suc k) n)
 
--- one place more is one byte more at the end
-pub bytes_suc : (ps : List ℕ) (k n : ℕ) → bytes_from ps k (suc n) ≡ bytes_from ps k n ++ (get_or ps (k + n) 0 ∷ [])
-unfolding bytes_from
-bytes_suc ps k zero = rw (add-zero k)
-bytes_suc ps k (suc n) = rw (add-suc k n, ← suc-add k n) (ap (λ (l : List ℕ). get_or ps k 0 ∷ l) (bytes_suc ps (suc k) n))
-
 -- the first n bytes of a list that has them
 bytes_behind : (x : ℕ) (ps : List ℕ) (k n : ℕ) → bytes_from (x ∷ ps) (suc k) n ≡ bytes_from ps k n
 unfolding bytes_from

@@ -166,9 +166,6 @@ first_left s n = omega (arith, both_sides (sides_of s n), sides_length s n)
 
 -- ---- what the code does with two words
 
-pub ones_word_le : (n x : ℕ) → x < 2 ^ 64 → ones (x % 2 ^ n) ≤ 64
-ones_word_le n x h = ones-le 64 (x % 2 ^ n) (lt_of_le_of_lt (mod-le x (2 ^ n)) h)
-
 -- as many bits as a word has are the whole word
 pub whole_word : (n x : ℕ) → 64 ≤ n → x < 2 ^ 64 → x % 2 ^ n ≡ x
 whole_word n x h l = mod-eq_of_lt (lt_of_lt_of_le l (pow_mono h))

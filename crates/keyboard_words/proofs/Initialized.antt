@@ -32,14 +32,3 @@ module _ {ws : List ℕ} {k p n : ℕ} {ws' : List ℕ} (f : WordsFresh ws k p n
                 other = λ o. (q ∙ ap refusing ((some_table table e).1 o).0, ((some_table table e).1 o).1, refl);
               };
         }
-
-    pub init_done : {log' : List ℕ} → n ≡ 0 → Tells (told no_value) keyboard_init script log answer log' → KeyboardInitialized ws k p script log answer ws' log'
-    init_done z t =
-        record {
-          nothing = λ e. absurd (omega (arith, (no_table e).0));
-          at =
-              λ table e. record {
-                long = λ l. record { tells = t; writes = ((some_table table e).0 l).1; stands = ((some_table table e).0 l).2 };
-                other = λ o. absurd (omega (arith, ((some_table table e).1 o).0));
-              };
-        }

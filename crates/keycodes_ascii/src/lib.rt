@@ -308,6 +308,7 @@ impl Keycode {
     }
 
     // The character of this key in a table that agrees with the rule. The release codes have no row, and no character.
+    // Kept a `match`, no plainer: by `?` it proves, but its wrong program is then refused by no fact, which a rule of the project asks.
     fn character_in(self, table: [[u8; 4]; KEYCODES], modifiers: KeyboardModifiers) -> Option<u8>
         requires { Agrees table }
         ensures { result ≡ character_of self modifiers }

@@ -38,9 +38,9 @@ const SCRIPT_SPACE: usize = 1200000;
 pub struct Instruction {
     pub op: u8,
     pub argument: u8,
-    pub state: u16,
-    pub room: u16,
-    pub times: u32,
+    pub state: usize,
+    pub room: usize,
+    pub times: usize,
 }
 
 // Kept as numbers, a rule of the project: they are the four of an answer in tests/traces' format. A number is any refusal's, of every operation.
@@ -116,9 +116,9 @@ fn unpack(head: &[u8]) -> Instruction
     Instruction {
         op,
         argument,
-        state: u16::from_le_bytes([s0, s1]),
-        room: u16::from_le_bytes([r0, r1]),
-        times: u32::from_le_bytes([t0, t1, t2, t3]),
+        state: usize::from(u16::from_le_bytes([s0, s1])),
+        room: usize::from(u16::from_le_bytes([r0, r1])),
+        times: u32::from_le_bytes([t0, t1, t2, t3]) as usize,
     }
 }
 
@@ -150,11 +150,16 @@ fn read_instruction<R: Read>(input: &mut R) -> Result<Instruction>
 
 // Reads a part's bytes behind those that the script has, as many as it has space for, and tells how many it has then. What it has no space for stays in the input.
 // Kept a `requires`, no plainer: it is private, and a part begins within the script.
-fn read_behind<R: Read>(input: &mut R, script: &mut [u8], from: usize, count: u16) -> Result<usize>
+fn read_behind<R: Read>(
+    input: &mut R,
+    script: &mut [u8],
+    from: usize,
+    count: usize,
+) -> Result<usize>
     requires { from ≤ length script.old }
     ensures { IfOk result (λ end. ReadBehind (min count (length script.old - from)) from (R.remaining input.old) (R.remaining input.new) script.old end script.new) }
 {
-    let room = usize::from(count).min(script.len() - from);
+    let room = count.min(script.len() - from);
     let got = read_full(input, &mut script[from..from + room])?;
     Ok(from + got)
 }
@@ -162,13 +167,13 @@ fn read_behind<R: Read>(input: &mut R, script: &mut [u8], from: usize, count: u1
 // Fills so many bytes behind a part that ends the script, as far as there is space, and tells how many it has then: the part over and over; behind an empty
 // one what its places held before.
 // Kept a `requires`, no plainer: it is private, and a part ends behind where it begins.
-fn repeat(script: &mut [u8], part: usize, end: usize, times: u32) -> usize
+fn repeat(script: &mut [u8], part: usize, end: usize, times: usize) -> usize
     requires { (part ≤ end) × (end ≤ length script.old) }
     ensures end { result ≡ min (length script.old) (end + times) }
     ensures bytes { script.new ≡ repeated (result - end) part end script.old }
 {
     let back = end - part;
-    let full = end.saturating_add(times as usize).min(script.len());
+    let full = end.saturating_add(times).min(script.len());
     for to in end..full {
         script[to] = script[to - back];
     }
@@ -295,7 +300,7 @@ fn logged(pairs: usize, length: usize) -> usize
 }
 
 /// Writes the answer to an operation, its outcome and what was logged, where there is one.
-pub fn write_answer<W: Write>(out: &mut W, op: u8, o: Outcome, log: &[u8]) -> Result<()>
+pub fn put_answer<W: Write>(out: &mut W, op: u8, o: Outcome, log: &[u8]) -> Result<()>
     ensures { OnOk result (Appends (W.contents out.old) (W.contents out.new) (answer_bytes op o log.now)) }
 {
     if o.number == SILENT {

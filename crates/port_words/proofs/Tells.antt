@@ -23,9 +23,6 @@ module _ {A R : Type 0} {tell : End A → ℕ → ℕ → R} {t : Exchange A} {s
   pub tells_played : {w : ℕ} {log l : List ℕ} → played e u w l ≡ play t script log → answer ≡ tell e u w → Tells tell t script log answer l
   tells_played p q = record { answered = q ∙ ap (λ (o : Played A). tell o.end o.used o.pairs) p; logged = ap (λ (o : Played A). o.log) p }
 
-  pub tells_read : {w : ℕ} → Reads t script e u w → answer ≡ tell e u w → TellsReading tell t script answer
-  tells_read r q = record { with_any = λ log. tells_played (r.with_any log) (q ∙ ap (tell e u) r.no_pairs); no_pairs = λ log. ap (λ (o : Played A). o.pairs) (sym (r.with_any log)) }
-
 -- ---- with the bytes that were thrown away
 
 kept_numbers_lem : {A : Type 0} (e : End (Answer A)) {u w : ℕ} {k : KeptBytes} → k ≡ kept_at e k → kept_numbers e u w k ≡ told_kept (kept_end e k) u w

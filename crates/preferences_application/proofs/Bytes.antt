@@ -63,6 +63,3 @@ module _ (four : Fields) (again : ℕ) (q : within_values (Version2 four again) 
   -- a record of version 2 is within the values only where its four fields are, and the fifth
   pub first_four : within_values (Version1 four) ≡ true
   first_four = ((and-eq-true_iff (within_values (Version1 four)) (is_repeat_byte again)).0 (within_fifth four again ∙ q)).0
-
-  pub fifth_within : again ≤ 127
-  fifth_within = leb-true again 127 ((and-eq-true_iff (within_values (Version1 four)) (is_repeat_byte again)).0 (within_fifth four again ∙ q)).1

@@ -99,9 +99,6 @@ module _ (ns : List ℕ) (i : ℕ) {before out : List ℕ} {at : ℕ} (p : Putti
       subst (λ (l : List ℕ). Putting l (drop (i + 1) ns) before next end) (sym (take_next ns i h))
       (putting_on (subst (λ (l : List ℕ). Putting (take i ns) l before out at) (drop_next ns i h) p) q)
 
-  pub all_put : length ns ≤ i → out ≡ codings ns ++ drop (length (codings ns)) before
-  all_put h = subst (λ (l : List ℕ). out ≡ codings l ++ drop (length (codings l)) before) (take_all i ns h) p.puts.output
-
 -- ---- with room and without
 
 module _ (out bytes : List ℕ) where

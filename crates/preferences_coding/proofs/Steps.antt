@@ -40,12 +40,6 @@ record Known (question : ℕ → Bool) (a : Answer Number) (v : ℕ) : Type 0 wh
   pub accepted : question v ≡ true
 
 module _ {input : List ℕ} {at : ℕ} {question : ℕ → Bool} where
-  pub takes_malformed : read_number (drop at input) ≡ refuses 27 → Takes input at question (Err ReadRefusal.Malformed)
-  takes_malformed e = record { says = λ next. rw e }
-
-  pub takes_number : {v n : ℕ} → read_number (drop at input) ≡ gives (taking v n) → question v ≡ true → Takes input at question (Ok (v, at + n))
-  takes_number {v} {n} e q = record { says = λ next. rw (e, q, drop-drop n at input) }
-
   -- then the other numbers
   pub then_others : {v end : ℕ} → Takes input at question (Ok (v, end)) → (questions : List (ℕ → Bool)) → numbers_read (question ∷ questions) (drop at input) ≡ behind v (numbers_read questions (drop end input))
   unfolding numbers_read
@@ -211,13 +205,6 @@ module _ (input : List ℕ) (end : ℕ) where
   bytes_follow h = rw (drop-cons input end 0 (leb-false (length input) end h))
 
 module _ {input : List ℕ} (fifth : ℕ → Bool) where
-  pub head_ends : {x : ReadRefusal} → Heads input (Err x) → record_read fifth input ≡ refuses (refusal_number x)
-  head_ends h = h.says fifth
-
-  module _ {v : Version} {at : ℕ} (h : Heads input (Ok (v, at))) where
-    pub four_ends : {x : ReadRefusal} → Fours input at (Err x) → record_read fifth input ≡ refuses (refusal_number x)
-    four_ends f = h.says fifth ∙ ap (behind_all (version_number v ∷ field_count (version_number v) ∷ [])) (f.says (cond (eqb (version_number v) 1) [] (fifth ∷ [])))
-
   module _ {at : ℕ} {four : Fields} {end : ℕ} (f : Fours input at (Ok (four, end))) where
     module _ (h : Heads input (Ok (Version.One, at))) where
       behind_1 : record_read fifth input ≡ behind_all (1 ∷ 4 ∷ four_fields four) (numbers_read [] (drop end input))

@@ -16,8 +16,5 @@ use Rattle.preferences_words.specs.Record.{preferences_at}
 use Rattle.preferences_words.specs.Writing.{told_written, WordsWritten}
 
 module _ {w : PreferencesWords} {out : List ℕ} where
-  pub written_known : {p : Preferences} {x : Answer Success} {n k : ℕ} {out' : List ℕ} → preferences_at w ≡ some p → outcome x n out' ≡ leaves out (written (length out) p) → k ≡ number_answered x → WordsWritten w out (record { refusal = k; written = n }) out'
-  written_known stands e number = record { answered = rw (stands, number) (ap told_written e); output = rw stands (ap (λ (o : Outcome). o.output) e) }
-
   pub written_nothing : preferences_at w ≡ none → WordsWritten w out (record { refusal = means_nothing; written = 0 }) out
   written_nothing stands = record { answered = rw stands; output = rw stands }

@@ -36,7 +36,7 @@ pub fn completed(answer: Answer<()>) -> Outcome {
 
 // Kept functions, here and below, no plainer: a program writes no `From` or `TryFrom` for the types of other crates.
 // A controller's record by its bits: initialised, keyboard, mouse.
-fn controller_of(state: u16) -> PS2Controller {
+fn controller_of(state: usize) -> PS2Controller {
     PS2Controller {
         initialized: state & 1 != 0,
         keyboard_attached: state & 2 != 0,
@@ -134,9 +134,10 @@ fn leds_of(number: u8) -> Option<LEDState> {
 // What an argument tells to send to the keyboard: for 8 a command, for 10 and 11 lamps, else a scancode set.
 fn keyboard_value(op: u8, argument: u8) -> Option<HostToKeyboardCommandOrData> {
     Some(match op {
-        8 => HostToKeyboardCommandOrData::KeyboardCommand(HostToKeyboardCommand::try_from(
-            argument,
-        ).ok()?),
+        8 => {
+            let command = HostToKeyboardCommand::try_from(argument).ok()?;
+            HostToKeyboardCommandOrData::KeyboardCommand(command)
+        }
         10 | 11 => HostToKeyboardCommandOrData::LEDState(leds_of(argument)?),
         _ => HostToKeyboardCommandOrData::ScancodeSet(ScancodeSet::try_from(argument).ok()?),
     })
@@ -190,10 +191,12 @@ fn setting(op: u8, argument: u8, script: &[u8], log: &mut [u8]) -> Option<Answer
 }
 
 // The operations that ask for a value, and those on the controller's configuration and record, which are the state, 19 to 25.
-fn ask(op: u8, state: u16, script: &[u8], log: &mut [u8]) -> Outcome {
-    let [config, _] = state.to_le_bytes();
+fn ask(op: u8, state: usize, script: &[u8], log: &mut [u8]) -> Outcome {
     match op {
-        19 => completed(write_config(log, ControllerConfigurationByte::from(config))),
+        19 => {
+            let config = (state % 256) as u8;
+            completed(write_config(log, ControllerConfigurationByte::from(config)))
+        }
         20 => config_read(read_config(script, log)),
         21 => received(polling_receive(script)),
         22 => set_read(get_keyboard_scancode_set(script, log)),

@@ -1,6 +1,6 @@
 // A call that hands back the bytes that it threw away, by numbers.
 use crate::calls::{command, completed, received};
-use packed_calls::{Instruction, NO_CALL, Outcome, ending, write_answer};
+use packed_calls::{Instruction, NO_CALL, Outcome, ending, put_answer};
 use ps2_kept::KeptBytes;
 use ps2_polling::polling_receive;
 use std::io::{Result, Write};
@@ -16,7 +16,7 @@ const RECEIVE: u8 = 21;
 fn write_kept<W: Write>(out: &mut W, kept: KeptBytes) -> Result<()> {
     let count = usize::from(kept.count);
     let others = kept.others as usize;
-    write_answer(
+    put_answer(
         out,
         KEEPING,
         ending(0, others, count.div_ceil(2), u64::from(kept.count)),
@@ -26,24 +26,24 @@ fn write_kept<W: Write>(out: &mut W, kept: KeptBytes) -> Result<()> {
 
 // A call with the bytes that it handed back.
 fn answer_kept<W: Write>(outcome: Outcome, kept: KeptBytes, log: &[u8], out: &mut W) -> Result<()> {
-    write_answer(out, KEEPING, outcome, log)?;
+    put_answer(out, KEEPING, outcome, log)?;
     write_kept(out, kept)
 }
 
 // The call that an instruction tells, and what it handed back.
-pub fn answer_keeping<W: Write>(
+pub fn put_keeping<W: Write>(
     i: Instruction,
     script: &[u8],
     log: &mut [u8],
     out: &mut W,
 ) -> Result<()> {
-    let [op, _] = i.state.to_le_bytes();
+    let op = (i.state % 256) as u8;
     if op == RECEIVE {
         let c = polling_receive(script);
         return answer_kept(received(c), c.kept, log, out);
     }
     match command(op, i.argument, script, log) {
         Some(c) => answer_kept(completed(c.answer), c.kept, log, out),
-        None => write_answer(out, KEEPING, ending(NO_CALL, 0, 0, 0), log),
+        None => put_answer(out, KEEPING, ending(NO_CALL, 0, 0, 0), log),
     }
 }

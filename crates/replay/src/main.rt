@@ -5,8 +5,8 @@ mod calls;
 mod keeping;
 
 use calls::call_times;
-use keeping::{KEEPING, answer_keeping};
-use packed_calls::{Instruction, Session, replay, where_held, write_answer};
+use keeping::{KEEPING, put_keeping};
+use packed_calls::{Instruction, Session, put_answer, replay, where_held};
 use std::io::{Result, Write};
 
 // Room for the longest log, in tests/traces' format. Kept an array, no plainer: it is as long as this at once, and a `Vec` would have to be made and may fail.
@@ -20,13 +20,13 @@ struct Ports {
 
 impl Session for Ports {
     fn answer<W: Write>(&mut self, i: Instruction, script: &[u8], out: &mut W) -> Result<()> {
-        let i = where_held(i, script, usize::from(i.room), &self.log);
-        let room = usize::from(i.room).min(LOG_SPACE);
+        let i = where_held(i, script, i.room, &self.log);
+        let room = i.room.min(LOG_SPACE);
         let log = &mut self.log[..room];
         if i.op == KEEPING {
-            return answer_keeping(i, script, log, out);
+            return put_keeping(i, script, log, out);
         }
-        write_answer(out, i.op, call_times(i, script, log), log)
+        put_answer(out, i.op, call_times(i, script, log), log)
     }
 }
 

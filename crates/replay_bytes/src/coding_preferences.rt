@@ -1,6 +1,6 @@
 // Preferences written and read, by numbers.
 use crate::converting::FILLER;
-use packed_calls::{Instruction, NO_CALL, Outcome, ending, number_at, write_answer, write_whole};
+use packed_calls::{Instruction, NO_CALL, Outcome, ending, number_at, put_answer, write_whole};
 use preferences::{Fields, Preferences};
 use preferences_coding::{ReadRefusal, read_preferences_1, read_preferences_2, write_preferences};
 use std::io::{self, Write};
@@ -45,7 +45,7 @@ fn write_once(version: u8, bytes: &[u8], output: &mut [u8]) -> Outcome {
 }
 
 // The writing as often as is told: more than once is for measuring.
-fn write_times(version: u8, bytes: &[u8], output: &mut [u8], times: u32) -> Outcome {
+fn write_times(version: u8, bytes: &[u8], output: &mut [u8], times: usize) -> Outcome {
     let mut outcome = write_once(version, bytes, output);
     for _ in 1..times {
         outcome = write_once(version, behind(outcome.number, bytes), output);
@@ -54,7 +54,7 @@ fn write_times(version: u8, bytes: &[u8], output: &mut [u8], times: u32) -> Outc
 }
 
 // Answers the writing that an instruction tells, into all of the output.
-pub fn answer_writing<W: Write>(
+pub fn put_writing<W: Write>(
     i: Instruction,
     bytes: &[u8],
     output: &mut [u8],
@@ -74,7 +74,7 @@ fn number_of<T>(read: &Result<T, ReadRefusal>) -> u8 {
 }
 
 // The reading by each reader, as often as is told. Kept two, no plainer: over a reader that is passed in, each call would want a `requires` that it may be made.
-fn read_times_1(input: &[u8], times: u32) -> Result<Fields, ReadRefusal> {
+fn read_times_1(input: &[u8], times: usize) -> Result<Fields, ReadRefusal> {
     let mut read = read_preferences_1(input);
     for _ in 1..times {
         read = read_preferences_1(behind(number_of(&read), input));
@@ -82,7 +82,7 @@ fn read_times_1(input: &[u8], times: u32) -> Result<Fields, ReadRefusal> {
     read
 }
 
-fn read_times_2(input: &[u8], times: u32) -> Result<Preferences, ReadRefusal> {
+fn read_times_2(input: &[u8], times: usize) -> Result<Preferences, ReadRefusal> {
     let mut read = read_preferences_2(input);
     for _ in 1..times {
         read = read_preferences_2(behind(number_of(&read), input));
@@ -113,14 +113,14 @@ fn put_record(output: &mut [u8], preferences: Preferences) -> usize {
 }
 
 // Answers the reading that an instruction tells, by the reader that it names, where its output has room for the fields.
-pub fn answer_reading<W: Write>(
+pub fn put_reading<W: Write>(
     i: Instruction,
     input: &[u8],
     output: &mut [u8],
     out: &mut W,
 ) -> io::Result<()> {
     if output.len() < FIVE_FIELDS {
-        return write_answer(out, i.op, ending(NO_CALL, 0, 0, 0), output);
+        return put_answer(out, i.op, ending(NO_CALL, 0, 0, 0), output);
     }
     output.fill(FILLER);
     let read = if i.argument == 1 {

@@ -17,7 +17,7 @@ fn converted(c: Conversion, room: usize) -> Outcome {
 
 // The conversion as often as is told: more than once is for measuring.
 // Kept a loop of its own in each call that is measured, no plainer: one over a closure would want a `requires` that it may be called.
-fn convert_times(stream: &[u8], output: &mut [u8], times: u32) -> Outcome {
+fn convert_times(stream: &[u8], output: &mut [u8], times: usize) -> Outcome {
     let mut outcome = converted(convert(stream, output), output.len());
     for _ in 1..times {
         outcome = converted(convert(stream, output), output.len());
@@ -26,7 +26,7 @@ fn convert_times(stream: &[u8], output: &mut [u8], times: u32) -> Outcome {
 }
 
 // Makes the conversion that an instruction tells into all of the output, and answers it.
-pub fn answer_conversion<W: Write>(
+pub fn put_conversion<W: Write>(
     i: Instruction,
     stream: &[u8],
     output: &mut [u8],

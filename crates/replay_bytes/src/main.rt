@@ -6,12 +6,12 @@ mod converting;
 mod salvaging;
 mod type_texts;
 
-use coding_preferences::{READ_PREFERENCES, WRITE_PREFERENCES, answer_reading, answer_writing};
-use converting::{CONVERT_SET2, answer_conversion};
-use packed_calls::{Instruction, NO_CALL, Session, ending, replay, where_held, write_answer};
-use salvaging::{SALVAGE, answer_salvage};
+use coding_preferences::{READ_PREFERENCES, WRITE_PREFERENCES, put_reading, put_writing};
+use converting::{CONVERT_SET2, put_conversion};
+use packed_calls::{Instruction, NO_CALL, Session, ending, put_answer, replay, where_held};
+use salvaging::{SALVAGE, put_salvage};
 use std::io::{Result, Write};
-use type_texts::{TYPE_TEXT, answer_typing};
+use type_texts::{TYPE_TEXT, put_typing};
 
 // Room for the longest output, in tests/traces' format. Kept an array, no plainer: it is as long as this at once, and a `Vec` would have to be made and may fail.
 const OUTPUT_SPACE: usize = 65536;
@@ -24,19 +24,19 @@ struct LentBytes {
 
 impl Session for LentBytes {
     fn answer<W: Write>(&mut self, i: Instruction, input: &[u8], out: &mut W) -> Result<()> {
-        let i = where_held(i, input, usize::from(i.room), &self.output);
+        let i = where_held(i, input, i.room, &self.output);
         if i.op == SALVAGE {
-            return answer_salvage(i, input, &mut self.output, out);
+            return put_salvage(i, input, &mut self.output, out);
         }
-        let room = usize::from(i.room).min(OUTPUT_SPACE);
+        let room = i.room.min(OUTPUT_SPACE);
         let output = &mut self.output[..room];
         // Kept as numbers, a rule of the project: they are tests/traces' format.
         match i.op {
-            CONVERT_SET2 => answer_conversion(i, input, output, out),
-            TYPE_TEXT => answer_typing(i, input, output, out),
-            WRITE_PREFERENCES => answer_writing(i, input, output, out),
-            READ_PREFERENCES => answer_reading(i, input, output, out),
-            _ => write_answer(out, i.op, ending(NO_CALL, 0, 0, 0), output),
+            CONVERT_SET2 => put_conversion(i, input, output, out),
+            TYPE_TEXT => put_typing(i, input, output, out),
+            WRITE_PREFERENCES => put_writing(i, input, output, out),
+            READ_PREFERENCES => put_reading(i, input, output, out),
+            _ => put_answer(out, i.op, ending(NO_CALL, 0, 0, 0), output),
         }
     }
 }

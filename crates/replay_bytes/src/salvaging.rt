@@ -1,6 +1,6 @@
 // A pass over a mouse's recording, by numbers.
 use crate::converting::FILLER;
-use packed_calls::{Instruction, NO_CALL, Outcome, ending, write_answer};
+use packed_calls::{Instruction, NO_CALL, Outcome, ending, put_answer};
 use ps2_bytes::MouseId;
 use ps2_salvage::{Salvaged, salvage};
 use std::io::{Result, Write};
@@ -44,7 +44,7 @@ fn write_positions<W: Write>(
     out: &mut W,
 ) -> Result<()> {
     for &position in positions.iter().take(count) {
-        write_answer(out, SALVAGE, ending(0, 0, 0, position), output)?;
+        put_answer(out, SALVAGE, ending(0, 0, 0, position), output)?;
     }
     Ok(())
 }
@@ -60,23 +60,23 @@ fn answer_pass<W: Write>(
 ) -> Result<()> {
     let mut positions = [POSITION_FILLER; PLACES];
     output.fill(FILLER);
-    let room = usize::from(i.room).min(output.len());
-    let places = usize::from(i.state).min(PLACES);
+    let room = i.room.min(output.len());
+    let places = i.state.min(PLACES);
     let s = salvage(id, bytes, &mut output[..room], &mut positions[..places]);
     let is_changed = is_changed(s, output, &positions);
-    write_answer(out, SALVAGE, outcome(s, is_changed), output)?;
+    put_answer(out, SALVAGE, outcome(s, is_changed), output)?;
     write_positions(&positions, s.dropped, output, out)
 }
 
 // Answers the call that an instruction tells.
-pub fn answer_salvage<W: Write>(
+pub fn put_salvage<W: Write>(
     i: Instruction,
     bytes: &[u8],
     output: &mut [u8],
     out: &mut W,
 ) -> Result<()> {
     match MouseId::try_from(i.argument) {
-        Ok(id) if usize::from(i.state) <= PLACES => answer_pass(id, i, bytes, output, out),
-        _ => write_answer(out, SALVAGE, ending(NO_CALL, 0, 0, 0), output),
+        Ok(id) if i.state <= PLACES => answer_pass(id, i, bytes, output, out),
+        _ => put_answer(out, SALVAGE, ending(NO_CALL, 0, 0, 0), output),
     }
 }

@@ -16,7 +16,7 @@ fn typed(typing: Result<usize, TypingRefusal>, room: usize) -> Outcome {
 }
 
 // The typing as often as is told: more than once is for measuring.
-fn type_times(text: &[u8], output: &mut [u8], times: u32) -> Outcome {
+fn type_times(text: &[u8], output: &mut [u8], times: usize) -> Outcome {
     let mut outcome = typed(type_text(text, output), output.len());
     for _ in 1..times {
         outcome = typed(type_text(text, output), output.len());
@@ -25,7 +25,7 @@ fn type_times(text: &[u8], output: &mut [u8], times: u32) -> Outcome {
 }
 
 // Types what an instruction tells into all of the output, and answers it.
-pub fn answer_typing<W: Write>(
+pub fn put_typing<W: Write>(
     i: Instruction,
     text: &[u8],
     output: &mut [u8],

@@ -59,7 +59,7 @@ fn last_number(last: Option<Source>) -> u8 {
     }
 }
 
-fn id_of(number: u16) -> MouseId {
+fn id_of(number: usize) -> MouseId {
     match number {
         0 => MouseId::Zero,
         3 => MouseId::Three,
@@ -181,11 +181,11 @@ impl Dispatching {
             }
             54 => {
                 let places = self.state.places;
-                self.state.places = places.with_place(source_of(i.argument), i.times as usize);
+                self.state.places = places.with_place(source_of(i.argument), i.times);
                 silent()
             }
             55 => {
-                self.part(i.argument, i.times as usize);
+                self.part(i.argument, i.times);
                 silent()
             }
             56 => self.step(script, log),

@@ -4,7 +4,7 @@
 mod dispatching;
 
 use dispatching::Dispatching;
-use packed_calls::{Instruction, Session, replay, where_held, write_answer};
+use packed_calls::{Instruction, Session, put_answer, replay, where_held};
 use std::io::{Result, Write};
 use std::ops::ControlFlow;
 
@@ -22,7 +22,7 @@ impl Session for Steps {
     // An instruction's turns are made as often as it says, as long as they go on.
     fn answer<W: Write>(&mut self, i: Instruction, script: &[u8], out: &mut W) -> Result<()> {
         if i.op == 30 {
-            self.room = usize::from(i.room);
+            self.room = i.room;
         }
         let mut space = [0; LOG_SPACE];
         let i = where_held(i, script, self.room, &space);
@@ -30,8 +30,8 @@ impl Session for Steps {
         // Kept a loop in both programs that make turns, no plainer: one for both would be public, over a trait, and would have to promise what each turn writes.
         for _ in 0..i.times.max(1) {
             match self.dispatching.turn(i, script, log) {
-                ControlFlow::Continue(outcome) => write_answer(out, i.op, outcome, log)?,
-                ControlFlow::Break(outcome) => return write_answer(out, i.op, outcome, log),
+                ControlFlow::Continue(outcome) => put_answer(out, i.op, outcome, log)?,
+                ControlFlow::Break(outcome) => return put_answer(out, i.op, outcome, log),
             }
         }
         Ok(())

@@ -7,8 +7,8 @@ use keyboard_sides::Side;
 use keycodes_ascii::{KeyAction, KeyEvent, Keycode};
 use packed_calls::{Instruction, NO_CALL, Outcome, ending};
 use replay_records::{
-    Turn, keycode_of, record_after, record_end, record_number, record_told, side_of, silent,
-    table_of, taken_outcome, told,
+    Turn, flags_of, keycode_of, record_after, record_end, record_number, record_told, side_of,
+    silent, table_of, taken_outcome, told,
 };
 use std::ops::ControlFlow;
 
@@ -89,7 +89,7 @@ fn character_number(keycode: Keycode, modifiers: KeyboardModifiers) -> u64 {
 
 // The character, asked for so many times, for measuring. Keycode and flags are read from a row of events, and each character is held to
 // the first, so that the compiler takes no call out of the loop.
-fn ascii_times(keycode: Keycode, modifiers: KeyboardModifiers, times: u32) -> u64 {
+fn ascii_times(keycode: Keycode, modifiers: KeyboardModifiers, times: usize) -> u64 {
     let events = [KeyEvent {
         keycode,
         action: KeyAction::Pressed,
@@ -97,7 +97,7 @@ fn ascii_times(keycode: Keycode, modifiers: KeyboardModifiers, times: u32) -> u6
     }; 64];
     let first = character_number(keycode, modifiers);
     for i in 1..times {
-        let again = events[(i % 64) as usize];
+        let again = events[i % 64];
         if character_number(again.keycode, again.modifiers) != first {
             return 256;
         }
@@ -108,10 +108,7 @@ fn ascii_times(keycode: Keycode, modifiers: KeyboardModifiers, times: u32) -> u6
 // The character of a keycode under flags.
 fn call_to_ascii(i: Instruction) -> Outcome {
     match keycode_of(i.argument) {
-        Some(keycode) => {
-            let modifiers = KeyboardModifiers { bits: i.state };
-            ending(0, 0, 0, ascii_times(keycode, modifiers, i.times))
-        }
+        Some(keycode) => { ending(0, 0, 0, ascii_times(keycode, flags_of(i.state), i.times)) }
         None => ending(NO_CALL, 0, 0, 0),
     }
 }
@@ -157,7 +154,7 @@ impl Run {
 
     // A side's handler call, 33; 34 is made only where the script is not used up or a byte waits, and ends the run where neither is so.
     fn handle(&mut self, i: Instruction, script: &[u8], log: &mut [u8]) -> Turn {
-        let side = side_of(u16::from(i.argument));
+        let side = side_of(usize::from(i.argument));
         let Some(at) = self.at else {
             return silent();
         };
@@ -215,7 +212,7 @@ impl Run {
             35 | 36 => self.take(i.op),
             37 | 42 => told(record_told(i, self.handler)),
             52 => {
-                self.at = Some(Reading::from_split(Some(i.times as usize)));
+                self.at = Some(Reading::from_split(Some(i.times)));
                 silent()
             }
             _ => ControlFlow::Break(ending(NO_CALL, 0, 0, 0)),

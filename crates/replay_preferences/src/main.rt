@@ -4,7 +4,7 @@
 mod applying;
 
 use applying::{APPLYING, answer_applying};
-use packed_calls::{Instruction, NO_CALL, Session, ending, replay, where_held, write_answer};
+use packed_calls::{Instruction, NO_CALL, Session, ending, put_answer, replay, where_held};
 use std::io::{Result, Write};
 
 // Room for the longest log, in tests/traces' format. Kept an array, no plainer: it is as long as this at once, and a `Vec` would have to be made and may fail.
@@ -18,15 +18,15 @@ struct Applications {
 
 impl Session for Applications {
     fn answer<W: Write>(&mut self, i: Instruction, script: &[u8], out: &mut W) -> Result<()> {
-        let i = where_held(i, script, usize::from(i.room), &self.log);
-        let room = usize::from(i.room).min(LOG_SPACE);
+        let i = where_held(i, script, i.room, &self.log);
+        let room = i.room.min(LOG_SPACE);
         let log = &mut self.log[..room];
         // Kept as a number, a rule of the project: it is tests/traces' format.
         let outcome = match i.op {
             APPLYING => answer_applying(i, script, log),
             _ => None,
         };
-        write_answer(out, i.op, outcome.unwrap_or(ending(NO_CALL, 0, 0, 0)), log)
+        put_answer(out, i.op, outcome.unwrap_or(ending(NO_CALL, 0, 0, 0)), log)
     }
 }
 

@@ -1,12 +1,13 @@
 -- A handler's record after instructions that tell something of it: the table of operations of tests/traces/README.md.
 -- Assumes nothing.
-use Rattle.std.specs.Prelude.{ℕ, ◌+◌, ◌/◌, ◌%◌, cond, eqb, leb, set, Some, None, ◌&&◌, Bool, true, false}
+use Rattle.std.specs.Prelude.{ℕ, ◌+◌, ◌/◌, ◌%◌, cond, eqb, leb, set, Some, None, Bool, true, false}
 use Rattle.std.specs.declared.option.Option.{Option}
 use Rattle.std.specs.Prelude.{Option}
 use Rattle.keycodes_ascii.specs.declared.Keycode.{Keycode}
 use Rattle.keycodes_ascii.specs.Keycode.{keycode_of}
 use Rattle.keycodes_ascii.specs.declared.KeyAction.{KeyAction}
 use Rattle.keycodes_ascii.specs.declared.KeyEvent.{KeyEvent}
+use Rattle.keyboard_modifiers.specs.declared.KeyboardModifiers.{KeyboardModifiers}
 use Rattle.keyboard_sides.specs.declared.Side.{Side}
 use Rattle.keyboard_sides.specs.Sides.{with_side}
 use Rattle.keyboard_scancodes.specs.declared.KeyboardState.{KeyboardState}
@@ -26,17 +27,21 @@ side_of n = cond (eqb n 0) Side.First Side.Second
 abbrev pub table_of : ℕ → Table
 table_of n = record { keyboards = cond (eqb (n % 2) 0) Keyboards.One Keyboards.Two; profile = cond (eqb (n / 2) 0) Profile.Any Profile.Tournament }
 
+-- The flags of a number: its low 16 bits.
+abbrev pub flags_of : ℕ → KeyboardModifiers
+flags_of n = record { bits = n % 65536 }
+
 -- The record with another memory of a side's keyboard.
 abbrev pub with_memory : Side → KeyboardState → KeyboardHandler → KeyboardHandler
 with_memory side k h = record { state = with_keyboard side k h.state; places = h.places }
 
 -- A side's prefix and flags are told: 1 is the prefix.
-abbrev pub with_flags : Side → ℕ → ℕ → KeyboardHandler → KeyboardHandler
+abbrev pub with_flags : Side → ℕ → KeyboardModifiers → KeyboardHandler → KeyboardHandler
 with_flags side prefix flags h =
-    with_memory side (record { waiting = (keyboard_at side h.state).waiting; prefix = eqb prefix 1; modifiers = record { bits = flags } }) h
+    with_memory side (record { waiting = (keyboard_at side h.state).waiting; prefix = eqb prefix 1; modifiers = flags }) h
 
 -- A record begins: by the argument side 1's prefix and the table, by the state side 1's flags; the queue is empty.
-abbrev pub begun : ℕ → ℕ → KeyboardHandler
+abbrev pub begun : ℕ → KeyboardModifiers → KeyboardHandler
 begun argument flags = with_flags Side.First (argument % 2) flags (fresh (table_of (argument / 2)))
 
 -- These bytes of a side wait.
@@ -89,16 +94,16 @@ abbrev pub action_of : ℕ → KeyAction
 action_of n = cond (eqb n 0) KeyAction.Pressed KeyAction.Released
 
 abbrev pub event_of : Instruction → KeyEvent
-event_of i = record { keycode = or_first (keycode_of i.argument); action = action_of (i.room % 2); modifiers = record { bits = i.state } }
+event_of i = record { keycode = or_first (keycode_of i.argument); action = action_of (i.room % 2); modifiers = flags_of i.state }
 
 -- The record after an instruction, by its operation. Any other leaves it.
 abbrev pub record_after : Instruction → KeyboardHandler → KeyboardHandler
 record_after i h =
-    cond (eqb i.op 30) (begun i.argument i.state)
+    cond (eqb i.op 30) (begun i.argument (flags_of i.state))
     (cond (eqb i.op 31) (with_event (side_of (i.room / 2)) (event_of i) h)
     (cond (eqb i.op 32) (with_byte (side_of i.state) i.argument h)
     (cond (eqb i.op 43) (with_count (side_of i.state) i.argument h)
-    (cond (eqb i.op 50) (with_flags Side.Second i.argument i.state h)
+    (cond (eqb i.op 50) (with_flags Side.Second i.argument (flags_of i.state) h)
     (cond (eqb i.op 51) (cond (eqb i.argument 0) (with_start i.state h) (with_events i.state h)) h)))))
 
 -- 254, nothing to answer; 255, no call, where 31 asks for a keycode that there is not.

@@ -6,7 +6,7 @@ ghost use Rattle.std.specs.ControlFlow.{IsBreakAnd};
 ghost use Rattle.bits.specs.Bits.{weigh};
 ghost use Rattle.packed_calls.specs.Replaying.{ending};
 ghost use Rattle.keycodes_ascii.specs.Keycode.{keycode_of};
-ghost use Rattle.replay_records.specs.After.{side_of, table_of, begun, with_flags, with_waiting, one_more, with_byte, with_count, with_event, with_start, with_events, action_of, event_of, record_after, record_end};
+ghost use Rattle.replay_records.specs.After.{side_of, table_of, flags_of, begun, with_flags, with_waiting, one_more, with_byte, with_count, with_event, with_start, with_events, action_of, event_of, record_after, record_end};
 ghost use Rattle.replay_records.specs.Packets.{movement, packet_number};
 ghost use Rattle.replay_records.specs.Told.{event_number, keyboard_number, record_number, start_told, taken_outcome, waiting_byte, waiting_number, record_told, side_number, action_number, keyboards_number, profile_number};
 
@@ -38,7 +38,7 @@ pub fn told(number: u64) -> Turn
 
 // Kept, no plainer, here and below: these numbers are of tests/traces' format, and each `match` is its table; a `TryFrom` would refuse what they let through.
 /// The side of a number: 0 is the first.
-pub fn side_of(number: u16) -> Side
+pub fn side_of(number: usize) -> Side
     ensures { result ≡ side_of number }
 {
     match number {
@@ -64,13 +64,27 @@ pub fn table_of(number: u8) -> Table
     Table { keyboards, profile }
 }
 
+/// The flags of a number: its low 16 bits.
+pub fn flags_of(number: usize) -> KeyboardModifiers
+    ensures { result ≡ flags_of number }
+{
+    KeyboardModifiers {
+        bits: (number % 65536) as u16,
+    }
+}
+
 // The record with a side's prefix, which 1 stands for, and flags.
-fn with_flags(handler: KeyboardHandler, side: Side, prefix: u8, flags: u16) -> KeyboardHandler
+fn with_flags(
+    handler: KeyboardHandler,
+    side: Side,
+    prefix: u8,
+    flags: KeyboardModifiers,
+) -> KeyboardHandler
     ensures { result ≡ with_flags side prefix flags handler }
 {
     let keyboard = KeyboardState {
         prefix: prefix == 1,
-        modifiers: KeyboardModifiers { bits: flags },
+        modifiers: flags,
         ..handler.state.keyboard_at(side)
     };
     KeyboardHandler {
@@ -80,7 +94,7 @@ fn with_flags(handler: KeyboardHandler, side: Side, prefix: u8, flags: u16) -> K
 }
 
 // A record for a table with the first side's prefix and flags, no byte that waits and an empty queue.
-fn begun(argument: u8, flags: u16) -> KeyboardHandler
+fn begun(argument: u8, flags: KeyboardModifiers) -> KeyboardHandler
     ensures { result ≡ begun argument flags }
 {
     let fresh = KeyboardHandler::fresh(table_of(argument / 2));
@@ -155,12 +169,12 @@ fn with_event(handler: KeyboardHandler, side: Side, event: KeyEvent) -> Keyboard
 }
 
 // The record whose queue is said to start at a place.
-fn with_start(handler: KeyboardHandler, start: u16) -> KeyboardHandler
+fn with_start(handler: KeyboardHandler, start: usize) -> KeyboardHandler
     ensures { result ≡ with_start start handler }
 {
     KeyboardHandler {
         state: HandlerState {
-            start: usize::from(start),
+            start,
             ..handler.state
         },
         ..handler
@@ -168,12 +182,12 @@ fn with_start(handler: KeyboardHandler, start: u16) -> KeyboardHandler
 }
 
 // The record whose queue is said to have so many events, whatever its places hold. Kept beside the one above, no plainer: each sets a field of its own.
-fn with_events(handler: KeyboardHandler, count: u16) -> KeyboardHandler
+fn with_events(handler: KeyboardHandler, count: usize) -> KeyboardHandler
     ensures { result ≡ with_events count handler }
 {
     KeyboardHandler {
         state: HandlerState {
-            count: usize::from(count),
+            count,
             ..handler.state
         },
         ..handler
@@ -187,7 +201,7 @@ pub fn keycode_of(byte: u8) -> Option<Keycode>
     Keycode::try_from(byte).ok()
 }
 
-fn action_of(number: u16) -> KeyAction
+fn action_of(number: usize) -> KeyAction
     ensures { result ≡ action_of number }
 {
     match number {
@@ -203,7 +217,7 @@ fn event_of(i: Instruction) -> KeyEvent
     KeyEvent {
         keycode: keycode_of(i.argument).unwrap_or(Keycode::OverflowError),
         action: action_of(i.room % 2),
-        modifiers: KeyboardModifiers { bits: i.state },
+        modifiers: flags_of(i.state),
     }
 }
 
@@ -214,11 +228,11 @@ pub fn record_after(i: Instruction, handler: KeyboardHandler) -> KeyboardHandler
 {
     // Kept as numbers, a rule of the project: they are tests/traces' format, whose table names each.
     match i.op {
-        30 => begun(i.argument, i.state),
+        30 => begun(i.argument, flags_of(i.state)),
         31 => with_event(handler, side_of(i.room / 2), event_of(i)),
         32 => with_byte(handler, side_of(i.state), i.argument),
         43 => with_count(handler, side_of(i.state), i.argument),
-        50 => with_flags(handler, Side::Second, i.argument, i.state),
+        50 => with_flags(handler, Side::Second, i.argument, flags_of(i.state)),
         51 if i.argument == 0 => with_start(handler, i.state),
         51 => with_events(handler, i.state),
         _ => handler,

@@ -5,8 +5,8 @@ mod numbers;
 
 use keyboard_modifiers::KeyboardModifiers;
 use keycodes_ascii::{KeyAction, KeyEvent, Keycode};
-use numbers::{narrow, tell, told};
-use packed_calls::{Instruction, NO_CALL, Session, ending, replay, write_answer};
+use numbers::{narrow, put_numbers, told};
+use packed_calls::{Instruction, NO_CALL, Session, ending, put_answer, replay};
 use ps2_bytes::MouseId;
 use report::{Report, Season, answer_number};
 use report_long::LongReport;
@@ -69,7 +69,7 @@ impl Reports {
     // The number that the report of a width answers to a session, which it has afterwards where it takes it.
     fn add(&mut self, i: Instruction, input: &[u8]) -> Option<u8> {
         let id = MouseId::try_from(i.argument).ok()?;
-        let count = usize::from(i.state).min(input.len() / 2).min(EVENTS);
+        let count = i.state.min(input.len() / 2).min(EVENTS);
         take_codes(input, &mut self.codes[..count]);
         let mouse = &input[2 * count..];
         let codes = &self.codes[..count];
@@ -97,21 +97,21 @@ impl Session for Reports {
             }
             NARROW_ADD | LONG_ADD => {
                 let number = self.add(i, input).unwrap_or(NO_CALL);
-                write_answer(out, i.op, ending(number, 0, 0, 0), &[])
+                put_answer(out, i.op, ending(number, 0, 0, 0), &[])
             }
             NARROW_ASKED => {
                 let r = self.narrow;
-                tell(out, i.op, r.numbers(), r.mean_x(), r.mean_y())
+                put_numbers(out, i.op, r.numbers(), r.mean_x(), r.mean_y())
             }
             LONG_ASKED => {
                 let r = self.long;
-                tell(out, i.op, r.totals, r.mean_x(), r.mean_y())
+                put_numbers(out, i.op, r.totals, r.mean_x(), r.mean_y())
             }
             WIDEN => {
                 self.long = LongReport::widen(self.narrow);
                 Ok(())
             }
-            _ => write_answer(out, i.op, ending(NO_CALL, 0, 0, 0), &[]),
+            _ => put_answer(out, i.op, ending(NO_CALL, 0, 0, 0), &[]),
         }
     }
 }

@@ -1,5 +1,5 @@
 // The numbers of a report as bytes, low byte first, and as answers.
-use packed_calls::{Outcome, ending, write_answer};
+use packed_calls::{Outcome, ending, put_answer};
 use report::{Report, WholeMean};
 use report_totals::Totals;
 use std::io::{Result, Write};
@@ -90,15 +90,15 @@ fn told_signed(number: i64) -> Outcome {
 fn tell_mean<W: Write>(out: &mut W, op: u8, mean: Option<WholeMean>) -> Result<()> {
     match mean {
         Some(whole) => {
-            write_answer(out, op, told_signed(whole.quotient), &[])?;
-            write_answer(out, op, told_number(whole.remainder), &[])
+            put_answer(out, op, told_signed(whole.quotient), &[])?;
+            put_answer(out, op, told_number(whole.remainder), &[])
         }
-        None => write_answer(out, op, ending(2, 0, 0, 0), &[]),
+        None => put_answer(out, op, ending(2, 0, 0, 0), &[]),
     }
 }
 
 // Tells a report: its numbers, presses, packets, x and y, then both means.
-pub fn tell<W: Write>(
+pub fn put_numbers<W: Write>(
     out: &mut W,
     op: u8,
     totals: Totals,
@@ -106,11 +106,11 @@ pub fn tell<W: Write>(
     mean_y: Option<WholeMean>,
 ) -> Result<()> {
     for press in &totals.presses {
-        write_answer(out, op, told_number(*press), &[])?;
+        put_answer(out, op, told_number(*press), &[])?;
     }
-    write_answer(out, op, told_number(totals.packets), &[])?;
-    write_answer(out, op, told_signed(totals.x), &[])?;
-    write_answer(out, op, told_signed(totals.y), &[])?;
+    put_answer(out, op, told_number(totals.packets), &[])?;
+    put_answer(out, op, told_signed(totals.x), &[])?;
+    put_answer(out, op, told_signed(totals.y), &[])?;
     tell_mean(out, op, mean_x)?;
     tell_mean(out, op, mean_y)
 }

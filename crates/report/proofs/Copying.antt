@@ -16,9 +16,6 @@ pub record Copying (counts : List ℕ) (i : ℕ) (all : List ℕ) : Type 0 where
   pub long : length all ≡ key_count
   pub at : (k : ℕ) → k < i → get_or all k 0 ≡ get_or counts k 0
 
-pub copying_begins : (counts : List ℕ) → Copying counts 0 (replicate 94 0)
-copying_begins counts = record { within = omega arith; long = length-replicate {A = ℕ} 94 0; at = λ k h. absurd (not-suc-le-zero h) }
-
 module _ {counts : List ℕ} {i : ℕ} {all : List ℕ} (c : Copying counts i all) where
   pub copying_goes : (n : ℕ) → i < key_count → n ≡ get_or counts i 0 → Copying counts (i + 1) (set all i n)
   copying_goes n h e = record { within = omega arith; long = simp length-set c.long; at = λ k l. entry k l (ℕ_discrete k i) }

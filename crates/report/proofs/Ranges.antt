@@ -74,27 +74,7 @@ pub record Adding (most : ℕ) (old more : List ℕ) (i : ℕ) (counts : List �
   pub at : (k : ℕ) → k < i → get_or counts k 0 ≡ get_or old k 0 + get_or more k 0
   pub fit : (k : ℕ) → k < i → get_or old k 0 + get_or more k 0 ≤ most
 
-pub adding_begins : (most : ℕ) (old more : List ℕ) → Adding most old more 0 (replicate 94 0)
-adding_begins most old more =
-    record {
-      within = omega arith;
-      long = length-replicate {A = ℕ} 94 0;
-      at = λ k h. absurd (not-suc-le-zero h);
-      fit = λ k h. absurd (not-suc-le-zero h);
-    }
-
 module _ {most : ℕ} {old more : List ℕ} {i : ℕ} {counts : List ℕ} (a : Adding most old more i counts) where
-  pub adding_goes : (n : ℕ) → i < key_count → count_within most (get_or old i 0 + get_or more i 0) ≡ Ok n → Adding most old more (i + 1) (set counts i n)
-  adding_goes n h e =
-      record {
-        within = omega arith;
-        long = simp length-set a.long;
-        at = λ k l. entry k l (ℕ_discrete k i);
-        fit = λ k l. fits k l (ℕ_discrete k i);
-      }
-    where
-      w : (leb (get_or old i 0 + get_or more i 0) most ≡ true) × (n ≡ get_or old i 0 + get_or more i 0)
-      w = cond_ok (leb (get_or old i 0 + get_or more i 0) most) _ e
 
       entry : (k : ℕ) → k < i + 1 → Dec (k ≡ i) → get_or (set counts i n) k 0 ≡ get_or old k 0 + get_or more k 0
       entry k l (yes p) = rw p (get_or-set_same counts i n 0 (rw a.long h) ∙ w.1)

@@ -35,11 +35,6 @@ pub record Pos (z : ℤ) : Type 0 where
   pub is : z ≡ pos s
   pub low : s < half
 
-pub inverted_back : (k : ℕ) → k < half → to_z w64 (most - k) ≡ negsuc k
-inverted_back k h =
-    let e : most - k ≡ 18446744073709551616 - suc k = omega arith in
-    rw e (to_z-neg w64 k h)
-
 -- ---- ranges
 -- a number that 64 bits don't hold is in no range that they hold
 pub not_between : (low high z : ℤ) → mag low < half → mag high < half → half ≤ mag z → between low high z ≡ false

@@ -30,6 +30,3 @@ module _ (s : Session) where
       let n = too_long_many s.id s.mouse (ltb-false _ _ (by_length_not (ltb (length s.mouse) tally_bytes) (totals_of s) e)) in
       let p : leb (old.packets + length (packets_of s.id s.mouse)) l.count ≡ false = lt-leb (old.packets + length (packets_of s.id s.mouse)) l.count (omega arith) in
       rw (p, and-false (at_most l.count (plus old (totals_of s)).presses))
-
-  pub not_too_long : {t : Totals} → tallied s ≡ Some t → t ≡ totals_of s
-  not_too_long e = by_length (ltb (length s.mouse) tally_bytes) (totals_of s) e

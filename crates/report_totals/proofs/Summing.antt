@@ -50,9 +50,6 @@ pub record Sum (f : MousePacketGeneric → ℤ) (id : MouseId) (bytes : List ℕ
   pub so_far : s +ℤ sum_of f (packets_of id (drop at bytes)) ≡ sum_of f (packets_of id bytes)
   pub small : mag s ≤ 256 * at
 
-sum_begins : (f : MousePacketGeneric → ℤ) (id : MouseId) (bytes : List ℕ) → Sum f id bytes 0 (pos 0)
-sum_begins f id bytes = record { so_far = +ℤ_idl _; small = omega arith }
-
 module _ {f : MousePacketGeneric → ℤ} {id : MouseId} {bytes : List ℕ} {at : ℕ} {s : ℤ} (u : Sum f id bytes at s) where
   sum_goes : Small f → ((i : ℕ) → get_or bytes i 0 < 256) → at + packet_length id ≤ length bytes
       → Sum f id bytes (at + packet_length id) (s +ℤ f (generic (get_or bytes at 0) (get_or bytes (at + 1) 0) (get_or bytes (at + 2) 0)))
@@ -86,16 +83,6 @@ pub record Summing (id : MouseId) (bytes : List ℕ) (at packets : ℕ) (x y : �
   pub x_sum : Sum x_movement id bytes at x
   pub y_sum : Sum y_movement id bytes at y
 
-pub summing_begins : (id : MouseId) (bytes : List ℕ) → Summing id bytes 0 0 (pos 0) (pos 0)
-summing_begins id bytes =
-    record {
-      within = omega arith;
-      few = omega arith;
-      counted = omega arith;
-      x_sum = sum_begins x_movement id bytes;
-      y_sum = sum_begins y_movement id bytes;
-    }
-
 module _ {id : MouseId} {bytes : List ℕ} {at packets : ℕ} {x y : ℤ} (u : Summing id bytes at packets x y) where
   pub summing_goes : ((i : ℕ) → get_or bytes i 0 < 256) → at + packet_length id ≤ length bytes
       → Summing id bytes (at + packet_length id) (packets + 1) (x +ℤ x_movement (generic (get_or bytes at 0) (get_or bytes (at + 1) 0) (get_or bytes (at + 2) 0))) (y +ℤ y_movement (generic (get_or bytes at 0) (get_or bytes (at + 1) 0) (get_or bytes (at + 2) 0)))
@@ -120,10 +107,6 @@ module _ {id : MouseId} {bytes : List ℕ} {at packets : ℕ} {x y : ℤ} (u : S
       let fx : mag x' < 9223372036854775808 = rw ex' (omega (arith, next.x_sum.small, next.within)) in
       let fy : mag y' < 9223372036854775808 = rw ey' (omega (arith, next.y_sum.small, next.within)) in
       rw (to_z-of_z {w = w64} {z = x'} (record { sfits = fx }), to_z-of_z {w = w64} {z = y'} (record { sfits = fy }), ex', ey', e) next
-
-  -- far enough from the ends of 64 bits
-  pub x_far : length bytes < tally_bytes → at + packet_length id ≤ length bytes → mag x < 9223372036854710272
-  x_far l h = omega (arith, u.x_sum.small, length_low id)
 
   pub y_far : length bytes < tally_bytes → at + packet_length id ≤ length bytes → mag y < 9223372036854710272
   y_far l h = omega (arith, u.y_sum.small, length_low id)
