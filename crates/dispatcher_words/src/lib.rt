@@ -1,9 +1,8 @@
 // A dispatcher's state lent as numbers, and changed where it lies: a step copies no place of the queue and writes only what changes.
 #![tactic(auto)]
 
-ghost use Rattle.std.specs.Prelude.{List, ◌++◌, ◌≡◌, ℕ, ◌%◌, ◌≤◌, ◌<◌, length};
-ghost use Rattle.handler_words.specs.Calls.{refusing};
-ghost use Rattle.dispatcher.specs.Sources.{scripts, unused, keyboard_waits, mouse_waits, waits_now};
+ghost use Rattle.std.specs.Prelude.{List, ◌++◌, ◌≡◌, ℕ, ◌%◌, ◌<◌};
+ghost use Rattle.dispatcher.specs.Sources.{scripts, keyboard_waits, mouse_waits, waits_now};
 ghost use Rattle.dispatcher.specs.Said.{wait_in};
 ghost use Rattle.dispatcher_words.specs.Layout.{place_at, dispatcher_length};
 ghost use Rattle.dispatcher_words.specs.Words.{identity_of, source_number, last_of, handler_in, place_in, dispatcher_of};

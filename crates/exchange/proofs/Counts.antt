@@ -8,7 +8,7 @@ use lib.ListN.{length}
 use mir.Syntax.{w64}
 use mir.Val.{Fits}
 use Rattle.exchange.specs.Exchange.{Exchange, End, played, play, Writes}
-use Rattle.exchange.proofs.Position.{call_used_le, call_pairs_le, call_tail_le, call_log_length, reads_used_le, writes_pairs_le, writes_tail_le}
+use Rattle.exchange.proofs.Position.{call_used_le, call_pairs_le, call_tail_le, reads_used_le, writes_pairs_le, writes_tail_le}
 
 -- ---- where the log's tail begins, `2 * pairs`
 

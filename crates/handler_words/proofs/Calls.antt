@@ -2,13 +2,11 @@
 -- Assumes nothing.
 use mathlib.Core.Path.{◌≡◌, refl, sym, ap, subst, ◌∙◌}
 use mathlib.Core.Bool.{true, false, ◌||◌}
-use mathlib.Core.Logic.{◌≢◌}
 use mathlib.Core.List.{List}
-use mathlib.Core.Option.{Option, none, some}
+use mathlib.Core.Option.{Option, some}
 use Prim.Native.Nat.{ℕ, ◌+◌, ◌%◌}
 use lib.Dec.{eqb}
 use lib.ListN.{length, set, length-set}
-use borrow.Author.Tests.{ne_eqb}
 use Rattle.exchange.specs.Answer.{number_answered, number_ended}
 use Rattle.keycodes_ascii.specs.declared.KeyEvent.{KeyEvent}
 use Rattle.keyboard_scancodes.specs.declared.KeyboardState.{KeyboardState}
@@ -30,8 +28,7 @@ use Rattle.port_words.specs.Told.{port_lacked}
 use Rattle.handler_words.specs.declared.HandledWords.{HandledWords}
 use Rattle.handler_words.specs.Layout.{keyboard_from, words_length}
 use Rattle.handler_words.specs.Words.{bytes_in, event_at, word_of, keyboard_in, state_of, record_of}
-use Rattle.handler_words.specs.Arguments.{side_number}
-use Rattle.handler_words.specs.Calls.{numbers_of, with_keyboard_at, with_event, words_left, SideHandled, AtSide, WordsHandled}
+use Rattle.handler_words.specs.Calls.{numbers_of, with_keyboard_at, with_event, words_left, SideHandled}
 use Rattle.handler_words.specs.Parts.{Narrow, Placed, reread}
 use Rattle.handler_words.proofs.Words.{keyboard_stored, with_queue, event_stored}
 use Rattle.handler_words.proofs.Left.{StateLeft, same, more, state_left}

@@ -1,7 +1,7 @@
 // The keyboard handler's record lent as numbers, and changed where it lies: a call reads the state's numbers and writes those that change, and of the places one at most.
 #![tactic(auto)]
 
-ghost use Rattle.std.specs.Prelude.{true, ◌||◌, ◌≡◌, ◌++◌, eqb, set, ◌+◌, ◌*◌, ◌%◌, ◌/◌, ◌<◌, ◌≤◌, ◌^◌};
+ghost use Rattle.std.specs.Prelude.{true, ◌||◌, ◌≡◌, ◌++◌, eqb, set, ◌+◌, ◌*◌, ◌%◌, ◌/◌, ◌<◌, ◌≤◌};
 ghost use Rattle.std.proofs.Math.Option.{some};
 ghost use Rattle.keyboard_scancodes.specs.declared.Profile.{Profile};
 ghost use Rattle.keyboard_scancodes.specs.Events.{is_known, event_of};

@@ -8,7 +8,7 @@ use Rattle.keyboard_sides.specs.declared.Side.{Side}
 use Rattle.keyboard_sides.specs.Sides.{same_side}
 use Rattle.keyboard_record.specs.declared.HandlerState.{HandlerState}
 use Rattle.keyboard_record.specs.declared.KeyboardHandler.{KeyboardHandler}
-use Rattle.keyboard_record.specs.Queue.{place, one_more, waiting_sides, without_oldest}
+use Rattle.keyboard_record.specs.Queue.{place, one_more, without_oldest}
 use Rattle.keyboard_record.specs.Record.{keyboard_at, with_keyboard}
 
 pub keyboard_at_with : (side : Side) (k : KeyboardState) (s : HandlerState) → keyboard_at side (with_keyboard side k s) ≡ k

@@ -4,13 +4,13 @@ use mathlib.Core.Path.{◌≡◌, refl, sym, ap, ap₂, ◌∙◌}
 use mathlib.Core.Bool.{Bool, true, false}
 use mathlib.Core.List.{List, [], ◌∷◌, ◌++◌}
 use Prim.Native.Nat.{ℕ, zero, suc, ◌+◌, ◌-◌, ◌*◌, ◌/◌, ◌%◌, ◌^◌, ◌<◌, ◌≤◌}
-use native.Mathlib.Nat.{pow-suc, div-add-mod', not-suc-le-zero, le_of_suc-le-suc, lt_of_lt_of_le, lt_of_le_of_lt, mod-le, mod-one, add-zero, zero-add, suc-add, mul-one, mul_assoc, mod-eq_of_lt, mul-add-mod_self_right, add_comm}
+use native.Mathlib.Nat.{pow-suc, div-add-mod', not-suc-le-zero, le_of_suc-le-suc, lt_of_lt_of_le, mod-one, add-zero, zero-add, suc-add, mul-one, mul_assoc, mod-eq_of_lt, mul-add-mod_self_right, add_comm}
 use native.Mathlib.Omega.{arith}
 use borrow.Author.Tests.{lt-ltb, le-ltb}
 use lib.ListN.{length, drop}
 use lib.Arith.{mod-mul}
 use lib.Pow.{pow_pos, pow-add, pow_mono, mod-pow-add}
-use lib.Count.{ones, ones_step, ones_cat, ones-le}
+use lib.Count.{ones, ones_step, ones_cat}
 use lib.Bits.{bit_or, block_half, block_odd, or_shifted_r}
 use Rattle.bits.specs.Bits.{odd, weigh, put_bit}
 use Rattle.bits.proofs.Bits.{weigh-odd, odd-weigh, odd_low, put_lt}

@@ -4,12 +4,9 @@ use mathlib.Core.List.{List}
 use mathlib.Core.Option.{none, some}
 use mathlib.Core.Path.{◌≡◌, refl, ap, ◌∙◌}
 use Prim.Native.Nat.{ℕ}
-use native.Mathlib.Omega.{arith}
 use Rattle.keyboard_record.specs.declared.Table.{Table}
-use Rattle.keyboard_init.specs.KeyboardInit.{keyboard_init}
 use Rattle.port_words.specs.declared.PortWords.{PortWords}
-use Rattle.port_words.specs.Told.{refusing, no_value, told}
-use Rattle.port_words.specs.Tells.{Tells}
+use Rattle.port_words.specs.Told.{refusing}
 use Rattle.handler_words.specs.Arguments.{table_at}
 use Rattle.handler_words.specs.Calls.{AtTable, WordsFresh}
 use Rattle.keyboard_words.specs.Operations.{KeyboardInitialized}

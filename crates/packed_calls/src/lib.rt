@@ -1,7 +1,7 @@
 // Packed calls and answers, as tests/traces/README.md tells them: read from one stream, answered on another.
 #![tactic(auto)]
 
-ghost use Rattle.std.specs.Prelude.{get_or, min, ◌+◌, ◌-◌, ◌*◌, ◌++◌, [], ◌≤◌, ◌<◌, ◌≡◌, List, IfOk, OnOk, Some, None, length, take, vec_items};
+ghost use Rattle.std.specs.Prelude.{get_or, min, ◌+◌, ◌-◌, ◌*◌, ◌++◌, [], ◌≤◌, ◌<◌, ◌≡◌, List, IfOk, OnOk, Some, None, length, take};
 ghost use Rattle.std.specs.declared.option.Option.{Option};
 ghost use Rattle.std.specs.Io.KnownBytes.{Appends};
 ghost use Rattle.packed_calls.specs.declared.Instruction.{Instruction};

@@ -5,7 +5,7 @@ use mathlib.Core.List.{List}
 use mathlib.Core.Option.{Option, none, some}
 use mathlib.Core.Path.{◌≡◌, refl, ap, sym, ◌∙◌}
 use native.Mathlib.Omega.{arith}
-use Rattle.exchange.specs.Exchange.{Exchange, End, yields, lacks, told_end, Played, played, play, Reads}
+use Rattle.exchange.specs.Exchange.{Exchange, End, yields, lacks, told_end, Played, played, play}
 use Rattle.exchange.specs.Answer.{Answer}
 use Rattle.exchange.specs.Keeping.{Kept, kept_end}
 use Rattle.exchange.specs.Left.{Left, left, record_after}
@@ -15,7 +15,7 @@ use Rattle.ps2_kept.specs.Promises.{PlaysKept}
 use Rattle.port_words.specs.declared.KeptWords.{KeptWords}
 use Rattle.port_words.specs.ToldKept.{kept_numbers, told_kept}
 use Rattle.port_words.specs.ToldLeft.{told_left}
-use Rattle.port_words.specs.Tells.{Tells, TellsReading, AtArgument}
+use Rattle.port_words.specs.Tells.{Tells, AtArgument}
 
 -- ---- a script and a log, and a script alone
 

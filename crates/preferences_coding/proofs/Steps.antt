@@ -7,7 +7,7 @@ use Prim.Native.Nat.{ℕ, ◌+◌, ◌-◌, ◌≤◌}
 use native.Mathlib.Omega.{arith}
 use lib.Dec.{eqb, leb}
 use lib.ListN.{length, drop, length-append, length-drop, drop_of_length-le}
-use lib.Seq.{drop-drop, drop-cons}
+use lib.Seq.{drop-cons}
 use borrow.Author.Tests.{eqb-true, leb-true, leb-false}
 use Rattle.std.specs.Prelude.{Result, Ok, Err}
 use Rattle.exchange.specs.Answer.{Answer, gives, refuses}

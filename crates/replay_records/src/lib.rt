@@ -364,7 +364,7 @@ pub fn record_told(i: Instruction, handler: KeyboardHandler) -> u64
     ensures { result ≡ record_told i handler }
 {
     if i.op != 37 {
-        let side = side_of(u16::from(i.argument / 2));
+        let side = side_of(usize::from(i.argument / 2));
         let from = if i.argument % 2 == 0 { 0 } else { 8 };
         return waiting_number(handler.state.keyboard_at(side).waiting, from);
     }

@@ -2,7 +2,7 @@
 -- Assumes nothing.
 use mathlib.Core.Path.{◌≡◌, refl, ◌∙◌}
 use mathlib.Core.Bool.{true, false, and-false}
-use Prim.Native.Nat.{ℕ, suc, ◌<◌, ◌≤◌, ◌-◌}
+use Prim.Native.Nat.{ℕ, ◌<◌, ◌≤◌, ◌-◌}
 use native.Mathlib.Decide.{dec_lt}
 use native.Mathlib.Omega.{arith}
 use borrow.Author.Tests.{lt-leb}
@@ -10,7 +10,6 @@ use lib.IntN.{ℤ, pos, negsuc, ◌+ℤ◌}
 use lib.Signed.{le_z, mag}
 use mir.Syntax.{w32, w64}
 use mir.Val.{SFits, to_z, of_z}
-use mir.ValLaws.{to_z-neg}
 use mir.Facts.{to_z-of_z}
 use Rattle.report_totals.proofs.Sums.{widened}
 use Rattle.std.specs.Prelude.{Result}

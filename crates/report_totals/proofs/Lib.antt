@@ -3,7 +3,6 @@ pub mod Presses
 pub mod Sums
 pub mod Packets
 pub mod Summing
-pub mod Together
 pub mod PressEvents
 pub mod Whole
 pub mod Joining

@@ -7,7 +7,7 @@ ghost use Rattle.ps2_packet.specs.Packet.{generic, packet_length};
 ghost use Rattle.report_totals.specs.Keys.{for_each_key};
 ghost use Rattle.report_totals.specs.Events.{event_code, presses};
 ghost use Rattle.report_totals.specs.Packets.{Movements};
-ghost use Rattle.report_totals.specs.Totals.{Session, tallied, tally_bytes};
+ghost use Rattle.report_totals.specs.Totals.{tallied, tally_bytes};
 
 use keycodes_ascii::{KEY_RELEASED_OFFSET, KeyAction, KeyEvent};
 use ps2_bytes::MouseId;

@@ -1,5 +1,4 @@
 // The handler record lent as numbers: a fresh one, the handler call and the taking.
-ghost use Rattle.std.specs.Prelude.{◌≡◌};
 ghost use Rattle.handler_words.specs.Calls.{WordsHandled, WordsTaken, WordsFresh};
 
 use handler_words::{HandledWords, TakenWords, fresh_words, handle_words, take_words};
