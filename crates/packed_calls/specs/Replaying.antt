@@ -73,12 +73,12 @@ abbrev pub HandedAll : Option (List Instruction) → ℕ → Option (List ℕ) �
 HandedAll old n input new = IfSome old (λ before. IfSome input (λ xs. new ≡ Some (before ++ calls n 0 xs)))
 
 -- Whether a script of so many bytes leaves some of its space free, and a log of so many has so much room.
-abbrev pub held : ℕ → ℕ → ℕ → Bool
-held bytes room log = ltb bytes script_space && leb room log
+abbrev pub within_space : ℕ → ℕ → ℕ → Bool
+within_space bytes room log = ltb bytes script_space && leb room log
 
 -- The instruction; a call for which the script or the log has no space gets the operation 254, which no program makes.
-abbrev pub where_held : Instruction → Bool → Instruction
-where_held i is_held = cond (call_op i.op) (cond is_held i (record { op = 254; argument = i.argument; state = i.state; room = i.room; times = i.times })) i
+abbrev pub where_within : Instruction → Bool → Instruction
+where_within i is_within = cond (call_op i.op) (cond is_within i (record { op = 254; argument = i.argument; state = i.state; room = i.room; times = i.times })) i
 
 -- An outcome that leaves nothing.
 abbrev pub ending : ℕ → ℕ → ℕ → ℕ → Outcome

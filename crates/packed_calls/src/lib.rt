@@ -6,7 +6,7 @@ ghost use Rattle.std.specs.declared.option.Option.{Option};
 ghost use Rattle.std.specs.Io.KnownBytes.{Appends};
 ghost use Rattle.packed_calls.specs.declared.Instruction.{Instruction};
 ghost use Rattle.packed_calls.specs.Packed.{field, unpacked, packed};
-ghost use Rattle.packed_calls.specs.Replaying.{Taken, TakenInstruction, HandedOne, HandedAll, part_start, ReadBehind, repeated, PartRead, call_op, held, where_held, answer_bytes, ending};
+ghost use Rattle.packed_calls.specs.Replaying.{Taken, TakenInstruction, HandedOne, HandedAll, part_start, ReadBehind, repeated, PartRead, call_op, within_space, where_within, answer_bytes, ending};
 
 use std::alloc::Global;
 use std::io::{Read, Result, Write};
@@ -101,6 +101,7 @@ pub fn number_at(bytes: &[u8], at: usize) -> u32
 }
 
 // The instruction that some bytes say; the end of the input is the last one, `END`.
+// Kept an instruction and no `Option`, a rule of the project: in tests/traces' format the end is an operation, and an input that ends is taken for it.
 fn unpack(head: &[u8]) -> Instruction
     ensures { result ≡ unpacked head.now }
 {
@@ -139,7 +140,7 @@ fn read_full<R: Read>(input: &mut R, bytes: &mut [u8]) -> Result<usize>
     Ok(got)
 }
 
-fn read_instruction<R: Read>(input: &mut R) -> Result<Instruction>
+fn take_instruction<R: Read>(input: &mut R) -> Result<Instruction>
     ensures { IfOk result (λ i. TakenInstruction (R.remaining input.old) (R.remaining input.new) i) }
 {
     // Kept cut, no plainer: an input may end within an instruction, and no such bytes are one.
@@ -149,7 +150,7 @@ fn read_instruction<R: Read>(input: &mut R) -> Result<Instruction>
 }
 
 // Reads a part's bytes behind those that the script has, as many as it has space for, and tells how many it has then. What it has no space for stays in the input.
-// Kept a `requires`, no plainer: it is private, and a part begins within the script.
+// Kept a `requires`, here and below, no plainer: each asks another place, where a part begins, where it ends and what counts; a struct's invariant would say the last alone.
 fn read_behind<R: Read>(
     input: &mut R,
     script: &mut [u8],
@@ -166,7 +167,6 @@ fn read_behind<R: Read>(
 
 // Fills so many bytes behind a part that ends the script, as far as there is space, and tells how many it has then: the part over and over; behind an empty
 // one what its places held before.
-// Kept a `requires`, no plainer: it is private, and a part ends behind where it begins.
 fn repeat(script: &mut [u8], part: usize, end: usize, times: usize) -> usize
     requires { (part ≤ end) × (end ≤ length script.old) }
     ensures end { result ≡ min (length script.old) (end + times) }
@@ -189,7 +189,6 @@ fn part_start(argument: u8, length: usize) -> usize
 
 // Reads a part of the script, which lengthens it, or begins it anew where the argument is 1, and tells how many bytes it has then. Its state is its
 // length, and its times are the bytes that it fills beyond that.
-// Kept a `requires`, no plainer: it is private, and the bytes that count are within the space.
 fn read_part<R: Read>(
     input: &mut R,
     script: &mut [u8],
@@ -219,7 +218,7 @@ pub fn replay<S: Session, R: Read, W: Write>(
     let script = space.as_mut_slice();
     let mut bytes = 0;
     for _ in 0..u64::MAX {
-        let i = read_instruction(input)?;
+        let i = take_instruction(input)?;
         // Kept as numbers, a rule of the project: they are tests/traces' format.
         match i.op {
             END => return Ok(()),
@@ -261,17 +260,17 @@ fn is_call(op: u8) -> bool
 }
 
 /// The instruction, or where it is a call, and the script fills its space, and so may have lost bytes, or the log has no such room, one that no program makes.
-pub fn where_held(i: Instruction, script: &[u8], room: usize, log: &[u8]) -> Instruction
-    ensures { result ≡ where_held i (held (length script.now) room (length log.now)) }
+pub fn where_within(i: Instruction, script: &[u8], room: usize, log: &[u8]) -> Instruction
+    ensures { result ≡ where_within i (within_space (length script.now) room (length log.now)) }
 {
-    let is_held = script.len() < SCRIPT_SPACE && room <= log.len();
-    if is_held || !is_call(i.op) {
+    let is_within = script.len() < SCRIPT_SPACE && room <= log.len();
+    if is_within || !is_call(i.op) {
         return i;
     }
     Instruction { op: UNMADE, ..i }
 }
 
-// The answer to an operation, but for what was logged.
+// The answer to an operation, but for what was logged. Kept apart from its outcome, here and below, no plainer: what makes an outcome does not know the operation.
 fn pack(op: u8, o: Outcome) -> [u8; ANSWER_BYTES]
     ensures { result ≡ packed op o }
 {

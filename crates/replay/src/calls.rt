@@ -167,7 +167,7 @@ fn complete(op: u8, argument: u8, script: &[u8], log: &mut [u8]) -> Option<Answe
 }
 
 // A byte to the keyboard, 8 to 10, or to the mouse, 12 to 14, or the lamps, 11: the calls that hand back bytes.
-pub fn command(op: u8, argument: u8, script: &[u8], log: &mut [u8]) -> Option<Commanded> {
+pub fn command_told(op: u8, argument: u8, script: &[u8], log: &mut [u8]) -> Option<Commanded> {
     Some(match op {
         8..=10 => command_to_keyboard(script, log, keyboard_value(op, argument)?),
         11 => set_keyboard_led(script, log, leds_of(argument)?),
@@ -220,7 +220,7 @@ fn on_mouse(op: u8, id: MouseId, script: &[u8], log: &mut [u8]) -> Outcome {
 fn call(i: Instruction, script: &[u8], log: &mut [u8]) -> Option<Outcome> {
     Some(match i.op {
         1..=7 => completed(complete(i.op, i.argument, script, log)?),
-        8..=14 => completed(command(i.op, i.argument, script, log)?.answer),
+        8..=14 => completed(command_told(i.op, i.argument, script, log)?.answer),
         15..=18 => {
             mouse_value(i.op, i.argument)?;
             completed(setting(i.op, i.argument, script, log)?)
@@ -237,9 +237,13 @@ fn call(i: Instruction, script: &[u8], log: &mut [u8]) -> Option<Outcome> {
 // The call as often as the instruction tells, and the outcome of the last: more than once is for measuring.
 // Kept a loop of its own in each call that is measured, no plainer: one over a closure would want a `requires` that it may be called.
 pub fn call_times(i: Instruction, script: &[u8], log: &mut [u8]) -> Outcome {
-    let mut outcome = call(i, script, log);
+    let Some(mut outcome) = call(i, script, log) else {
+        return ending(NO_CALL, 0, 0, 0);
+    };
     for _ in 1..i.times {
-        outcome = call(i, script, log);
+        if let Some(again) = call(i, script, log) {
+            outcome = again;
+        }
     }
-    outcome.unwrap_or(ending(NO_CALL, 0, 0, 0))
+    outcome
 }

@@ -42,7 +42,7 @@ pub fn put_keeping<W: Write>(
         let c = polling_receive(script);
         return answer_kept(received(c), c.kept, log, out);
     }
-    match command(op, i.argument, script, log) {
+    match command_told(op, i.argument, script, log) {
         Some(c) => answer_kept(completed(c.answer), c.kept, log, out),
         None => put_answer(out, KEEPING, ending(NO_CALL, 0, 0, 0), log),
     }

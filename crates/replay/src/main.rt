@@ -6,7 +6,7 @@ mod keeping;
 
 use calls::call_times;
 use keeping::{KEEPING, put_keeping};
-use packed_calls::{Instruction, Session, put_answer, replay, where_held};
+use packed_calls::{Instruction, Session, put_answer, replay, where_within};
 use std::io::{Result, Write};
 
 // Room for the longest log, in tests/traces' format. Kept an array, no plainer: it is as long as this at once, and a `Vec` would have to be made and may fail.
@@ -20,7 +20,7 @@ struct Ports {
 
 impl Session for Ports {
     fn answer<W: Write>(&mut self, i: Instruction, script: &[u8], out: &mut W) -> Result<()> {
-        let i = where_held(i, script, i.room, &self.log);
+        let i = where_within(i, script, i.room, &self.log);
         let room = i.room.min(LOG_SPACE);
         let log = &mut self.log[..room];
         if i.op == KEEPING {

@@ -1,9 +1,7 @@
 // Preferences written and read, by numbers.
-use crate::converting::FILLER;
-use packed_calls::{Instruction, NO_CALL, Outcome, ending, number_at, put_answer, write_whole};
+use packed_calls::{Outcome, ending, number_at};
 use preferences::{Fields, Preferences};
 use preferences_coding::{ReadRefusal, read_preferences_1, read_preferences_2, write_preferences};
-use std::io::{self, Write};
 
 // The packed calls. The argument of a writing is the record's version, and its input the fields, each as four bytes, the low one first; version 1 has
 // none for the fifth. The argument of a reading is the reader's version; the fields that it gives stand in the output, as many bytes to each.
@@ -21,6 +19,7 @@ fn behind(number: u8, bytes: &[u8]) -> &[u8] {
     &bytes[usize::from(number).min(bytes.len())..]
 }
 
+// Kept a number, a rule of the project: it is an argument of tests/traces' format; any but 1 is taken for 2.
 fn record_of(version: u8, bytes: &[u8]) -> Preferences {
     let fields = Fields {
         set: number_at(bytes, 0),
@@ -45,7 +44,7 @@ fn write_once(version: u8, bytes: &[u8], output: &mut [u8]) -> Outcome {
 }
 
 // The writing as often as is told: more than once is for measuring.
-fn write_times(version: u8, bytes: &[u8], output: &mut [u8], times: usize) -> Outcome {
+pub fn write_times(version: u8, bytes: &[u8], output: &mut [u8], times: usize) -> Outcome {
     let mut outcome = write_once(version, bytes, output);
     for _ in 1..times {
         outcome = write_once(version, behind(outcome.number, bytes), output);
@@ -53,19 +52,7 @@ fn write_times(version: u8, bytes: &[u8], output: &mut [u8], times: usize) -> Ou
     outcome
 }
 
-// Answers the writing that an instruction tells, into all of the output.
-pub fn put_writing<W: Write>(
-    i: Instruction,
-    bytes: &[u8],
-    output: &mut [u8],
-    out: &mut W,
-) -> io::Result<()> {
-    output.fill(FILLER);
-    let outcome = write_times(i.argument, bytes, output, i.times);
-    write_whole(out, i.op, outcome, output)
-}
-
-// The number of a reading, 0 where it is none of a refusal.
+// The number of a reading, 0 where it is none of a refusal. Kept a number, a rule of the project: an outcome has 0 where nothing is refused.
 fn number_of<T>(read: &Result<T, ReadRefusal>) -> u8 {
     match read {
         Ok(_) => 0,
@@ -73,7 +60,7 @@ fn number_of<T>(read: &Result<T, ReadRefusal>) -> u8 {
     }
 }
 
-// The reading by each reader, as often as is told. Kept two, no plainer: over a reader that is passed in, each call would want a `requires` that it may be made.
+// The reading by each reader, as often as is told. Kept two, no plainer: one by the reader's number would ask it at each turn that is measured.
 fn read_times_1(input: &[u8], times: usize) -> Result<Fields, ReadRefusal> {
     let mut read = read_preferences_1(input);
     for _ in 1..times {
@@ -112,26 +99,20 @@ fn put_record(output: &mut [u8], preferences: Preferences) -> usize {
     }
 }
 
-// Answers the reading that an instruction tells, by the reader that it names, where its output has room for the fields.
-pub fn put_reading<W: Write>(
-    i: Instruction,
-    input: &[u8],
-    output: &mut [u8],
-    out: &mut W,
-) -> io::Result<()> {
+// The reading by the reader that is named, where the output has room for the fields, which it is given.
+// Kept a number, a rule of the project: it is an argument of tests/traces' format; any but 1 is taken for 2.
+pub fn read_times(reader: u8, input: &[u8], output: &mut [u8], times: usize) -> Option<Outcome> {
     if output.len() < FIVE_FIELDS {
-        return put_answer(out, i.op, ending(NO_CALL, 0, 0, 0), output);
+        return None;
     }
-    output.fill(FILLER);
-    let read = if i.argument == 1 {
-        read_times_1(input, i.times).map(Preferences::Version1)
+    let read = if reader == 1 {
+        read_times_1(input, times).map(Preferences::Version1)
     } else {
-        read_times_2(input, i.times)
+        read_times_2(input, times)
     };
     let (number, count) = match read {
         Ok(preferences) => (0, put_record(output, preferences)),
         Err(refusal) => (refusal.number(), 0),
     };
-    let outcome = ending(number, 0, count, output.len() as u64);
-    write_whole(out, i.op, outcome, output)
+    Some(ending(number, 0, count, output.len() as u64))
 }

@@ -1,7 +1,6 @@
 // The conversion of set 2, by numbers.
-use packed_calls::{Instruction, Outcome, ending, write_whole};
+use packed_calls::{Outcome, ending};
 use scancode_set2::{Conversion, convert};
-use std::io::{Result, Write};
 
 // The operation.
 pub const CONVERT_SET2: u8 = 40;
@@ -17,22 +16,10 @@ fn converted(c: Conversion, room: usize) -> Outcome {
 
 // The conversion as often as is told: more than once is for measuring.
 // Kept a loop of its own in each call that is measured, no plainer: one over a closure would want a `requires` that it may be called.
-fn convert_times(stream: &[u8], output: &mut [u8], times: usize) -> Outcome {
+pub fn convert_times(stream: &[u8], output: &mut [u8], times: usize) -> Outcome {
     let mut outcome = converted(convert(stream, output), output.len());
     for _ in 1..times {
         outcome = converted(convert(stream, output), output.len());
     }
     outcome
-}
-
-// Makes the conversion that an instruction tells into all of the output, and answers it.
-pub fn put_conversion<W: Write>(
-    i: Instruction,
-    stream: &[u8],
-    output: &mut [u8],
-    out: &mut W,
-) -> Result<()> {
-    output.fill(FILLER);
-    let outcome = convert_times(stream, output, i.times);
-    write_whole(out, i.op, outcome, output)
 }

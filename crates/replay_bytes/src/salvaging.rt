@@ -8,7 +8,7 @@ use std::io::{Result, Write};
 // The packed call. Its argument is the identity, its room the packets' and its state that of the positions.
 pub const SALVAGE: u8 = 44;
 
-// The most positions that there is room for.
+// The most positions that there is room for. Kept an array, no plainer, as the output in main.
 const PLACES: usize = 4096;
 
 // What every position holds before a call. A position is never so large.

@@ -3,7 +3,7 @@
 
 mod runs;
 
-use packed_calls::{Instruction, Session, put_answer, replay, where_held};
+use packed_calls::{Instruction, Session, put_answer, replay, where_within};
 use runs::Run;
 use std::io::{Result, Write};
 use std::ops::ControlFlow;
@@ -25,7 +25,7 @@ impl Session for Keys {
             self.room = i.room;
         }
         let mut space = [0; LOG_SPACE];
-        let i = where_held(i, script, self.room, &space);
+        let i = where_within(i, script, self.room, &space);
         let log = &mut space[..self.room.min(LOG_SPACE)];
         // Kept a loop in both programs that make turns, no plainer: one for both would be public, over a trait, and would have to promise what each turn writes.
         for _ in 0..i.times.max(1) {

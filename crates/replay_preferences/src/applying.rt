@@ -35,7 +35,7 @@ fn record_of(version: u8, bytes: &[u8]) -> Option<Preferences> {
 }
 
 // The application that an instruction tells. Without the fields, or of another version, there is none.
-pub fn answer_applying(i: Instruction, script: &[u8], log: &mut [u8]) -> Option<Outcome> {
+pub fn applied(i: Instruction, script: &[u8], log: &mut [u8]) -> Option<Outcome> {
     if script.len() < FIELD_BYTES {
         return None;
     }

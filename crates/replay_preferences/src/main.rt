@@ -3,8 +3,8 @@
 
 mod applying;
 
-use applying::{APPLYING, answer_applying};
-use packed_calls::{Instruction, NO_CALL, Session, ending, put_answer, replay, where_held};
+use applying::{APPLYING, applied};
+use packed_calls::{Instruction, NO_CALL, Session, ending, put_answer, replay, where_within};
 use std::io::{Result, Write};
 
 // Room for the longest log, in tests/traces' format. Kept an array, no plainer: it is as long as this at once, and a `Vec` would have to be made and may fail.
@@ -18,12 +18,12 @@ struct Applications {
 
 impl Session for Applications {
     fn answer<W: Write>(&mut self, i: Instruction, script: &[u8], out: &mut W) -> Result<()> {
-        let i = where_held(i, script, i.room, &self.log);
+        let i = where_within(i, script, i.room, &self.log);
         let room = i.room.min(LOG_SPACE);
         let log = &mut self.log[..room];
         // Kept as a number, a rule of the project: it is tests/traces' format.
         let outcome = match i.op {
-            APPLYING => answer_applying(i, script, log),
+            APPLYING => applied(i, script, log),
             _ => None,
         };
         put_answer(out, i.op, outcome.unwrap_or(ending(NO_CALL, 0, 0, 0)), log)

@@ -99,14 +99,8 @@ impl Session for Reports {
                 let number = self.add(i, input).unwrap_or(NO_CALL);
                 put_answer(out, i.op, ending(number, 0, 0, 0), &[])
             }
-            NARROW_ASKED => {
-                let r = self.narrow;
-                put_numbers(out, i.op, r.numbers(), r.mean_x(), r.mean_y())
-            }
-            LONG_ASKED => {
-                let r = self.long;
-                put_numbers(out, i.op, r.totals, r.mean_x(), r.mean_y())
-            }
+            NARROW_ASKED => put_numbers(out, i.op, self.narrow),
+            LONG_ASKED => put_numbers(out, i.op, self.long),
             WIDEN => {
                 self.long = LongReport::widen(self.narrow);
                 Ok(())

@@ -1,6 +1,6 @@
 // The numbers of a report as bytes, low byte first, and as answers.
 use packed_calls::{Outcome, ending, put_answer};
-use report::{Report, WholeMean};
+use report::{Report, Season, WholeMean, magnitude};
 use report_totals::Totals;
 use std::io::{Result, Write};
 
@@ -79,15 +79,11 @@ fn told_number(number: u64) -> Outcome {
 }
 
 fn told_signed(number: i64) -> Outcome {
-    if number < 0 {
-        ending(1, 0, 0, (!number).cast_unsigned())
-    } else {
-        told_number(number.cast_unsigned())
-    }
+    ending(u8::from(number < 0), 0, 0, magnitude(number))
 }
 
 // A mean is told by two answers, and its absence by one, whose number is 2.
-fn tell_mean<W: Write>(out: &mut W, op: u8, mean: Option<WholeMean>) -> Result<()> {
+fn put_mean<W: Write>(out: &mut W, op: u8, mean: Option<WholeMean>) -> Result<()> {
     match mean {
         Some(whole) => {
             put_answer(out, op, told_signed(whole.quotient), &[])?;
@@ -98,19 +94,14 @@ fn tell_mean<W: Write>(out: &mut W, op: u8, mean: Option<WholeMean>) -> Result<(
 }
 
 // Tells a report: its numbers, presses, packets, x and y, then both means.
-pub fn put_numbers<W: Write>(
-    out: &mut W,
-    op: u8,
-    totals: Totals,
-    mean_x: Option<WholeMean>,
-    mean_y: Option<WholeMean>,
-) -> Result<()> {
+pub fn put_numbers<W: Write, R: Season>(out: &mut W, op: u8, report: R) -> Result<()> {
+    let totals = report.numbers();
     for press in &totals.presses {
         put_answer(out, op, told_number(*press), &[])?;
     }
     put_answer(out, op, told_number(totals.packets), &[])?;
     put_answer(out, op, told_signed(totals.x), &[])?;
     put_answer(out, op, told_signed(totals.y), &[])?;
-    tell_mean(out, op, mean_x)?;
-    tell_mean(out, op, mean_y)
+    put_mean(out, op, report.mean_x())?;
+    put_mean(out, op, report.mean_y())
 }
