@@ -57,6 +57,11 @@ module _ {A B : Type 0} {whole : Exchange A} {s l : List ℕ} {rest : Exchange A
 pub part_used_le : {A : Type 0} {t : Exchange A} (s : List ℕ) (u : ℕ) {e : End A} {u₂ w₂ : ℕ} → u ≤ length s → Reads t (part u s) e u₂ w₂ → u + u₂ ≤ length s
 part_used_le {t = t} s u h r = left_used_le t s u [] h (r.with_any [])
 
+-- the same of two calls, one after the other
+module _ {A B : Type 0} (t : Exchange A) (n : Exchange B) (s l : List ℕ) {e : End A} {u w : ℕ} {l' : List ℕ} (r : played e u w l' ≡ play t s l) where
+  pub two_used_le : {e₂ : End B} {k u₂ w₂ : ℕ} {m : List ℕ} → k ≡ 2 * w → played e₂ u₂ w₂ m ≡ play n (part u s) (part k l') → u + u₂ ≤ length s
+  two_used_le {k = k} h r₂ = left_used_le n s u (part k l') (call_used_le t s l r) r₂
+
 -- its contract without the form of the parts, and the log with its part given back
 on_what_is_left : {A : Type 0} (t : Exchange A) (s : List ℕ) (u : ℕ) (l : List ℕ) (w : ℕ) {e : End A} {k u₂ w₂ : ℕ} {m : List ℕ} → k ≡ 2 * w
     → played e u₂ w₂ m ≡ play t (part u s) (part k l) → played e u₂ w₂ m ≡ play t (drop u s) (drop (2 * w) l)

@@ -21,7 +21,7 @@ use ps2_layouts::LEDState;
 use ps2_mouse::PS2Mouse;
 use ps2_ports::DevicePort;
 
-// What a field asks of a device. Kept, as the `match` in `apply_setting`, a rule of the project: settings of several types in one list are an enum, since closures in a list would be boxed, and there is no heap.
+// What a field asks of a device. Kept, as the `match` in `apply_setting`, no plainer: it is what the public `apply_setting` takes; a list of lent closures would want a `requires` that each may be called, and a promise of its play.
 #[derive(Clone, Copy)]
 pub enum Setting {
     ScancodeSet(ScancodeSet),

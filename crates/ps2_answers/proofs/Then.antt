@@ -11,11 +11,12 @@ use Rattle.exchange.specs.Exchange.{Exchange, done, End, played, play, Reads, Wr
 use Rattle.exchange.specs.Answer.{Answer, gives, on_given, and_then}
 use Rattle.exchange.specs.Parts.{part, restored}
 use Rattle.exchange.specs.Position.{Reached}
-use Rattle.exchange.proofs.Calls.{bind_reached, reached_last, reached_call, reached_used_le, reached_used_le_reads, reached_pairs_le, writes_yields}
+use Rattle.exchange.proofs.Calls.{bind_yields, bind_reached, reached_last, reached_call, reached_used_le, reached_used_le_reads, reached_pairs_le, writes_yields}
 use Rattle.exchange.proofs.Parts.{part_drop, restored_append}
 use Rattle.exchange.proofs.Position.{reached_done, writes_pairs_le}
 use Rattle.ps2_answers.specs.declared.Counted.{Counted}
 use Rattle.ps2_answers.specs.declared.Refusal.{Refusal}
+use Rattle.ps2_answers.specs.Refusals.{refused}
 use Rattle.ps2_answers.specs.Answers.{counted, ended, used_of, pairs_of, told, sum, behind}
 use Rattle.ps2_answers.proofs.Refusals.{bind_refused}
 
@@ -86,6 +87,18 @@ module _ {A B : Type 0} (t : Exchange (Answer A)) (g : A → Exchange (Answer B)
   pub first_stops : (e : Counted Refusal) → told {T = A} (Err e) l' ≡ play t s l → told {T = B} (Err e) l' ≡ play (and_then t g) s l
   unfolding and_then
   first_stops e r = bind_refused t g s l r e.value refl
+
+-- what follows it may end with a lack too, and may be lent any part that is as long
+module _ {A B : Type 0} (t : Exchange (Answer A)) (g : A → Exchange (Answer B)) (s l : List ℕ) (a : Result (Counted A) (Counted Refusal)) {l' : List ℕ} (r : told a l' ≡ play t s l) where
+  pub done_then : (x : Counted A) → a ≡ Ok x → {e₂ : End (Answer B)} {k u₂ w₂ : ℕ} {m : List ℕ} → k ≡ 2 * x.pairs
+      → played e₂ u₂ w₂ m ≡ play (g x.value) (part x.used s) (part k l')
+      → played e₂ (x.used + u₂) (x.pairs + w₂) (restored k l' m) ≡ play (and_then t g) s l
+  unfolding and_then
+  done_then x q h r₂ = bind_yields t (on_given g) s l (rw q at r) refl h r₂
+
+  pub refused_then : (x : Counted Refusal) → a ≡ Err x → played (refused x.value) x.used x.pairs l' ≡ play (and_then t g) s l
+  unfolding and_then
+  refused_then x q = bind_refused t g s l (rw q at r) x.value refl
 
 -- ---- a next one, on what is left, with the counts so far
 

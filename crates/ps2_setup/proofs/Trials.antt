@@ -1,23 +1,24 @@
 -- Steps whose failure is forgiven, from what the code's calls answered.
 -- Assumes nothing.
-use Prim.Native.Nat.{ℕ, ◌*◌, ◌<◌, ◌^◌}
+use Prim.Native.Nat.{ℕ, ◌+◌, ◌*◌, ◌<◌, ◌^◌}
 use mathlib.Core.Bool.{Bool}
 use mathlib.Core.List.{List}
 use mathlib.Core.Path.{◌≡◌, refl, sym}
 use lib.ListN.{length}
 use Rattle.std.specs.Prelude.{Result, Ok, Err}
-use Rattle.exchange.specs.Exchange.{Exchange, done, bind, play}
+use Rattle.exchange.specs.Exchange.{Exchange, End, yields, lacks, done, bind, told_end, played, play}
 use Rattle.exchange.specs.Answer.{Answer, gives, on_given, and_then}
 use Rattle.exchange.specs.Refuses.{given, succeeds}
 use Rattle.exchange.specs.Parts.{part, restored}
 use Rattle.exchange.specs.Position.{Reached}
+use Rattle.exchange.proofs.Calls.{bind_yields}
 use Rattle.exchange.proofs.Sequence.{bind_assoc}
 use Rattle.exchange.proofs.Told.{bind_told}
 use Rattle.exchange.proofs.Position.{reached_same}
 use Rattle.ps2_answers.specs.declared.Counted.{Counted}
 use Rattle.ps2_answers.specs.declared.Refusal.{Refusal}
 use Rattle.ps2_answers.specs.Refusals.{Success}
-use Rattle.ps2_answers.specs.Answers.{told, behind}
+use Rattle.ps2_answers.specs.Answers.{ended, told, behind}
 use Rattle.ps2_answers.proofs.Then.{first_steps, first_stops, then_steps, then_stops}
 use Rattle.ps2_setup.specs.Answers.{Forgiven}
 
@@ -34,6 +35,21 @@ pub tried_told : (t : Exchange (Answer Success)) (s l : List ℕ) {l' : List ℕ
     → (x : Result (Counted Bool) (Counted Refusal)) → Forgiven r x → told x l' ≡ play (worked t) s l
 unfolding succeeds
 tried_told t s l r p x f = rw (f.end, f.used, f.pairs) (bind_told (succeeds t) gives s l (bind_told t given s l p refl) refl)
+
+-- what a step comes to that gives whether it worked
+tried_end : (y : End (Answer Success)) (b : Bool) → yields (gives b) ≡ told_end gives (told_end given y) → told_end given y ≡ yields b
+tried_end (yields a) b q = cc
+tried_end (lacks x) b q = cc
+
+-- such a step and what follows it, whatever that gives
+module _ {B : Type 0} (t : Exchange (Answer Success)) (g : Bool → Exchange B) (s l : List ℕ) (r : Result (Counted Success) (Counted Refusal)) {l' : List ℕ} (p : told r l' ≡ play t s l)
+    (b : Result (Counted Bool) (Counted Refusal)) (f : Forgiven r b) where
+  pub tried_then : (x : Counted Bool) → b ≡ Ok x → {e₂ : End B} {u₂ w₂ : ℕ} {m : List ℕ} → played e₂ u₂ w₂ m ≡ play (g x.value) (part x.used s) (part (2 * x.pairs) l')
+      → played e₂ (x.used + u₂) (x.pairs + w₂) (restored (2 * x.pairs) l' m) ≡ play (bind (succeeds t) g) s l
+  unfolding succeeds
+  tried_then x q r₂ =
+      let f₂ : Forgiven r (Ok x) = rw q at f in
+      bind_yields (succeeds t) g s l (rw (f₂.used, f₂.pairs) (bind_told t given s l p refl)) (tried_end (ended r) x.value f₂.end) refl r₂
 
 module _ {B : Type 0} (t : Exchange (Answer Success)) (g : Bool → Exchange (Answer B)) where
   -- the first step

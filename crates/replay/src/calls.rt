@@ -34,7 +34,7 @@ pub fn completed(answer: Answer<()>) -> Outcome {
     answered(answer.map(|done| done.with(0)))
 }
 
-// Kept functions, here and below, no plainer: a program writes no `From` or `TryFrom` for the types of other crates.
+// Kept functions, here and below, no plainer: a program writes no `From` or `TryFrom` for the types of other crates; the driver sends no response, so ps2_bytes has no byte of one.
 // A controller's record by its bits: initialised, keyboard, mouse.
 fn controller_of(state: usize) -> PS2Controller {
     PS2Controller {
@@ -57,8 +57,12 @@ fn initialized(c: Initialized) -> Outcome {
     }
 }
 
-fn config_read(read: Answer<ControllerConfigurationByte>) -> Outcome {
-    answered(read.map(|config| config.with(u64::from(u8::from(config.value)))))
+// What has a byte is told by it.
+fn byte_read<T: Into<u8> + Copy>(read: Answer<T>) -> Outcome {
+    answered(read.map(|given| {
+        let byte: u8 = given.value.into();
+        given.with(u64::from(byte))
+    }))
 }
 
 fn response_byte(response: DeviceToHostResponse) -> u64 {
@@ -81,10 +85,6 @@ pub fn received(c: Received) -> Outcome {
     )
 }
 
-fn set_read(read: Answer<ScancodeSet>) -> Outcome {
-    answered(read.map(|set| set.with(u64::from(u8::from(set.value)))))
-}
-
 fn type_number(kind: KeyboardType) -> u64 {
     match kind {
         KeyboardType::MF2Keyboard => 0,
@@ -95,10 +95,6 @@ fn type_number(kind: KeyboardType) -> u64 {
 
 fn detected(answer: Answer<KeyboardType>) -> Outcome {
     answered(answer.map(|kind| kind.with(type_number(kind.value))))
-}
-
-fn identified(answer: Answer<MouseId>) -> Outcome {
-    answered(answer.map(|id| id.with(u64::from(u8::from(id.value)))))
 }
 
 fn mouse_left(c: MouseLeft) -> Outcome {
@@ -131,6 +127,7 @@ fn leds_of(number: u8) -> Option<LEDState> {
     (number < 8).then_some(leds)
 }
 
+// Operation and argument are kept two parameters, here and below, no plainer: 39 has its operation in the state, so the two are no instruction's own.
 // What an argument tells to send to the keyboard: for 8 a command, for 10 and 11 lamps, else a scancode set.
 fn keyboard_value(op: u8, argument: u8) -> Option<HostToKeyboardCommandOrData> {
     Some(match op {
@@ -197,11 +194,11 @@ fn ask(op: u8, state: usize, script: &[u8], log: &mut [u8]) -> Outcome {
             let config = (state % 256) as u8;
             completed(write_config(log, ControllerConfigurationByte::from(config)))
         }
-        20 => config_read(read_config(script, log)),
+        20 => byte_read(read_config(script, log)),
         21 => received(polling_receive(script)),
-        22 => set_read(get_keyboard_scancode_set(script, log)),
+        22 => byte_read(get_keyboard_scancode_set(script, log)),
         23 => detected(keyboard_detect(script, log)),
-        24 => identified(PS2Mouse::mouse_id(script, log)),
+        24 => byte_read(PS2Mouse::mouse_id(script, log)),
         _ => initialized(init(controller_of(state), script, log)),
     }
 }

@@ -80,6 +80,7 @@ fn initialized(c: KeyboardInitialized) -> Outcome {
 }
 
 // A character's number, or 256.
+// Kept 256 for none, a rule of the project: it is tests/traces' format.
 fn character_number(keycode: Keycode, modifiers: KeyboardModifiers) -> u64 {
     match keycode.to_ascii(modifiers) {
         Some(byte) => u64::from(byte),

@@ -101,7 +101,7 @@ fn begun(argument: u8, flags: KeyboardModifiers) -> KeyboardHandler
     with_flags(fresh, Side::First, argument % 2, flags)
 }
 
-// The record with these bytes of a side waiting.
+// The record with these bytes of a side waiting. Kept beside the one with flags, no plainer: each sets fields of its own of a keyboard.
 fn with_waiting(handler: KeyboardHandler, side: Side, waiting: WaitingBytes) -> KeyboardHandler
     ensures { result ≡ with_waiting side waiting handler }
 {
@@ -211,6 +211,7 @@ fn action_of(number: usize) -> KeyAction
 }
 
 // The event that an instruction tells. A byte that is no keycode is taken for the first, which `record_end` finds.
+// Kept with a keycode in any case, no plainer: `record_after` gives a record always, and the refusal is `record_end`'s.
 fn event_of(i: Instruction) -> KeyEvent
     ensures { result ≡ event_of i }
 {
@@ -226,7 +227,6 @@ fn event_of(i: Instruction) -> KeyEvent
 pub fn record_after(i: Instruction, handler: KeyboardHandler) -> KeyboardHandler
     ensures { result ≡ record_after i handler }
 {
-    // Kept as numbers, a rule of the project: they are tests/traces' format, whose table names each.
     match i.op {
         30 => begun(i.argument, flags_of(i.state)),
         31 => with_event(handler, side_of(i.room / 2), event_of(i)),
@@ -279,7 +279,7 @@ fn waiting_number(waiting: WaitingBytes, from: usize) -> u64
     ])
 }
 
-// Kept, no plainer, here and below: the numbers of tests/traces' format, each with the bound that a sum of them rests on; `side as u64` goes by the order of the cases.
+// Kept, no plainer, here and below: each `match` is a row of tests/traces' table, and `side as u64` would go by the order of the cases. The first two say the bound that a sum rests on.
 fn side_number(side: Side) -> u64
     ensures value { result ≡ side_number side }
     ensures upper_bound { result ≤ 1 }

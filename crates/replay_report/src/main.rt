@@ -44,7 +44,8 @@ struct Reports {
 }
 
 // An event, which is told by its keycode and its action, as a report takes it.
-// Kept, no plainer: in the format any number but 0 is a release, so a `TryFrom` would refuse what it lets through.
+// Kept, no plainer: in the format any number but 0 is a release, so a `TryFrom` would refuse what it lets through; and a code for none, since a report
+// takes a byte for each event, and counts a press only below 94.
 fn code_of(keycode: u8, action: u8) -> u8 {
     let action = if action == 0 {
         KeyAction::Pressed

@@ -38,6 +38,7 @@ struct Moved {
 }
 
 // An event as a report takes it, in one byte: the keycode's number where it is a press, and from 128 on where it is a release.
+// Kept a byte, C interface: C lends a session's events as bytes.
 pub fn event_code(event: KeyEvent) -> u8
     ensures { result ≡ event_code event }
 {

@@ -65,7 +65,7 @@ fn mean_words(mean: Option<WholeMean>) -> MeanWords
     }
 }
 
-// The mean movement sideways, and upwards, of a report of either width.
+// The mean movement sideways, and upwards, of a report of either width. Kept two, as in report: they differ in a field.
 pub fn mean_x<R: Season>(report: R) -> MeanWords
     ensures { result ≡ mean_words (mean_of (R.told report).x (R.told report).packets) }
 {

@@ -23,6 +23,7 @@ const THIRD: &[u8] = &[0x09, 0x05, 0x00, 0x08, 0x00, 0x05];
 // More steps than the scripts allow.
 const STEPS: usize = 100;
 
+// Kept functions, here and below, no plainer: a program writes no `Display` for the types of other crates.
 fn name_of(side: Side) -> &'static str {
     match side {
         Side::First => "side 1",
@@ -30,7 +31,6 @@ fn name_of(side: Side) -> &'static str {
     }
 }
 
-// Kept functions, here and below, no plainer: a program writes no `Display` for the types of other crates.
 // A call's refusal, if it is refused; its event is told when it is taken.
 fn tell_call(rt: &impl Print, side: Side, call: CallAnswer) -> Result<()> {
     match call.answer {
