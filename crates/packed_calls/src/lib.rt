@@ -307,3 +307,30 @@ pub fn put_answer<W: Write>(out: &mut W, op: u8, o: Outcome, log: &[u8]) -> Resu
     }
     write_whole(out, op, o, &log[..logged(o.pairs, log.len())])
 }
+
+#[cfg(test)]
+mod tests {
+    use super::*;
+    use std::io::{Cursor, sink};
+    use std::test::Fail;
+
+    // A part of three bytes, two calls, the last instruction and another call, as tests/traces' format has them.
+    const INPUT: &[u8] = &[
+        0, 0, 3, 0, 0, 0, 0, 0, 0, 0, 0xFA, 0xAA, 0x00, //
+        12, 0xF4, 0x34, 0x12, 8, 0, 1, 0, 0, 0, //
+        33, 1, 0, 0, 0, 1, 0, 0, 1, 0, //
+        255, 0, 0, 0, 0, 0, 0, 0, 0, 0, //
+        7, 0, 0, 0, 0, 0, 0, 0, 0, 0,
+    ];
+
+    #[test]
+    fn tells_the_calls_of_an_input(rt: HostRuntime) -> std::result::Result<(), Fail> {
+        let all = calls(&mut Cursor::new(INPUT), &mut sink(), rt.alloc())?;
+        assert_eq!(rt; all.len(), 2);
+        assert_eq!(rt; (all[0].op, all[0].argument), (12, 0xF4));
+        assert_eq!(rt; (all[0].state, all[0].room, all[0].times), (0x1234, 8, 1));
+        assert_eq!(rt; (all[1].op, all[1].argument), (33, 1));
+        assert_eq!(rt; (all[1].state, all[1].room, all[1].times), (0, 256, 65536));
+        Ok(())
+    }
+}
