@@ -56,7 +56,7 @@ impl ReadPort {
     pub fn number(self) -> u8
         ensures { result ≡ port_number (port_of self) }
     {
-        self as u8
+        self as u8 // where it is read
     }
 }
 
@@ -78,7 +78,7 @@ impl Failure {
     pub fn number(self) -> u8
         ensures { result ≡ number_of self }
     {
-        self as u8
+        self as u8 // by the documents
     }
 }
 
