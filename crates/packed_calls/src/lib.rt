@@ -208,14 +208,13 @@ pub fn replay<S: Session, R: Read, W: Write>(
     session: &mut S,
     input: &mut R,
     out: &mut W,
-    alloc: Global,
 ) -> Result<()>
     ensures { OnOk result (HandedAll (S.handed session.old) u64.MAX (R.remaining input.old) (S.handed session.new)) }
 {
-    // Kept a space with the number of its bytes that count, a rule of the format: a part of no bytes is filled with what its places held before.
-    let mut space = Vec::new(alloc);
-    space.resize(SCRIPT_SPACE, 0)?;
-    let script = space.as_mut_slice();
+    // Kept an array, no plainer: a `Vec` would have to be made and may fail. Kept a space with the number of its bytes that count, a rule of the format:
+    // a part of no bytes is filled with what its places held before.
+    let mut space = [0; SCRIPT_SPACE];
+    let script = &mut space[..];
     let mut bytes = 0;
     for _ in 0..u64::MAX {
         let i = take_instruction(input)?;
@@ -248,7 +247,7 @@ pub fn calls<R: Read, W: Write>(
     ensures { IfOk result (λ v. HandedAll (Some []) u64.MAX (R.remaining input.old) (Some v.items)) }
 {
     let mut all = Vec::new(alloc);
-    replay(&mut all, input, out, alloc)?;
+    replay(&mut all, input, out)?;
     Ok(all)
 }
 

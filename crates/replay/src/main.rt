@@ -35,5 +35,5 @@ fn main(rt: HostRuntime) {
         log: [0; LOG_SPACE],
     };
     // A stream that fails ends the replay, as the end of the input does: the failure is told nowhere, and the status is 0.
-    let _ = replay(&mut ports, &mut rt.stdin(), &mut rt.stdout(), rt.alloc());
+    let _ = replay(&mut ports, &mut rt.stdin(), &mut rt.stdout());
 }

@@ -53,5 +53,5 @@ fn main(rt: HostRuntime) {
         output: [0; OUTPUT_SPACE],
     };
     // A stream that fails ends the replay, as the end of the input does: the failure is told nowhere, and the status is 0.
-    let _ = replay(&mut lent, &mut rt.stdin(), &mut rt.stdout(), rt.alloc());
+    let _ = replay(&mut lent, &mut rt.stdin(), &mut rt.stdout());
 }

@@ -44,5 +44,5 @@ fn main(rt: HostRuntime) {
         room: 0,
     };
     // A stream that fails ends the replay, as the end of the input does: the failure is told nowhere, and the status is 0.
-    let _ = replay(&mut keys, &mut rt.stdin(), &mut rt.stdout(), rt.alloc());
+    let _ = replay(&mut keys, &mut rt.stdin(), &mut rt.stdout());
 }

@@ -39,6 +39,5 @@ fn main(rt: HostRuntime) {
         &mut applications,
         &mut rt.stdin(),
         &mut rt.stdout(),
-        rt.alloc(),
     );
 }

@@ -118,5 +118,5 @@ fn main(rt: HostRuntime) {
         codes: [0; EVENTS],
     };
     // A stream that fails ends the replay, as the end of the input does: the failure is told nowhere, and the status is 0.
-    let _ = replay(&mut reports, &mut rt.stdin(), &mut rt.stdout(), rt.alloc());
+    let _ = replay(&mut reports, &mut rt.stdin(), &mut rt.stdout());
 }
