@@ -116,6 +116,7 @@ fn keyboard_formed(keyboard: KeyboardState) -> bool
 }
 
 // Whether neither side has more than its share of the first `count` events. Of so few that they are no more than a share, the sides needn't be counted.
+#[tactic(auto, unfolding(crate::specs::Record::fair))]
 fn is_fair(sides: Sides, count: usize) -> bool
     ensures { result ≡ fair sides count }
 {
@@ -126,6 +127,7 @@ fn is_fair(sides: Sides, count: usize) -> bool
 
 impl HandlerState {
     // Whether the queue's start and count are such as its places allow; the flags and the waiting bytes of each side at the table such as there can be; and, with two keyboards, no side has more than its share of the events.
+    #[tactic(auto, unfolding(crate::specs::Record::well_formed))]
     pub fn well_formed(self) -> bool
         ensures { result ≡ well_formed self }
     {
@@ -141,6 +143,7 @@ impl HandlerState {
     }
 
     // The same, and that a call's side is at the table.
+    #[tactic(auto, unfolding(crate::specs::Record::call_formed))]
     pub fn call_formed(self, side: Side) -> bool
         ensures { result ≡ call_formed side self }
     {
@@ -148,6 +151,7 @@ impl HandlerState {
     }
 
     // The same, and that one more event of the side finds a place even if all that wait are the side's, so that none has to be counted: which is why the tests stand here again, with smaller bounds.
+    #[tactic(auto, unfolding(crate::specs::Record::is_ready, crate::specs::Record::call_formed, crate::specs::Record::well_formed))]
     pub fn is_ready(self, side: Side) -> bool
         ensures { result ≡ is_ready side self }
     {
@@ -194,6 +198,7 @@ impl HandlerState {
     }
 
     // Whether the queue takes one more event of a side, whatever its key: 31 is asked, then 20.
+    #[tactic(auto, using(keyboard_sides::proofs::Row::sides_length), unfolding(crate::specs::Queue::meets))]
     pub fn room_of(self, side: Side) -> Result<(), NoRoom>
         ensures { said_room result ≡ room side self }
     {
@@ -207,6 +212,7 @@ impl HandlerState {
     }
 
     // The same, by its key: 33 is asked first.
+    #[tactic(auto, unfolding(crate::specs::Queue::admits))]
     fn room_for(self, side: Side, keycode: Keycode) -> Result<(), NoRoom>
         ensures { said_room result ≡ place side keycode self }
     {
@@ -217,6 +223,7 @@ impl HandlerState {
     }
 
     // One more event of a side, of this key, waits where the queue takes it; where it doesn't, the state stays.
+    #[tactic(auto, using(crate::proofs::Meeting::place_says))]
     pub fn join(&mut self, side: Side, keycode: Keycode) -> Result<(), NoRoom>
         ensures room { said_room result ≡ place side keycode self.old }
         ensures state { self.new ≡ joined side keycode self.old }
@@ -260,6 +267,7 @@ impl KeyboardHandler {
     }
 
     // Takes the oldest event from the queue; its place is free for a later one.
+    #[tactic(auto, using(crate::proofs::WellFormed::well_is), unfolding(crate::specs::Taking::taken))]
     fn take(&mut self) -> TakenEvent
         ensures { left (said_taken result) self.new ≡ taken self.old }
     {
