@@ -1,4 +1,4 @@
--- A mask with a bit for each of 64 keys.
+-- A mask with a bit for each key.
 -- Assumes nothing.
 use mathlib.Core.Path.{◌≡◌, ap, ◌∙◌}
 use mathlib.Core.Bool.{not}
@@ -9,5 +9,5 @@ use Rattle.bits.specs.Bits.{bit}
 use Rattle.bits.proofs.Masks.{one_shl, test_mask}
 
 -- a key's bit, as the code tests it
-pub tested : (mask code : ℕ) → code < 64 → not (eqb (bit_and mask (1 * 2 ^ code % 2 ^ 64)) 0) ≡ bit code mask
-tested mask code h = ap (λ (m : ℕ). not (eqb (bit_and mask m) 0)) (one_shl 64 code h) ∙ test_mask code mask
+pub tested : (n mask code : ℕ) → code < n → not (eqb (bit_and mask (1 * 2 ^ code % 2 ^ n)) 0) ≡ bit code mask
+tested n mask code h = ap (λ (m : ℕ). not (eqb (bit_and mask m) 0)) (one_shl n code h) ∙ test_mask code mask

@@ -48,14 +48,14 @@ pub returns-in-0-to-63 : goal.returns-in-0-to-63
 returns-in-0-to-63 c =
     let code = c.args.code in
     let h : code < 64 = omega arith in
-    tested keys_mask code h ∙ low code h
+    tested 64 keys_mask code h ∙ low code h
 
 pub returns-in-64-to-127 : goal.returns-in-64-to-127
 returns-in-64-to-127 c =
     let code = c.args.code in
     let h : code - 64 < 64 = omega arith in
     let e : code - 64 + 64 ≡ code = omega arith in
-    tested arrows_mask (code - 64) h ∙ high (code - 64) h ∙ ap is_tournament_code e
+    tested 64 arrows_mask (code - 64) h ∙ high (code - 64) h ∙ ap is_tournament_code e
 
 pub returns-in_default : goal.returns-in_default
 returns-in_default c = sym (none c.args.code (omega arith))
