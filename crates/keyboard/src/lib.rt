@@ -175,7 +175,7 @@ fn event_of(keycode: Keycode, scan_code: u8, modifiers: KeyboardModifiers) -> Ke
 }
 
 // Takes the oldest byte that waits: each byte behind it moves up by one place. How many wait is asked here and below, and said by no type: a caller's record may have any number there, and 21 is its answer.
-// Kept a `while`, speed: as one `copy_from_slice` it proved, but the press of a lock took 80 ns in place of 41, although none waited.
+// Kept a loop, speed: as one `copy_from_slice` it proved, but the press of a lock took 80 ns in place of 41, although none waited.
 fn take_oldest(waiting: WaitingBytes) -> (u8, KeptBytes)
     requires { (waiting.count ≤ kept_limit) × (waiting.count ≢ 0) }
     ensures { (result.0 ≡ get_or waiting.bytes 0 0) × (result.1 ≡ kept_of (bytes_from waiting.bytes 1 (waiting.count - 1))) }
@@ -184,9 +184,7 @@ fn take_oldest(waiting: WaitingBytes) -> (u8, KeptBytes)
     let count = waiting.count;
     let mut behind: [u8; KEPT_LIMIT] = [0; KEPT_LIMIT];
     let mut oldest: u8 = 0;
-    let mut place = count as usize;
-    while 0 < place {
-        place -= 1;
+    for place in (0..usize::from(count)).rev() {
         behind[place] = oldest;
         oldest = bytes[place];
     }
