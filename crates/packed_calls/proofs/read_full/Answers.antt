@@ -11,8 +11,8 @@ pub loop-got-preserved : goal.loop-got-preserved
 loop-got-preserved g c =
     let from = c.loop-got.got in
     let room = length c.loop-got.bytes - from in
-    let within = c.loop-got.invariant.1 in
+    let within = c.loop-got.invariant.0 in
     let n = c.in_ok-n.n in
     let part = slice_range-put_mid from room n c.loop-got.bytes c.read.new.buf within c.in_ok-n.ensures.bound.0 in
     let joined = take_split from (from + n) c.loop-got.bytes (put_mid from room c.loop-got.bytes c.read.new.buf) (omega arith) (take-put_mid_below _ _ _ _ _ (le_refl _) within) in
-    (search rules, search rules, subst (Consumes _ _) (ap (λ l. take from c.loop-got.bytes ++ l) (sym part) ∙ joined) (Consumes-trans _ _ _ _ _ c.loop-got.invariant.2 c.in_ok-n.ensures.bytes.0))
+    (search rules, subst (Consumes _ _) (ap (λ l. take from c.loop-got.bytes ++ l) (sym part) ∙ joined) (Consumes-trans _ _ _ _ _ c.loop-got.invariant.1 c.in_ok-n.ensures.bytes.0))
