@@ -1,14 +1,13 @@
 -- Numbers within their limits: what a count or a sum that was tried says, and counts that are being added.
 -- Assumes nothing.
-use mathlib.Core.Path.{◌≡◌, refl, ◌∙◌}
+use mathlib.Core.Path.{◌≡◌, refl}
 use mathlib.Core.Bool.{Bool, true, false, cond, and-false, and-eq-true_iff}
 use mathlib.Core.List.{List, [], ◌∷◌}
 use Prim.Native.Nat.{ℕ, zero, suc, ◌+◌, ◌≤◌, ◌<◌}
 use native.Mathlib.Decide.{ℕ_discrete}
 use native.Mathlib.Omega.{arith}
 use lib.Dec.{leb}
-use lib.ListN.{length, get_or, set}
-use lib.Seq.{get_or-set_same, get_or-set_other}
+use lib.ListN.{length, get_or}
 use borrow.Author.Tests.{le-leb, lt-leb, leb-true, leb-false}
 use Rattle.report_totals.specs.Keys.{key_count, values_from, for_each_key}
 use Rattle.report_totals.proofs.Keys.{keys_are}
@@ -74,15 +73,6 @@ pub record Adding (most : ℕ) (old more : List ℕ) (i : ℕ) (counts : List �
   pub fit : (k : ℕ) → k < i → get_or old k 0 + get_or more k 0 ≤ most
 
 module _ {most : ℕ} {old more : List ℕ} {i : ℕ} {counts : List ℕ} (a : Adding most old more i counts) where
-
-      entry : (k : ℕ) → k < i + 1 → Dec (k ≡ i) → get_or (set counts i n) k 0 ≡ get_or old k 0 + get_or more k 0
-      entry k l (yes p) = rw p (get_or-set_same counts i n 0 (rw a.long h) ∙ w.1)
-      entry k l (no p) = get_or-set_other counts i k n 0 p ∙ a.at k (omega arith)
-
-      fits : (k : ℕ) → k < i + 1 → Dec (k ≡ i) → get_or old k 0 + get_or more k 0 ≤ most
-      fits k l (yes p) = rw p (leb-true _ _ w.0)
-      fits k l (no p) = a.fit k (omega arith)
-
   abbrev Sums : List ℕ
   Sums = for_each_key (λ key. get_or old key 0 + get_or more key 0)
 
