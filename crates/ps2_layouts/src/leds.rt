@@ -36,7 +36,7 @@ impl From<LEDState> for u8 {
     }
 }
 
-// Each lamp has its own accessor and setter, by mask and shift as document 01 asks; one by a parameter is no plainer.
+// Each lamp has its own accessor and setter; one by a parameter is no plainer, since the names are the table.
 impl LEDState {
     // All off.
     pub fn new() -> Self

@@ -213,6 +213,7 @@ pub enum MousePacket {
     Four(MousePacket4),
 }
 
+// Each stands beside the generic part's, a rule of the project: the Rust's names; each is one line over it.
 impl MousePacket {
     pub fn generic_part(self) -> MousePacketGeneric
         ensures { result ≡ common self }
@@ -222,13 +223,6 @@ impl MousePacket {
             MousePacket::Three(m) => m.generic_part,
             MousePacket::Four(m) => m.generic_part,
         }
-    }
-
-    // Bit `k` of byte 1.
-    fn flag(self, k: u8) -> bool
-        ensures { result ≡ bit k (common self).byte1 }
-    {
-        has(self.generic_part().byte1, k)
     }
 
     // Bit `k` of byte 4 at identity 4. No `matches!`: tried, and an arm that is wrong is then refused at the search's limit and by no fact.
@@ -245,19 +239,19 @@ impl MousePacket {
     pub fn button_left(self) -> bool
         ensures { result ≡ bit left_button (common self).byte1 }
     {
-        self.flag(BUTTON_LEFT)
+        self.generic_part().button_left()
     }
 
     pub fn button_right(self) -> bool
         ensures { result ≡ bit right_button (common self).byte1 }
     {
-        self.flag(BUTTON_RIGHT)
+        self.generic_part().button_right()
     }
 
     pub fn button_middle(self) -> bool
         ensures { result ≡ bit middle_button (common self).byte1 }
     {
-        self.flag(BUTTON_MIDDLE)
+        self.generic_part().button_middle()
     }
 
     pub fn always_one(self) -> u8
