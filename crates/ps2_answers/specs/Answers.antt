@@ -40,6 +40,10 @@ told r log = played (ended r) (used_of r) (pairs_of r) log
 abbrev pub ReadsTold : {T : Type 0} → Exchange (Answer T) → List ℕ → Result (Counted T) (Counted Refusal) → Type 0
 ReadsTold t script r = Reads t script (ended r) (used_of r) (pairs_of r)
 
+-- The same of one turn of a repetition, by what its value is worth.
+abbrev pub ReadsTurn : {T B : Type 0} → (T → Turn (Answer B)) → Exchange (Turn (Answer B)) → List ℕ → Result (Counted T) (Counted Refusal) → Type 0
+ReadsTurn worth t script r = Reads t script (turn_end worth r) (used_of r) (pairs_of r)
+
 abbrev pub WritesTold : {T : Type 0} → Exchange (Answer T) → List ℕ → Result (Counted T) (Counted Refusal) → List ℕ → Type 0
 WritesTold t log r log_left = Writes t log (ended r) (used_of r) (pairs_of r) log_left
 

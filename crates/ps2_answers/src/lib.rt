@@ -15,6 +15,7 @@ pub enum ReadPort {
 }
 
 // What a call lacked: a script byte for its next read, which was to be of this port, or two free log bytes for its next write.
+// Kept, no plainer: neither case is nothing, or success; `Refusal` likewise.
 #[derive(Clone, Copy, PartialEq, Eq)]
 pub enum Lack {
     Script(ReadPort),

@@ -20,6 +20,14 @@ pub struct KeptBytes {
     pub others: u32,
 }
 
+// An answer, with the bytes that the whole run threw away.
+// Kept beside the answer, a rule of the project: the bytes thrown away are handed back with a failure too (document 02).
+#[derive(Clone, Copy)]
+pub struct Handed<T> {
+    pub answer: Answer<T>,
+    pub kept: KeptBytes,
+}
+
 // No byte yet.
 pub fn none_kept() -> KeptBytes
     ensures { result ≡ nothing_kept }

@@ -39,7 +39,7 @@ fn read_port(script: &[u8], port: ReadPort) -> Answer<u8>
 }
 
 // A write puts its pair where two bytes are free; a lone last byte of the log stays as it is.
-// Kept as a number, no plainer: it is the byte that the log has, and an enum of two would be cast back here.
+// Kept as a number, no plainer: `ReadPort` names what is read, and 64 is the status there and the commands here.
 fn write_port(log: &mut [u8], port: u8, value: u8) -> Answer<()>
     ensures { (p : Port) → port ≡ number p → WritesTold (write_port p value) log.old result log.new }
 {
