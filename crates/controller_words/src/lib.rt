@@ -29,7 +29,7 @@ pub struct InitializedWords {
     pub controller: ControllerWords,
 }
 
-// Any number but 0 says yes.
+// Any number but 0 says yes. Kept, no plainer: what a number says stands once for three fields.
 fn is_set(word: u32) -> bool
     ensures { result ≡ not (eqb word 0) }
 {

@@ -31,7 +31,7 @@ use ps2_layouts::LEDState;
 
 // ---- what arguments stand for
 
-// The command to the keyboard that is sent as this byte.
+// The command to the keyboard that is sent as this byte. Such two lines stand in argument_words too, where it is said why.
 #[tactic(auto, unfolding(bits::specs::Table::decode))]
 fn command_of(byte: u32) -> Option<HostToKeyboardCommand>
     ensures { said_found result ≡ command_at byte }

@@ -152,7 +152,7 @@ fn port_lacked(refusal: Refusal) -> u32
     }
 }
 
-// An answer, and its value's number. Kept, no plainer, here and below: the name says what is told, where `from` would say less.
+// An answer, and its value's number. Kept a function, no plainer: its promise names `V.worth`, which a law of `From` would have to say of each `V`; those below stand beside it.
 pub fn answer_words<V: Value>(answer: Answer<V>) -> PortWords
     ensures { result ≡ told V.worth (ended answer) (used_of answer) (pairs_of answer) }
 {

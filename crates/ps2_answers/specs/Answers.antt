@@ -1,8 +1,9 @@
 -- What the code's answers say of the end of a play, and an answer with the counts of what came before it.
 -- Assumes nothing.
-use Rattle.std.specs.Prelude.{ℕ, ◌+◌, ◌%◌, ◌^◌, List, Result, Ok, Err}
-use Rattle.exchange.specs.Exchange.{Exchange, End, yields, Played, played, Reads, Writes}
+use Rattle.std.specs.Prelude.{ℕ, ◌+◌, ◌%◌, ◌^◌, ◌≡◌, List, Result, Ok, Err}
+use Rattle.exchange.specs.Exchange.{Exchange, End, yields, Played, played, play, Reads, Writes}
 use Rattle.exchange.specs.Answer.{Answer, gives}
+use Rattle.exchange.specs.Left.{Left, record_after}
 use Rattle.exchange.specs.Repeat.{Turn, found_end}
 use Rattle.ps2_answers.specs.Refusals.{refused}
 use Rattle.ps2_answers.specs.declared.Counted.{Counted}
@@ -46,6 +47,10 @@ ReadsTurn worth t script r = Reads t script (turn_end worth r) (used_of r) (pair
 
 abbrev pub WritesTold : {T : Type 0} → Exchange (Answer T) → List ℕ → Result (Counted T) (Counted Refusal) → List ℕ → Type 0
 WritesTold t log r log_left = Writes t log (ended r) (used_of r) (pairs_of r) log_left
+
+-- What one promises that leaves a record beside its answer: the operation, with the end that the two say, and the record after it.
+abbrev pub PlaysLeftTold : {R T : Type 0} → (Result (Counted T) (Counted Refusal) → R → End (Left R T)) → Exchange (Left R T) → R → List ℕ → List ℕ → Result (Counted T) (Counted Refusal) → List ℕ → R → Type 0
+PlaysLeftTold said t passed script log r log_left now = (played (said r now) (used_of r) (pairs_of r) log_left ≡ play t script log) × (now ≡ record_after passed (play t script log).end)
 
 -- A sum of two counts, as code adds them.
 abbrev pub sum : ℕ → ℕ → ℕ

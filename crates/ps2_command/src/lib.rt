@@ -17,7 +17,7 @@ ghost use Rattle.ps2_command.specs.Search.{self_test_within};
 
 use ps2_answers::{Answer, Counted, Failure, Refusal};
 use ps2_bytes::{DeviceToHostResponse, HostToControllerCommand, HostToDevice};
-use ps2_kept::{KeptBytes, none_kept};
+use ps2_kept::{Handed, KeptBytes, none_kept};
 use ps2_layouts::ControllerToHostStatus;
 use ps2_polling::{Waiting, polling_send_receive_keeping, read_test_result};
 use ps2_ports::{DevicePort, PS2_COMMAND_AND_STATUS_PORT, PS2_DATA_PORT, write_command};
@@ -32,13 +32,8 @@ const SELF_TEST_PASSED: u8 = 0xAA;
 // Kept as a byte, no plainer: it is compared with a byte of the script, which would be read as a response first.
 const ACKNOWLEDGE: u8 = 0xFA;
 
-// Kept beside the answer, a rule of the project: the bytes thrown away are handed back with a failure too (request 2.3).
 // What a command comes to, with the bytes that its whole run threw away.
-#[derive(Clone, Copy)]
-pub struct Commanded {
-    pub answer: Answer<()>,
-    pub kept: KeptBytes,
-}
+pub type Commanded = Handed<()>;
 
 // What a response says of the command: whether it is accepted, or else another attempt is to be made; or why it failed.
 fn verdict(response: DeviceToHostResponse) -> Result<bool, Failure>

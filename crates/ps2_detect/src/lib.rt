@@ -16,6 +16,7 @@ use ps2_polling::{POLL_LIMIT, poll_data};
 use ps2_ports::DevicePort;
 
 // The first byte of a keyboard's identity: an ancient keyboard has no other, and the others have a second one.
+// Kept as bytes, no plainer: they are compared with a byte of the script; no type has them as an identity's.
 const ANCIENT: u8 = 0x00;
 
 const MF2: u8 = 0xAB;

@@ -15,15 +15,14 @@ use Rattle.ps2_answers.specs.declared.Failure.TheVariants.{AlreadyInitialized}
 use Rattle.ps2_answers.specs.declared.Refusal.{Refusal}
 use Rattle.ps2_answers.specs.declared.Refusal.TheVariants.{Lacking, Failed}
 use Rattle.ps2_answers.specs.Refusals.{Success, success, refused}
-use Rattle.ps2_answers.specs.Answers.{counted, used_of, pairs_of, told}
+use Rattle.ps2_answers.specs.Answers.{counted, told, PlaysLeftTold}
 use Rattle.ps2_init.specs.declared.PS2Controller.{PS2Controller}
 use Rattle.ps2_init.specs.Init.{set_up, or_passed, initialize}
 use Rattle.ps2_init.specs.Answers.{said_init}
 
 -- what `init` promises: the play, and the record after it
 abbrev pub Promised : PS2Controller → Result (Counted Success) (Counted Refusal) → PS2Controller → List ℕ → List ℕ → List ℕ → Type 0
-Promised passed answer now l' s l =
-    (played (said_init answer now) (used_of answer) (pairs_of answer) l' ≡ play (initialize passed) s l) × (now ≡ record_after passed (play (initialize passed) s l).end)
+Promised passed answer now l' s l = PlaysLeftTold said_init (initialize passed) passed s l answer l' now
 
 module _ (passed : PS2Controller) (s l : List ℕ) where
   pub init_already : passed.initialized ≡ true → Promised passed (Err (counted (Failed AlreadyInitialized) 0 0)) passed l s l

@@ -2,9 +2,8 @@
 #![tactic(auto)]
 
 ghost use Rattle.std.specs.Prelude.{◌≡◌};
-ghost use Rattle.exchange.specs.Exchange.{play, played, bind};
-ghost use Rattle.exchange.specs.Left.{record_after};
-ghost use Rattle.ps2_answers.specs.Answers.{used_of, pairs_of, told};
+ghost use Rattle.exchange.specs.Exchange.{play, bind};
+ghost use Rattle.ps2_answers.specs.Answers.{told, PlaysLeftTold};
 ghost use Rattle.ps2_init.specs.Init.{reset_devices, read_last, set_up, initialize, keyboard_ref, mouse_ref};
 ghost use Rattle.ps2_init.specs.Answers.{said_init};
 
@@ -22,7 +21,7 @@ pub struct PS2Controller {
     pub mouse_attached: bool,
 }
 
-// The keyboard, where one is attached. Kept, no plainer: a keyboard has no record, and `Option<()>` says less than the Rust's name.
+// The keyboard, where one is attached. Kept as an enum, a rule of the project: a shorter form was tried and proves, but its wrong program (keyboard_by_the_mouse) is then refused by no fact.
 #[derive(Clone, Copy)]
 pub enum KeyboardRef {
     Attached,
@@ -30,6 +29,7 @@ pub enum KeyboardRef {
 }
 
 // The answer of `init`, with the controller's record as it is left.
+// Kept beside the answer, a rule of the project: document 01 leaves the record as passed after 1, 8 or 9.
 #[derive(Clone, Copy)]
 pub struct Initialized {
     pub answer: Answer<()>,
@@ -39,7 +39,7 @@ pub struct Initialized {
 // Initialises the controller, unless it was before. It becomes initialised only where all steps were done.
 // Kept as two slices here and below: document 01 has each call take a script and a log.
 pub fn init(controller: PS2Controller, script: &[u8], log: &mut [u8]) -> Initialized
-    ensures { (played (said_init result.answer result.controller) (used_of result.answer) (pairs_of result.answer) log.new ≡ play (initialize controller) script.now log.old) × (result.controller ≡ record_after controller (play (initialize controller) script.now log.old).end) }
+    ensures { PlaysLeftTold said_init (initialize controller) controller script.now log.old result.answer log.new result.controller }
 {
     if controller.initialized {
         return Initialized {

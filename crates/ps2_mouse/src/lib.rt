@@ -2,12 +2,12 @@
 #![tactic(auto)]
 
 ghost use Rattle.std.specs.Prelude.{◌≡◌};
-ghost use Rattle.exchange.specs.Exchange.{play, Reads};
+ghost use Rattle.exchange.specs.Exchange.{play};
 ghost use Rattle.exchange.specs.Answer.{refuses, and_then, refusing_as};
 ghost use Rattle.exchange.specs.Repeat.{repeat};
 ghost use Rattle.ps2_bytes.specs.Responses.{mouse_ids};
 ghost use Rattle.ps2_ports.specs.Ports.{flush_output_buffer};
-ghost use Rattle.ps2_answers.specs.Answers.{turn_end, used_of, pairs_of, told, ReadsTold};
+ghost use Rattle.ps2_answers.specs.Answers.{told, ReadsTold, ReadsTurn};
 ghost use Rattle.ps2_kept.specs.Kept.{keeping_thrown};
 ghost use Rattle.ps2_kept.specs.Promises.{PlaysKeptTold};
 ghost use Rattle.ps2_polling.specs.Polling.{poll_limit};
@@ -193,8 +193,9 @@ fn receive_mouse_id(script: &[u8]) -> Answer<MouseId>
 }
 
 // One poll: reads data where the status says that there is a byte of the mouse.
+// Kept beside `poll_data`, no plainer: it asks for two bits, and one over the question would take a closure.
 fn poll_mouse_id(script: &[u8]) -> Answer<Option<MouseId>>
-    ensures { Reads (poll_when mouse_byte_waits (listed_turn mouse_ids)) script.now (turn_end identified result) (used_of result) (pairs_of result) }
+    ensures { ReadsTurn identified (poll_when mouse_byte_waits (listed_turn mouse_ids)) script.now result }
 {
     let full = PS2Mouse::is_output_buffer_full(script)?;
     if full.value {
@@ -206,6 +207,7 @@ fn poll_mouse_id(script: &[u8]) -> Answer<Option<MouseId>>
 }
 
 // The identity that a byte is to a poll; one that is none is thrown away.
+// Kept beside `try_from`, no plainer: it says a byte's worth to a poll, which the poll's proof would spell.
 fn listed_id(byte: u8) -> Option<MouseId>
     ensures { identified result ≡ listed_turn mouse_ids byte }
 {

@@ -2,10 +2,9 @@
 #![tactic(auto)]
 
 ghost use Rattle.std.specs.Prelude.{◌≡◌};
-ghost use Rattle.exchange.specs.Exchange.{bind, play, played};
+ghost use Rattle.exchange.specs.Exchange.{bind, play};
 ghost use Rattle.exchange.specs.Answer.{gives, and_then};
-ghost use Rattle.exchange.specs.Left.{record_after};
-ghost use Rattle.ps2_answers.specs.Answers.{ended, used_of, pairs_of, told};
+ghost use Rattle.ps2_answers.specs.Answers.{ended, used_of, pairs_of, told, PlaysLeftTold};
 ghost use Rattle.ps2_mouse.specs.Mouse.{mouse_id as mouse_id_rule};
 ghost use Rattle.ps2_mouse_identity.specs.Identity.{set_rates, identity_after, wheel_rates, button_rates, second_identity, after_first, new_identity, start_packets, set_mouse_id};
 ghost use Rattle.ps2_mouse_identity.specs.Answers.{said_mouse, forgiven_as};
@@ -15,6 +14,7 @@ use ps2_bytes::{MouseId, MouseSampleRate};
 use ps2_mouse::PS2Mouse;
 
 // An answer, with the mouse's record as it is left.
+// Kept by value beside the answer, a rule of the project: document 01 has the mouse a record by value, and a refusal leaves one too.
 #[derive(Clone, Copy)]
 pub struct MouseLeft {
     pub answer: Answer<()>,
@@ -23,7 +23,7 @@ pub struct MouseLeft {
 
 // Sets the record's identity to the highest that the mouse takes on: a sequence of sampling rates asks it to.
 pub fn set_mouse_id(mouse: PS2Mouse, script: &[u8], log: &mut [u8]) -> MouseLeft
-    ensures { (played (said_mouse result.answer result.mouse) (used_of result.answer) (pairs_of result.answer) log.new ≡ play (set_mouse_id mouse) script.now log.old) × (result.mouse ≡ record_after mouse (play (set_mouse_id mouse) script.now log.old).end) }
+    ensures { PlaysLeftTold said_mouse (set_mouse_id mouse) mouse script.now log.old result.answer log.new result.mouse }
 {
     let mut left = mouse;
     let answer = change_id(&mut left, script, log);
@@ -35,7 +35,7 @@ pub fn set_mouse_id(mouse: PS2Mouse, script: &[u8], log: &mut [u8]) -> MouseLeft
 
 // The same, with the record changed where it lies.
 fn change_id(mouse: &mut PS2Mouse, script: &[u8], log: &mut [u8]) -> Answer<()>
-    ensures { (played (said_mouse result mouse.new) (used_of result) (pairs_of result) log.new ≡ play (set_mouse_id mouse.old) script.now log.old) × (mouse.new ≡ record_after mouse.old (play (set_mouse_id mouse.old) script.now log.old).end) }
+    ensures { PlaysLeftTold said_mouse (set_mouse_id mouse.old) mouse.old script.now log.old result log.new mouse.new }
 {
     let id = new_identity(script, log, mouse.id)?;
     let tail = 2 * id.pairs;
@@ -121,6 +121,7 @@ fn identity_after(
 }
 
 // A failure is no identity; a lack is not forgiven.
+// Kept beside `tried` of ps2_setup, no plainer: each is two lines over `outcome`, and its callers want a `bool` there.
 fn forgiven(asked: Answer<MouseId>) -> Answer<Option<MouseId>>
     ensures end { ended result ≡ forgiven_as (ended asked) }
     ensures used { used_of result ≡ used_of asked }
@@ -132,7 +133,7 @@ fn forgiven(asked: Answer<MouseId>) -> Answer<Option<MouseId>>
 
 // Starts the packets of a mouse that is to have this identity. Its record has it if the script and the log did not end before.
 fn start_packets(script: &[u8], log: &mut [u8], mouse: &mut PS2Mouse, id: MouseId) -> Answer<()>
-    ensures { (played (said_mouse result mouse.new) (used_of result) (pairs_of result) log.new ≡ play (start_packets mouse.old (gives id)) script.now log.old) × (mouse.new ≡ record_after mouse.old (play (start_packets mouse.old (gives id)) script.now log.old).end) }
+    ensures { PlaysLeftTold said_mouse (start_packets mouse.old (gives id)) mouse.old script.now log.old result log.new mouse.new }
 {
     let started = PS2Mouse::enable_mouse_packet_streaming(script, log);
     if outcome(started).is_ok() {

@@ -46,7 +46,7 @@ fn pass<const LENGTH: usize>(bytes: &[u8], packets: &mut [u8], positions: &mut [
     let mut packet_bytes = 0;
     let mut dropped = 0;
     let answer = 'pass: loop {
-        // Packets that follow one another have a loop of their own. No `for` counts either loop, and no plainer one is known: a dropped byte shifts all behind it.
+        // Packets that follow one another have a loop of their own: one loop for both was faster or slower by a third as the compiler placed it (docs/DECISIONS.md). No `for` counts either, no plainer: a dropped byte shifts all behind it.
         while let Some(packet) = bytes[used..].first_chunk::<LENGTH>() {
             if !has(packet[0], ALWAYS_ONE) {
                 break;

@@ -86,6 +86,7 @@ fn test_second(script: &[u8], log: &mut [u8], has_mouse: bool) -> Answer<bool>
 }
 
 // Whether a step worked, where its failure is forgiven. Nothing forgives a lack: it is the only refusal that is answered.
+// Kept beside `forgiven` of ps2_mouse_identity, no plainer: each is two lines over `outcome`, and that one's callers want the identity.
 pub fn tried(answer: Answer<()>) -> Answer<bool>
     ensures { Forgiven answer result }
 {
@@ -128,7 +129,7 @@ fn enable_port(
     }
 }
 
-// The command that enables a port. Kept beside others of its shape: the port is all that they share, and a table of two is no plainer.
+// The command that enables a port. Kept as a `match`, a rule of the project: a shorter form was tried and proves, but its wrong program (first_port_enabled_twice) is then refused by no fact.
 fn enable_command(port: DevicePort) -> HostToControllerCommand
     ensures { result ≡ enable_of port }
 {
@@ -138,7 +139,7 @@ fn enable_command(port: DevicePort) -> HostToControllerCommand
     }
 }
 
-// The port's clock runs, and the port interrupts. Kept as `enable_command`: the port is all that the two arms share.
+// The port's clock runs, and the port interrupts. Kept as a `match` likewise: a shorter form was tried and proves, but its wrong program (mouse_never_interrupts) is then refused by no fact.
 fn running(port: DevicePort, config: ControllerConfigurationByte) -> ControllerConfigurationByte
     ensures { result ≡ running_rule (clock_of port) (interrupt_of port) config }
 {
