@@ -27,24 +27,24 @@ const ACKNOWLEDGE: u8 = 0xFA;
 // The low seven bits of a scancode are its key's press code.
 const LOW_PART: u8 = 0x7F;
 
-// The press codes of the keys that have a flag, under the names that the Rust's `Keycode` has for them. Kept as bytes, no plainer: a scancode is compared with them, and would be looked up as a `Keycode` first.
-const CONTROL: u8 = 0x1D;
+// The press codes of the keys that have a flag, under the names that the Rust's `Keycode` has for them: bytes, since a scancode is compared with them.
+const CONTROL: u8 = Keycode::Control as u8;
 
-const ALT: u8 = 0x38;
+const ALT: u8 = Keycode::Alt as u8;
 
-const LEFT_SHIFT: u8 = 0x2A;
+const LEFT_SHIFT: u8 = Keycode::LeftShift as u8;
 
-const RIGHT_SHIFT: u8 = 0x36;
+const RIGHT_SHIFT: u8 = Keycode::RightShift as u8;
 
-const SUPER_KEY_LEFT: u8 = 0x5B;
+const SUPER_KEY_LEFT: u8 = Keycode::SuperKeyLeft as u8;
 
-const SUPER_KEY_RIGHT: u8 = 0x5C;
+const SUPER_KEY_RIGHT: u8 = Keycode::SuperKeyRight as u8;
 
-const CAPS_LOCK: u8 = 0x3A;
+const CAPS_LOCK: u8 = Keycode::CapsLock as u8;
 
-const NUM_LOCK: u8 = 0x45;
+const NUM_LOCK: u8 = Keycode::NumLock as u8;
 
-const SCROLL_LOCK: u8 = 0x46;
+const SCROLL_LOCK: u8 = Keycode::ScrollLock as u8;
 
 // The flags of the right Alt key.
 const ALT_AND_ALT_RIGHT: KeyboardModifiers = KeyboardModifiers {
@@ -91,6 +91,7 @@ pub enum Profile {
 
 // Bytes that wait to be taken, the oldest first: a lamp exchange threw them away.
 // Kept: an array with its count is the record's fixed memory, without a heap, and C is shown both.
+// Kept beside `KeptBytes`, no plainer: in the record no others are counted, and one type in the other would have each byte read by two names.
 #[derive(Clone, Copy)]
 pub struct WaitingBytes {
     pub bytes: [u8; KEPT_LIMIT],
