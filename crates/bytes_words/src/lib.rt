@@ -76,14 +76,11 @@ fn keycode_of(keycode: u32) -> Option<Keycode>
     Keycode::try_from(byte).ok()
 }
 
-// The number of a character. Kept, no plainer: the arm shows that 0 stands for none.
+// The number of a character, 0 for none.
 fn character_number(found: Option<u8>) -> u32
     ensures { result ≡ character_number found }
 {
-    match found {
-        Some(ascii) => u32::from(ascii),
-        None => 0,
-    }
+    found.map_or(0, |ascii| u32::from(ascii))
 }
 
 // The character of a key under some flags, 0 where it has none: 255 where the keycode or the flags stand for nothing.
