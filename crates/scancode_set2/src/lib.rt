@@ -47,7 +47,7 @@ const ALONE: u32 = 0;
 const ALONE_WITH_TOP_BIT: u32 = 24;
 
 // Converts a set 2 key stream to set 1, from the start of both slices on. Behind the bytes written the output stays as it was.
-// Kept, speed: a turn takes one byte or two, so it is a `while` with its places, as measured (docs/DECISIONS.md), and no `for`.
+// Kept a `while` with its places, no plainer: a turn takes one byte or two, so no range counts them, and both places are answered.
 pub fn convert(stream: &[u8], out: &mut [u8]) -> Conversion
     ensures { outcome (said_converted result.answer) result.used result.written out.new ≡ converted stream.now out.old }
 {
