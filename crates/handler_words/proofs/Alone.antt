@@ -190,6 +190,6 @@ module _ (side : Side) (ws script : List ℕ) where
         let y : KeyQueued (outcome_alone side s b flags) (free_place s) _ n ws' = rw (l, free_place_with side (followed_by flags) s) at x in
         record {
           with_any = λ log.
-              moved_on side ws script log (effects_alone side s b flags) (alone_effects side s script w a f log) y.answers refl refl h y.moves
+              moved_on side ws script log (effects_alone side s b flags) (alone_effects side s script w a f log) y.answers refl refl h (rw y.answers at y.moves)
               (q ∙ sym (keyboard_left side (with_keyboard side (followed_by flags) s) (key_event b flags) ∙ keyboard_at_with side (followed_by flags) s)) u (y.writes, y.reads);
         }

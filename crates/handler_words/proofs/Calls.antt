@@ -1,11 +1,10 @@
 -- A handler call on a record's numbers is the call on the record that they stand for.
 -- Assumes nothing.
 use mathlib.Core.Path.{◌≡◌, refl, sym, ap, subst, ◌∙◌}
-use mathlib.Core.Bool.{true, false, ◌||◌}
+use mathlib.Core.Bool.{true, false}
 use mathlib.Core.List.{List}
 use mathlib.Core.Option.{Option, some}
 use Prim.Native.Nat.{ℕ, ◌+◌, ◌%◌}
-use lib.Dec.{eqb}
 use lib.ListN.{length, set, length-set}
 use Rattle.exchange.specs.Answer.{number_answered, number_ended}
 use Rattle.keycodes_ascii.specs.declared.KeyEvent.{KeyEvent}
@@ -78,21 +77,21 @@ module _ (side : Side) (ws s l : List ℕ) (y : Effects) {l' : List ℕ} (made :
   unfolding handled
   answer_is = rw (a, b, c) (ap (λ (z : Effects). numbers_of (called_with (record_of ws) z)) made.0)
 
-  pub as_passed : eqb refusal 2 || (eqb refusal 3 || eqb refusal 21) ≡ true → SideHandled side ws s l answer ws l'
+  pub as_passed : ends2_3_21 y.end ≡ true → SideHandled side ws s l answer ws l'
   unfolding words_left handled
   as_passed t =
-      let e : ends2_3_21 (effects keyboard_lamps side (state_of ws) s l).end ≡ true = ap (λ (z : Effects). ends2_3_21 z.end) (sym made.0) ∙ (rw a at t) in
+      let e : ends2_3_21 (effects keyboard_lamps side (state_of ws) s l).end ≡ true = ap (λ (z : Effects). ends2_3_21 z.end) (sym made.0) ∙ t in
       record { answered = answer_is; leaves = sym (record_as_passed keyboard_lamps side (record_of ws) s l e); writes = rw e; logged = made.1 }
 
   module _ (h : length ws ≡ words_length) where
-    pub moved_on : eqb refusal 2 || (eqb refusal 3 || eqb refusal 21) ≡ false → {k : KeyboardState} → k ≡ keyboard_at side y.state
+    pub moved_on : ends2_3_21 y.end ≡ false → {k : KeyboardState} → k ≡ keyboard_at side y.state
         → {us : List ℕ} → (us ≡ with_keyboard_at (keyboard_from side) k ws) × Narrow k
         → {ws' : List ℕ} → (ws' ≡ with_event (free_place (state_of ws)) y.state y.event us) × (reread y.event ≡ y.event)
         → SideHandled side ws s l answer ws' l'
     unfolding words_left handled
     moved_on t q {us} u {ws'} v =
         let x = effects keyboard_lamps side (state_of ws) s l in
-        let e : ends2_3_21 x.end ≡ false = ap (λ (z : Effects). ends2_3_21 z.end) (sym made.0) ∙ (rw a at t) in
+        let e : ends2_3_21 x.end ≡ false = ap (λ (z : Effects). ends2_3_21 z.end) (sym made.0) ∙ t in
         let g : ws' ≡ with_event (free_place (state_of ws)) x.state x.event (with_keyboard_at (keyboard_from side) (keyboard_at side x.state) ws) =
         v.0 ∙ (rw (u.0, q) (ap (λ (z : Effects). with_event (free_place (state_of ws)) z.state z.event (with_keyboard_at (keyboard_from side) (keyboard_at side z.state) ws)) made.0)) in
         let m : Narrow (keyboard_at side x.state) = subst (λ (z : Effects). Narrow (keyboard_at side z.state)) made.0 (rw q at u.1) in
@@ -119,12 +118,12 @@ module _ (side : Side) (ws s l : List ℕ) (x : Effect) {state : HandlerState} (
   }
 
   module _ {refusal lamps port : ℕ} (a : refusal ≡ number_ended (said_call x.answer)) (b : lamps ≡ number_answered (said_lamps x.lamps_failed)) (c : port ≡ port_lacked (said_call x.answer)) where
-    pub left_alone : eqb refusal 2 || (eqb refusal 3 || eqb refusal 21) ≡ true
+    pub left_alone : ends2_3_21 (said_call x.answer) ≡ true
         → SideHandled side ws s l (record { refusal = refusal; lamps = lamps; used = x.used; pairs = x.pairs; dropped = x.dropped; port = port }) ws l'
     left_alone t = as_passed side ws s l (said_effect x) effect_is a b c t
 
     module _ (h : length ws ≡ words_length) where
-      pub written : eqb refusal 2 || (eqb refusal 3 || eqb refusal 21) ≡ false → {k : KeyboardState} → k ≡ keyboard_at side x.state
+      pub written : ends2_3_21 (said_call x.answer) ≡ false → {k : KeyboardState} → k ≡ keyboard_at side x.state
           → {us : List ℕ} → (us ≡ with_keyboard_at (keyboard_from side) k ws) × Narrow k
           → {ws' : List ℕ} → (ws' ≡ with_event ((state.start + state.count) % 128) x.state (said_event x.event) us) × (reread (said_event x.event) ≡ said_event x.event)
           → SideHandled side ws s l (record { refusal = refusal; lamps = lamps; used = x.used; pairs = x.pairs; dropped = x.dropped; port = port }) ws' l'

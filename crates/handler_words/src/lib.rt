@@ -1,7 +1,7 @@
 // The keyboard handler's record lent as numbers, and changed where it lies: a call reads the state's numbers and writes those that change, and of the places one at most.
 #![tactic(auto)]
 
-ghost use Rattle.std.specs.Prelude.{true, ◌||◌, ◌≡◌, ◌++◌, eqb, set, ◌+◌, ◌*◌, ◌%◌, ◌/◌, ◌<◌, ◌≤◌};
+ghost use Rattle.std.specs.Prelude.{true, ◌≡◌, ◌++◌, set, ◌+◌, ◌*◌, ◌%◌, ◌/◌, ◌<◌, ◌≤◌};
 ghost use Rattle.std.proofs.Math.Option.{some};
 ghost use Rattle.keyboard_scancodes.specs.declared.Profile.{Profile};
 ghost use Rattle.keyboard_scancodes.specs.Events.{is_known, event_of};
@@ -22,7 +22,7 @@ ghost use Rattle.handler_words.specs.Calls.{refusing, with_keyboard_at, with_sid
 ghost use Rattle.handler_words.specs.Parts.{said_table, InTwo, Narrow, Placed, reread, Says, FromScript, KeyAlone, followed_by, byte_used, PlainKey, KeyQueued, KeyHandled};
 
 use argument_words::MEANS_NOTHING;
-use keyboard::{HandlerAnswer, HandlerRefusal, effect_of, number_of};
+use keyboard::{HandlerAnswer, HandlerRefusal, effect_of, leaves_as_passed, number_of};
 use keyboard_modifiers::KeyboardModifiers;
 use keyboard_record::{HandlerState, Keyboards, NoRoom, QUEUE_LENGTH, Table};
 use keyboard_scancodes::{
@@ -225,6 +225,7 @@ fn put_event(words: &mut Words, place: usize, left: HandlerState, event: KeyEven
 }
 
 // Stores the new event, if there is one, in the first place behind those that waited.
+// Kept as two numbers, no plainer: of the state before the call nothing else is asked.
 fn put_new(
     words: &mut Words,
     start: usize,
@@ -239,14 +240,6 @@ fn put_new(
         let place = (start + count) % QUEUE_LENGTH;
         put_event(words, place, left, new);
     }
-}
-
-// The numbers after which a record is as it was passed.
-// Kept as numbers, no plainer: the answer is C's number by then, and document 01 names these three by number.
-fn is_as_passed(refusal: u32) -> bool
-    ensures { result ≡ eqb refusal 2 || (eqb refusal 3 || eqb refusal 21) }
-{
-    matches!(refusal, 2 | 3 | 21)
 }
 
 // The number of a lamp exchange that failed, and 0 where none did.
@@ -267,6 +260,7 @@ fn port_lacked(answer: HandlerAnswer) -> u32
 }
 
 // The number of a place that holds the event of a key's byte, by the byte itself.
+// Kept beside `event_word`, no plainer: the quick ways take a byte's number and look up no keycode.
 fn key_word(scan_code: u8, modifiers: KeyboardModifiers) -> u64
     requires { is_known scan_code ≡ true }
     ensures { (result ≡ word_of (event_of scan_code modifiers.bits)) × (event_at result ≡ event_of scan_code modifiers.bits) }
@@ -330,7 +324,7 @@ fn followed(modifiers: KeyboardModifiers) -> KeyboardState
 }
 
 // A call that is refused before anything is read.
-fn refused(refusal: u32) -> HandledWords
+pub fn refusing_words(refusal: u32) -> HandledWords
     ensures { result ≡ refusing refusal }
 {
     HandledWords {
@@ -349,7 +343,7 @@ fn byte_used(refusal: u32) -> HandledWords
 {
     HandledWords {
         used: 1,
-        ..refused(refusal)
+        ..refusing_words(refusal)
     }
 }
 
@@ -360,7 +354,7 @@ fn handle_key(words: &mut Words, side: Side, script: &[u8]) -> HandledWords
 {
     let state = state_in(words);
     if !state.call_formed(side) {
-        return refused(21);
+        return refusing_words(21);
     }
     let scan_code = script[0];
     let modifiers = modifiers_after(Profile::Any, state.keyboard_at(side), scan_code);
@@ -389,16 +383,15 @@ fn handle_side(words: &mut Words, side: Side, script: &[u8], log: &mut [u8]) -> 
     }
     let state = state_in(words);
     let effect = effect_of(state, side, script, log);
-    let refusal = u32::from(number_of(effect.answer));
     let handled = HandledWords {
-        refusal,
+        refusal: u32::from(number_of(effect.answer)),
         lamps: lamps_number(effect.lamps_failed),
         used: effect.used,
         pairs: effect.pairs,
         dropped: effect.dropped,
         port: port_lacked(effect.answer),
     };
-    if is_as_passed(refusal) {
+    if leaves_as_passed(effect.answer) {
         return handled;
     }
     put_keyboard(words, side, effect.state.keyboard_at(side));
@@ -438,7 +431,7 @@ pub fn handle_at(words: &mut [u64], side: Side, script: &[u8], log: &mut [u8]) -
     ensures { AtSide (some side) words.old script.now log.old result words.new log.new }
 {
     let Some(words) = words.as_mut_array() else {
-        return refused(21);
+        return refusing_words(21);
     };
     if is_plain_key(words, side, script) {
         return handle_plain(words, side, script);
@@ -451,7 +444,7 @@ pub fn handle_words(words: &mut [u64], side: u32, script: &[u8], log: &mut [u8])
     ensures { WordsHandled words.old side script.now log.old result words.new log.new }
 {
     let Some(words) = words.as_mut_array() else {
-        return refused(match side {
+        return refusing_words(match side {
             1 | 2 => 21,
             _ => MEANS_NOTHING,
         });
@@ -470,7 +463,7 @@ pub fn handle_words(words: &mut [u64], side: u32, script: &[u8], log: &mut [u8])
             }
             handle_side(words, Side::Second, script, log)
         }
-        _ => refused(MEANS_NOTHING),
+        _ => refusing_words(MEANS_NOTHING),
     }
 }
 
@@ -554,6 +547,7 @@ pub fn take_words(words: &mut [u64]) -> TakenWords
 }
 
 // The table with these keyboards that a profile's number makes, if any.
+// Kept a `match`, as above: the kinds are other crates'; here other numbers are none.
 fn laid_with(keyboards: Keyboards, profile: u32) -> Option<Table>
     ensures { said_table result ≡ laid_with keyboards profile }
 {

@@ -12,7 +12,7 @@ ghost use Rattle.buffer.specs.Buffer.{Holds};
 ghost use Rattle.buffer.specs.Writer.{Puts};
 
 use buffer::Writer;
-use keyboard::{HandlerAnswer, HandlerRefusal, handle};
+use keyboard::{HandlerAnswer, handle, leaves_as_passed};
 use keyboard_record::{KeyboardHandler, Keyboards, Table, TakenEvent, take_event};
 use keyboard_scancodes::Profile;
 use keyboard_sides::Side;
@@ -68,17 +68,7 @@ fn call_once(handler: &mut KeyboardHandler, script: &[u8], out: &mut Writer<'_>)
     *handler = taken.handler;
     put_refusal(out, call.answer);
     put_taken(out, taken.event);
-    (!is_last(call.answer)).then_some(call.used)
-}
-
-// Whether no call follows one that is answered so.
-fn is_last(answer: HandlerAnswer) -> bool
-    ensures { result ≡ ends2_3_21 (said_call answer) }
-{
-    matches!(
-        answer,
-        Err(HandlerRefusal::Lacking(_) | HandlerRefusal::MalformedRecord)
-    )
+    (!leaves_as_passed(call.answer)).then_some(call.used)
 }
 
 // Kept functions, here and below, no plainer: a crate writes no `Display` for the types of other crates, and printed text is a string on the heap.
@@ -98,9 +88,8 @@ fn put_refusal(out: &mut Writer<'_>, answer: HandlerAnswer)
 fn put_taken(out: &mut Writer<'_>, event: TakenEvent)
     ensures { Puts (taken_line (said_taken event)) out.old out.new }
 {
-    match event {
-        Ok(Some(taken)) => put_event(out, taken.event),
-        Ok(None) | Err(_) => {}
+    if let Ok(Some(taken)) = event {
+        put_event(out, taken.event);
     }
 }
 
@@ -139,7 +128,7 @@ fn put_character(out: &mut Writer<'_>, character: Option<u8>)
 }
 
 // Puts a byte's number in decimal.
-// Kept in this and the next three, no plainer: printed text is a string on the heap, and a crate that prints into a buffer has no capital digits and wants a law that its text is `decimal`.
+// Kept in this and the next three, no plainer: printed text is a string on the heap; the crate itoa prints decimal alone, and its law is of std's `decimal`.
 fn put_decimal(out: &mut Writer<'_>, n: u8)
     ensures { Puts (decimal n) out.old out.new }
 {
@@ -153,6 +142,7 @@ fn put_decimal(out: &mut Writer<'_>, n: u8)
 }
 
 // Puts a byte as two hexadecimal digits.
+// Kept as two, this and the next, no plainer: one with the count is a loop with an invariant.
 fn put_two_digits(out: &mut Writer<'_>, byte: u8)
     ensures { Puts (digits 16 2 byte) out.old out.new }
 {

@@ -13,7 +13,7 @@ ghost use Rattle.keyboard.specs.Byte.{after_lamps, on_byte, key_call, key_effect
 ghost use Rattle.exchange.specs.Answer.{number_ended};
 ghost use Rattle.ps2_answers.specs.Answers.{ended, used_of};
 ghost use Rattle.keyboard_record.specs.Queue.{said_room};
-ghost use Rattle.keyboard.specs.Answers.{said_call, said_lamps};
+ghost use Rattle.keyboard.specs.Answers.{said_call, said_lamps, ends2_3_21};
 ghost use Rattle.keyboard.specs.KeyboardLamps.{port_of, port_rules, keyboard_lamps};
 ghost use Rattle.keyboard.specs.Handler.{effects, log_left, handled};
 ghost use Rattle.keyboard.specs.Outcomes.{call_answer, said_key_effect, said_effect, said_handled, key_effects_of, on_key, PlaysOn, Takes};
@@ -48,7 +48,7 @@ pub enum HandlerRefusal {
 // How a handler call ends.
 pub type HandlerAnswer = Result<(), HandlerRefusal>;
 
-// Kept beside the answer, no plainer: which bytes still wait is told with a lack too.
+// Kept beside the answer, no plainer: a read's answer goes out as it came, and as `Answer<(u8, KeptBytes)>` would be built again, of two values without their names.
 // The byte that a call takes, or that there is none; the script bytes used for it; and the bytes that still wait.
 #[derive(Clone, Copy)]
 struct TakenByte {
@@ -56,7 +56,7 @@ struct TakenByte {
     answer: Answer<u8>,
 }
 
-// `used` and `pairs` stand beside each answer in the next five, a rule of the project: document 01 has every answer give them; and the fields that these share are kept in each, no plainer: one within another, each would be read by two names.
+// `used` and `pairs` stand beside each answer in the next four, a rule of the project: document 01 has every answer give them; and the fields that these share are kept in each, no plainer: one within another, some twenty readings would have two names, and only `call_answer` would go.
 // Kept in this and the next three: `lamps_failed` is document 01's 14, shown beside the answer and not in its place; and event and answer stand apart, since the two in one `Result` measured slower.
 // What a call gives back for its keyboard: the event that its byte gives; where it gives none, the answer. A lamp exchange that failed, document 01's 14, is shown beside the answer, and so is the number of the bytes that it threw away and that found no place to wait.
 #[derive(Clone, Copy)]
@@ -144,6 +144,16 @@ pub fn number_of(answer: HandlerAnswer) -> u8
     }
 }
 
+// Whether the record is as it was passed after a call that is answered so: after 2, 3 and 21.
+pub fn leaves_as_passed(answer: HandlerAnswer) -> bool
+    ensures { result ≡ ends2_3_21 (said_call answer) }
+{
+    matches!(
+        answer,
+        Err(HandlerRefusal::Lacking(_) | HandlerRefusal::MalformedRecord)
+    )
+}
+
 // A call refuses an event as the queue does.
 impl From<NoRoom> for HandlerRefusal {
     ghost from_gives = { λ full refusal. said_call (Err refusal) ≡ yields (said_room (Err full)) };
@@ -215,6 +225,7 @@ fn take_byte(waiting: WaitingBytes, script: &[u8]) -> TakenByte
 }
 
 // What follows a scancode's lamp exchange, which used and wrote this much, with the bytes that come to wait.
+// Kept as a flag and two counts, no plainer: they come of an exchange made at once, one that ended, one that failed, and none.
 fn after_lamps(
     kept: KeptBytes,
     scan_code: u8,

@@ -14,7 +14,7 @@ use Rattle.handler_words.proofs.handle_key.Goals.{Else-not-call_formed}
 pub returns-then-not-call_formed : goal.returns-then-not-call_formed
 returns-then-not-call_formed c =
     let a = c.args in
-    malformed_alone a.side a.words.now a.script.now (rw c.state_in-state.ensures at (sym c.call_formed.ensures ∙ not-true _ (ap not c.if-not-call_formed.true))) c.refused.ensures
+    malformed_alone a.side a.words.now a.script.now (rw c.state_in-state.ensures at (sym c.call_formed.ensures ∙ not-true _ (ap not c.if-not-call_formed.true))) c.refusing_words.ensures
 
 -- past the first question the record is well formed
 well : (c : Else-not-call_formed) → let a = c.args in call_formed a.side (state_of a.words.now) ≡ true

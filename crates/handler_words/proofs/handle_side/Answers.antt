@@ -8,11 +8,11 @@ use Rattle.handler_words.proofs.handle_side.Goals as goal
 pub returns-then-is_key_alone : goal.returns-then-is_key_alone
 returns-then-is_key_alone c = c.handle_key.ensures.with_any _
 
-pub returns-then-is_as_passed : goal.returns-then-is_as_passed
-returns-then-is_as_passed c =
+pub returns-then-leaves_as_passed : goal.returns-then-leaves_as_passed
+returns-then-leaves_as_passed c =
     let a = c.args in
-    left_alone a.side a.words.now a.script.now a.log.now c.effect_of-effect.result c.state_in-state.ensures c.effect_of-effect.ensures (c.from-refusal.ensures ∙ c.number_of.ensures) c.lamps_number.ensures c.port_lacked.ensures
-    (sym c.is_as_passed.ensures ∙ c.if-is_as_passed.true)
+    left_alone a.side a.words.now a.script.now a.log.now c.effect_of-effect.result c.state_in-state.ensures c.effect_of-effect.ensures (c.from.ensures ∙ c.number_of.ensures) c.lamps_number.ensures c.port_lacked.ensures
+    (sym c.leaves_as_passed.ensures ∙ c.if-leaves_as_passed.true)
 
 pub put_new-requires : goal.put_new-requires
 put_new-requires c =
@@ -22,5 +22,5 @@ put_new-requires c =
 pub returns : goal.returns
 returns c =
     let a = c.args in
-    written a.side a.words.now a.script.now a.log.now c.effect_of-effect.result c.state_in-state.ensures c.effect_of-effect.ensures (c.from-refusal.ensures ∙ c.number_of.ensures) c.lamps_number.ensures c.port_lacked.ensures c.told-words
-    (sym c.is_as_passed.ensures ∙ c.if-is_as_passed.false) c.keyboard_at.ensures c.put_keyboard.ensures c.put_new.ensures
+    written a.side a.words.now a.script.now a.log.now c.effect_of-effect.result c.state_in-state.ensures c.effect_of-effect.ensures (c.from.ensures ∙ c.number_of.ensures) c.lamps_number.ensures c.port_lacked.ensures c.told-words
+    (sym c.leaves_as_passed.ensures ∙ c.if-leaves_as_passed.false) c.keyboard_at.ensures c.put_keyboard.ensures c.put_new.ensures
