@@ -12,12 +12,13 @@ ghost use Rattle.dispatcher_words.specs.Parts.{unserved, SideServed, MouseServed
 
 use argument_words::{MEANS_NOTHING, identity_of};
 use dispatcher::{Source, Waits, keyboard_waits, mouse_waits, start};
-use handler_words::{HANDLER_WORDS, HandledWords, fresh_words, handle_at};
+use handler_words::{HANDLER_WORDS, HandledWords, fresh_words, handle_at, refusing_words};
 use keyboard_sides::Side;
 use port_words::{PacketWords, packet_words, refusing_packet_words};
 use ps2_bytes::MouseId;
 use ps2_packet_reading::read_signed_packet;
 
+// Kept as places of numbers, C's interface: C lends a dispatcher as 149 of them.
 // How many bytes of either side wait, in the handler's record.
 const FIRST_WAITING_AT: usize = 2;
 
@@ -197,14 +198,7 @@ fn no_call(refusal: u32) -> StepWords
     StepWords {
         refusal,
         source: 0,
-        call: HandledWords {
-            refusal: 0,
-            lamps: 0,
-            used: 0,
-            pairs: 0,
-            dropped: 0,
-            port: 0,
-        },
+        call: refusing_words(0),
         packet: refusing_packet_words(0),
     }
 }
