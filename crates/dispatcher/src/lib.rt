@@ -104,7 +104,7 @@ impl<T: Copy> Each<T> {
 
 impl Waits {
     // Whom a step serves: the first that waits, going round from the one after the last served.
-    // Kept as three tests, no plainer: a `find` over an array of the three sources would be as long.
+    // Kept as three tests, tried: as a `find` over an array of the three sources `returns` stayed open, and so did a `find` in a function of its own.
     pub fn serves(self, last: Option<Source>) -> Option<Source>
         ensures { result ≡ served (wait_in self) last }
     {
@@ -257,7 +257,7 @@ impl Dispatcher {
         }
     }
 
-    // Kept as three scripts, here and in a step, C's interface: C lends each source's by itself.
+    // Kept as three scripts, here and in a step, no plainer: each caller holds three slices, and an `Each` of them would be built for one call.
     // Which sources wait.
     pub fn waits(self, first: &[u8], second: &[u8], third: &[u8]) -> Waits
         ensures { (source : Source) → wait_in result source ≡ waits_now self (scripts first.now second.now third.now) source }

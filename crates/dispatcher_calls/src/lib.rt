@@ -13,7 +13,7 @@ use keyboard_record::{KeyboardHandler, Keyboards, Table};
 use keyboard_scancodes::Profile;
 use ps2_mouse::PS2Mouse;
 
-// Kept as three scripts and a log, here and below, a rule of the project: a step takes them so.
+// Kept as three scripts and a log, here and below, no plainer: a step takes them so, and the program that calls holds three slices.
 // A step, whatever it answers.
 fn one_step(
     state: Dispatcher,

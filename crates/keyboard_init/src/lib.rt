@@ -15,6 +15,7 @@ use ps2_detect::keyboard_detect;
 use ps2_keyboard::set_keyboard_scancode_set;
 
 // The handler's record, which is good where the answer is that all was done.
+// Kept beside the answer, a rule of the project: a function promises what it promised, and this one a fresh record after a refusal too.
 #[derive(Clone, Copy)]
 pub struct KeyboardInitialized {
     pub answer: Answer<()>,
