@@ -21,7 +21,7 @@ use Rattle.ps2_answers.specs.Answers.{ended, outcome_of}
 use Rattle.ps2_answers.proofs.Forgiving.{said, outcome, lacked}
 use Rattle.ps2_mouse.specs.Mouse.{mouse_id}
 use Rattle.ps2_mouse_identity.specs.Identity.{set_rates, identity_after, wheel_rates, button_rates, read_id, read_or, second_identity, after_first}
-use Rattle.ps2_mouse_identity.specs.Answers.{forgiven_as}
+use Rattle.ps2_mouse_identity.specs.Answers.{identity_brought}
 
 module _ (rates : List MouseSampleRate) (g : Option MouseId → Exchange (Answer MouseId)) (h : Answer MouseId → Exchange (Answer MouseId))
     (same : (a : Answer MouseId) → g (read_id a) ≡ h a) where
@@ -46,10 +46,10 @@ module _ (r : Result (Counted MouseId) (Counted Refusal)) where
   read_said (Ok id) = refl
   read_said (Err f) = refl
 
-  pub asked_end : (x : Counted (Result MouseId Failure)) → Ok x ≡ outcome_of r → {id : Option MouseId} → id ≡ result_ok x.value → yields (gives id) ≡ forgiven_as (ended r)
+  pub asked_end : (x : Counted (Result MouseId Failure)) → Ok x ≡ outcome_of r → {id : Option MouseId} → id ≡ result_ok x.value → yields (gives id) ≡ identity_brought (ended r)
   asked_end x q p = rw (p, (outcome r x q).end, read_said x.value) refl
 
-  pub asked_lacks : (e : Counted Refusal) → Err e ≡ outcome_of r → refused e.value ≡ forgiven_as (ended r)
+  pub asked_lacks : (e : Counted Refusal) → Err e ≡ outcome_of r → refused e.value ≡ identity_brought (ended r)
   asked_lacks e q = let k = lacked r e q in rw (k.is, k.lacking) refl
 
 -- ---- after the first

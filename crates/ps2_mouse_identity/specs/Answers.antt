@@ -17,5 +17,5 @@ abbrev pub said_mouse : Result (Counted Success) (Counted Refusal) → PS2Mouse 
 said_mouse answer mouse = told_end (λ a. left a mouse) (ended answer)
 
 -- What asking for an identity brought: "A failed first identity is forgiven", and brought none; "2 and 3 are .. forgiven by nothing". That none leaves the old one, `after_first` and `read_or` say.
-abbrev pub forgiven_as : End (Answer MouseId) → End (Answer (Option MouseId))
-forgiven_as asked = told_end (λ id. gives (read_id id)) asked
+abbrev pub identity_brought : End (Answer MouseId) → End (Answer (Option MouseId))
+identity_brought asked = told_end (λ id. gives (read_id id)) asked

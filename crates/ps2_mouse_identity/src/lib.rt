@@ -7,7 +7,7 @@ ghost use Rattle.exchange.specs.Answer.{gives, and_then};
 ghost use Rattle.ps2_answers.specs.Answers.{ended, used_of, pairs_of, told, PlaysLeftTold};
 ghost use Rattle.ps2_mouse.specs.Mouse.{mouse_id as mouse_id_rule};
 ghost use Rattle.ps2_mouse_identity.specs.Identity.{set_rates, identity_after, wheel_rates, button_rates, second_identity, after_first, new_identity, start_packets, set_mouse_id};
-ghost use Rattle.ps2_mouse_identity.specs.Answers.{said_mouse, forgiven_as};
+ghost use Rattle.ps2_mouse_identity.specs.Answers.{said_mouse, identity_brought};
 
 use ps2_answers::{Answer, Counted, Failure, Refusal, outcome};
 use ps2_bytes::{MouseId, MouseSampleRate};
@@ -123,7 +123,7 @@ fn identity_after(
 // A failure is no identity; a lack is not forgiven.
 // Kept beside `tried` of ps2_setup, no plainer: each is two lines over `outcome`, and its callers want a `bool` there.
 fn forgiven(asked: Answer<MouseId>) -> Answer<Option<MouseId>>
-    ensures end { ended result ≡ forgiven_as (ended asked) }
+    ensures end { ended result ≡ identity_brought (ended asked) }
     ensures used { used_of result ≡ used_of asked }
     ensures pairs { pairs_of result ≡ pairs_of asked }
 {

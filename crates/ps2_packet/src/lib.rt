@@ -213,7 +213,7 @@ pub enum MousePacket {
     Four(MousePacket4),
 }
 
-// Each stands beside the generic part's, a rule of the project: the Rust's names; each is one line over it.
+// The generic part's accessors stand here too, a rule of the project: the Rust's names; each is one line over it.
 impl MousePacket {
     pub fn generic_part(self) -> MousePacketGeneric
         ensures { result ≡ common self }

@@ -12,7 +12,7 @@ ghost use Rattle.ps2_answers.specs.Answers.{ended, used_of, pairs_of, told, Read
 ghost use Rattle.ps2_kept.specs.Kept.{keeping_thrown};
 ghost use Rattle.ps2_kept.specs.Added.{keeping_onto};
 ghost use Rattle.ps2_kept.specs.Promises.{told_kept, ReadsKeptTold, PlaysKeptTold};
-ghost use Rattle.ps2_polling.specs.Polling.{poll_limit, polling_send, poll_data, turn_of, passed_turn, polling_receive, polling_send_receive, controller_test_result, test_controller, port_test_result, test_port, polled};
+ghost use Rattle.ps2_polling.specs.Polling.{polling_send, poll_data, turn_of, passed_turn, polling_receive, polling_send_receive, controller_test_result, test_controller, port_test_result, test_port, polled};
 
 use ps2_answers::{Answer, Counted, Failure, Refusal};
 use ps2_bytes::{DeviceToHostResponse, HostToControllerCommand, HostToDevice, WritableData};

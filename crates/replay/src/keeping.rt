@@ -1,5 +1,5 @@
 // A call that hands back the bytes that it threw away, by numbers.
-use crate::calls::{command, completed, received};
+use crate::calls::{command_told, completed, received};
 use packed_calls::{Instruction, NO_CALL, Outcome, ending, put_answer};
 use ps2_kept::KeptBytes;
 use ps2_polling::polling_receive;

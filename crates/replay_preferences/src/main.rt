@@ -35,9 +35,5 @@ fn main(rt: HostRuntime) {
         log: [0; LOG_SPACE],
     };
     // A stream that fails ends the replay, as the end of the input does: the failure is told nowhere, and the status is 0.
-    let _ = replay(
-        &mut applications,
-        &mut rt.stdin(),
-        &mut rt.stdout(),
-    );
+    let _ = replay(&mut applications, &mut rt.stdin(), &mut rt.stdout());
 }
