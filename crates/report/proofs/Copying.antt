@@ -11,13 +11,12 @@ use Rattle.report_totals.specs.Keys.{key_count, for_each_key}
 use Rattle.report_totals.proofs.Keys.{keys_are}
 
 pub record Copying (counts : List ℕ) (i : ℕ) (all : List ℕ) : Type 0 where
-  pub within : i ≤ key_count
   pub long : length all ≡ key_count
   pub at : (k : ℕ) → k < i → get_or all k 0 ≡ get_or counts k 0
 
 module _ {counts : List ℕ} {i : ℕ} {all : List ℕ} (c : Copying counts i all) where
   pub copying_goes : (n : ℕ) → i < key_count → n ≡ get_or counts i 0 → Copying counts (i + 1) (set all i n)
-  copying_goes n h e = record { within = omega arith; long = simp length-set c.long; at = λ k l. entry k l (ℕ_discrete k i) }
+  copying_goes n h e = record { long = simp length-set c.long; at = λ k l. entry k l (ℕ_discrete k i) }
     where
       entry : (k : ℕ) → k < i + 1 → Dec (k ≡ i) → get_or (set all i n) k 0 ≡ get_or counts k 0
       entry k l (yes p) = rw p (get_or-set_same all i n 0 (rw c.long h) ∙ e)

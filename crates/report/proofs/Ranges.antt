@@ -67,7 +67,6 @@ in_range_lem l t e =
 -- ---- counts that are being added
 
 pub record Adding (most : ℕ) (old more : List ℕ) (i : ℕ) (counts : List ℕ) : Type 0 where
-  pub within : i ≤ key_count
   pub long : length counts ≡ key_count
   pub at : (k : ℕ) → k < i → get_or counts k 0 ≡ get_or old k 0 + get_or more k 0
   pub fit : (k : ℕ) → k < i → get_or old k 0 + get_or more k 0 ≤ most

@@ -36,14 +36,12 @@ unfolding presses
 presses_none key codes i h = let e : drop i codes ≡ [] = drop_of_length-le codes h in rw e
 
 pub record Counting (codes : List ℕ) (i : ℕ) (counts : List ℕ) : Type 0 where
-  pub within : i ≤ length codes
   pub long : length counts ≡ key_count
   pub at : (key : ℕ) → key < key_count → get_or counts key 0 + presses key (drop i codes) ≡ presses key codes
 
 pub counting_begins : (codes : List ℕ) → Counting codes 0 (replicate 94 0)
 counting_begins codes =
     record {
-      within = omega arith;
       long = length-replicate {A = ℕ} 94 0;
       at = λ key h. rw (get_or-replicate {A = ℕ} 94 key 0 0 h) (omega arith);
     }
@@ -73,7 +71,6 @@ module _ {codes : List ℕ} {i : ℕ} {counts : List ℕ} (c : Counting codes i 
   pub counting_press : (key : ℕ) → i < length codes → key ≡ get_or codes i 0 → key < key_count → Counting codes (i + 1) (set counts key (get_or counts key 0 + 1))
   counting_press key l e h =
       record {
-        within = omega arith;
         long = simp length-set c.long;
         at = λ k b. counted key h l k b e (ℕ_discrete k key);
       }
@@ -81,7 +78,6 @@ module _ {codes : List ℕ} {i : ℕ} {counts : List ℕ} (c : Counting codes i 
   pub counting_other : (key : ℕ) → i < length codes → key ≡ get_or codes i 0 → key_count ≤ key → Counting codes (i + 1) counts
   counting_other key l e h =
       record {
-        within = omega arith;
         long = c.long;
         at =
             λ k b.

@@ -78,7 +78,6 @@ ahead id {i = i} {len} e h =
 
 pub record Summing (id : MouseId) (bytes : List ℕ) (at packets : ℕ) (x y : ℤ) : Type 0 where
   pub within : at ≤ length bytes
-  pub few : packets ≤ at
   pub counted : packets + length (packets_of id (drop at bytes)) ≡ length (packets_of id bytes)
   pub x_sum : Sum x_movement id bytes at x
   pub y_sum : Sum y_movement id bytes at y
@@ -89,7 +88,6 @@ module _ {id : MouseId} {bytes : List ℕ} {at packets : ℕ} {x y : ℤ} (u : S
   summing_goes fit h =
       record {
         within = h;
-        few = omega (arith, length_low id);
         counted = omega (arith, ap length (next_packet id bytes at h).more, u.counted);
         x_sum = sum_goes u.x_sum x_small fit h;
         y_sum = sum_goes u.y_sum y_small fit h;

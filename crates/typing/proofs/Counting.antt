@@ -61,7 +61,6 @@ module _ (c : ℕ) (text : List ℕ) where
 -- ---- up to a place
 
 pub record Counting (text : List ℕ) (i n : ℕ) : Type 0 where
-  pub within : i ≤ length text
   pub few : n ≤ i
   pub all : count_of (keys_of text) ≡ plus n (count_of (keys_of (drop i text)))
 
@@ -78,7 +77,6 @@ module _ {text : List ℕ} {i n : ℕ} (h : Counting text i n) (l : i < length t
   counting_by : (m : ℕ) → m ≤ 1 → count_of (keys_of (get_or text i 0 ∷ drop (i + 1) text)) ≡ plus m (count_of (keys_of (drop (i + 1) text))) → Counting text (i + 1) (n + m)
   counting_by m s e =
       record {
-        within = omega arith;
         few = omega (arith, h.few);
         all = h.all ∙ ap (λ (t : List ℕ). plus n (count_of (keys_of t))) next ∙ ap (plus n) e ∙ plus-plus n m (count_of (keys_of (drop (i + 1) text)));
       }
