@@ -43,7 +43,6 @@ code_refused c others room e = rw e
 pub record Reached (stream before : List ℕ) (used written : ℕ) (out : List ℕ) : Type 0 where
   pub used_le : used ≤ length stream
   pub written_le : written ≤ length out
-  pub same : length out ≡ length before
   pub all : convert_stream stream (length before) ≡ behind used (take written out) (convert_stream (drop used stream) (length before - written))
   pub rest : drop written out ≡ drop written before
 
@@ -62,16 +61,15 @@ module _ {stream before out : List ℕ} {used written : ℕ} (h : Reached stream
 
   -- one code more, which has w bytes
   pub reached_more : (c : Code) {w b : ℕ} → width c ≡ w → codes (drop used stream) ≡ c ∷ codes (drop (used + w) stream) → becomes c ≡ gives b
-      → written < length out → used + w ≤ length stream → Reached stream before (used + w) (written + 1) (set out written b)
-  reached_more c {w} {b} v e q l u =
+      → length out ≡ length before → written < length out → used + w ≤ length stream → Reached stream before (used + w) (written + 1) (set out written b)
+  reached_more c {w} {b} v e q same l u =
       let left = length before - (written + 1) in
-      let room : length before - written ≡ suc left = omega (arith, h.same) in
+      let room : length before - written ≡ suc left = omega arith in
       let others = drop (used + w) stream in
       let front : take written out ++ (b ∷ []) ≡ take (written + 1) (set out written b) = sym (rw (add-one written) (take-suc-set out written b l)) in
       record {
         used_le = u;
         written_le = simp length-set (omega arith);
-        same = simp length-set h.same;
         all =
             h.all
             ∙ ap (behind used (take written out)) (ap₂ convert_codes e room ∙ code_written c (codes others) left q)
@@ -127,6 +125,6 @@ module _ {stream : List ℕ} {used byte bytes : ℕ} (h : Stands stream used byt
     pub stop_23 : (room : ℕ) → room ≡ 0 → convert_stream (drop used stream) room ≡ ends (refuses 23)
     stop_23 room z = ap₂ convert_codes h.is z ∙ code_full h.code others becomes_byte
 
-    pub goes_on : {before out : List ℕ} {written : ℕ} → Reached stream before used written out → written < length out
+    pub goes_on : {before out : List ℕ} {written : ℕ} → Reached stream before used written out → length out ≡ length before → written < length out
         → Reached stream before (used + bytes) (written + 1) (set out written byte)
-    goes_on r w = reached_more r h.code h.wide h.is becomes_byte w h.within
+    goes_on r same w = reached_more r h.code h.wide h.is becomes_byte same w h.within

@@ -38,14 +38,13 @@ returns-then-byte-eq-NO_ENTRY c = reached_end c.loop-used.invariant (stop_22 (st
 -- a full output
 pub returns-then-out-written : goal.returns-then-out-written
 returns-then-out-written c =
-    let r = c.loop-used.invariant in
-    reached_end r (stop_23 (stands (goal.at.returns-then-out-written c).After-row_known-1) (λ e. omega (arith, e)) _ (omega (arith, r.same)))
+    reached_end c.loop-used.invariant (stop_23 (stands (goal.at.returns-then-out-written c).After-row_known-1) (λ e. omega (arith, e)) _ (omega arith))
 
 pub loop-used-preserved : goal.loop-used-preserved
 loop-used-preserved c =
     let l = c.loop-used in
     let s = stands (goal.at.loop-used-preserved c).After-row_known-1 in
-    so_far (omega (arith, s.some_bytes)) (goes_on s c.if-byte-eq-NO_ENTRY.false l.invariant c.if-out-written.false)
+    so_far (omega (arith, s.some_bytes)) (goes_on s c.if-byte-eq-NO_ENTRY.false l.invariant (omega arith) c.if-out-written.false)
 
 pub returns : goal.returns
 returns c = reached_end c.loop-used.invariant (stop_done _ _ _ c.loop-used-test.false)
