@@ -6,13 +6,11 @@ use Rattle.keyboard_calls.proofs.Calls.{none_called, one_more_called, all_called
 use Rattle.keyboard_calls.proofs.keyboard_calls_by_value.Goals as goal
 
 pub loop-init : goal.loop-init
-loop-init c = none_called _ _ _ _ _ (rw (sym c.table_of.ensures) c.fresh-handler.ensures)
+loop-init c = none_called _ _ _ _ (rw (sym c.table_of.ensures) c.fresh-handler.ensures)
 
 pub loop-preserved : goal.loop-preserved
 loop-preserved c =
-    one_more_called _ _ _ _ _ c.loop.invariant (omega arith) c.side_of-side.ensures c.call_by_value-handler.ensures.0 c.call_by_value-handler.ensures.1 c.call_by_value-handler.auto.log
+    one_more_called _ _ _ _ _ c.loop.invariant c.side_of-side.ensures c.call_by_value-handler.ensures.0 c.call_by_value-handler.ensures.1
 
 pub returns : goal.returns
-returns c =
-    let l = c.loop in
-    all_called _ _ _ _ _ l.invariant c.loop-test.false
+returns c = all_called _ _ _ _ c.loop.invariant (omega arith)

@@ -7,4 +7,4 @@ use Rattle.keyboard_calls.proofs.Calls.{Reached}
 use Rattle.keyboard_calls.proofs.keyboard_calls_by_value.Given as goal
 
 abbrev pub invariant-loop : goal.invariant-loop
-invariant-loop l = Reached (side_of l.second) l.script (fresh (table_of l.two)) l.initial.log l.times l.handler l.log l.counter
+invariant-loop l = Reached (side_of l.second) l.script (fresh (table_of l.two)) l.initial.log l.handler l.log l.counter

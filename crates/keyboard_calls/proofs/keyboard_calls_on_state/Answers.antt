@@ -7,13 +7,11 @@ use Rattle.keyboard_calls.proofs.Calls.{none_called_on, one_more_called_on, all_
 use Rattle.keyboard_calls.proofs.keyboard_calls_on_state.Goals as goal
 
 pub loop-init : goal.loop-init
-loop-init c = none_called_on _ _ _ _ _ (rw (sym c.table_of.ensures) (ap (λ (h : KeyboardHandler). h.state) c.fresh.ensures))
+loop-init c = none_called_on _ _ _ _ (rw (sym c.table_of.ensures) (ap (λ (h : KeyboardHandler). h.state) c.fresh.ensures))
 
 pub loop-preserved : goal.loop-preserved
 loop-preserved c =
-    one_more_called_on _ _ _ _ _ c.loop.invariant (omega arith) c.side_of-side.ensures c.call_on_state-state.ensures.0 c.call_on_state-state.ensures.1 c.call_on_state-state.auto.log
+    one_more_called_on _ _ _ _ _ c.loop.invariant c.side_of-side.ensures c.call_on_state-state.ensures.0 c.call_on_state-state.ensures.1
 
 pub returns : goal.returns
-returns c =
-    let l = c.loop in
-    all_called_on _ _ _ _ _ l.invariant c.loop-test.false
+returns c = all_called_on _ _ _ _ c.loop.invariant (omega arith)

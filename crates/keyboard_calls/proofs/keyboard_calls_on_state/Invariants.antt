@@ -7,4 +7,4 @@ use Rattle.keyboard_calls.proofs.Calls.{StateReached}
 use Rattle.keyboard_calls.proofs.keyboard_calls_on_state.Given as goal
 
 abbrev pub invariant-loop : goal.invariant-loop
-invariant-loop l = StateReached (side_of l.second) l.script (fresh (table_of l.two)) l.initial.log l.times l.state l.log l.counter
+invariant-loop l = StateReached (side_of l.second) l.script (fresh (table_of l.two)) l.initial.log l.state l.log l.counter
