@@ -1,11 +1,11 @@
 -- A number's bytes, put into an output one after another.
 -- Assumes nothing.
 use mathlib.Core.Path.{◌≡◌, refl, sym, ap, ap₂, ◌∙◌}
-use mathlib.Core.List.{List, [], ◌∷◌, ◌++◌, append_assoc, append-nil}
+use mathlib.Core.List.{List, [], ◌∷◌, ◌++◌, append_assoc}
 use Prim.Native.Nat.{ℕ, zero, suc, ◌+◌, ◌^◌, ◌/◌, ◌%◌, ◌<◌, ◌≤◌}
 use native.Mathlib.Omega.{arith}
-use lib.ListN.{length, take, drop, set, length-append, length-set}
-use Rattle.std.proofs.lemmas.List.{length-take-le, take_more_set, take_all}
+use lib.ListN.{length, take, drop, set, length-append}
+use Rattle.std.proofs.lemmas.List.{length-take-le, take_more_set}
 use lib.Seq.{drop-drop}
 use borrow.Author.Tests.{le-leb, lt-leb}
 use borrow.Rule.Slice.PartMut.{put_mid}
@@ -24,14 +24,13 @@ pub record Putting (number : ℕ) (out : List ℕ) (left place : ℕ) : Type 0 w
   pub rest : List ℕ
   pub of_left : Left rest left
   pub same : take place out ++ rest ≡ coding number
-  pub long : length out ≡ length (coding number)
 
-pub putting_begins : (number : ℕ) (out : List ℕ) → number < 4294967296 → length out ≡ length (coding number) → Putting number out number 0
-putting_begins number out h l = record { rest = coding number; of_left = groups 4 (omega arith); same = refl; long = l }
+pub putting_begins : (number : ℕ) (out : List ℕ) → number < 4294967296 → Putting number out number 0
+putting_begins number out h = record { rest = coding number; of_left = groups 4 (omega arith); same = refl }
 
-module _ {number : ℕ} {out : List ℕ} {left place : ℕ} (p : Putting number out left place) where
+module _ {number : ℕ} {out : List ℕ} {left place : ℕ} (p : Putting number out left place) (long : length out ≡ length (coding number)) where
   rest_length : place ≤ length out → place + length p.rest ≡ length out
-  rest_length h = sym (ap (λ (k : ℕ). k + length p.rest) (length-take-le place out h)) ∙ sym (length-append (take place out) p.rest) ∙ ap length p.same ∙ sym p.long
+  rest_length h = sym (ap (λ (k : ℕ). k + length p.rest) (length-take-le place out h)) ∙ sym (length-append (take place out) p.rest) ∙ ap length p.same ∙ sym long
 
   -- the group that is put is the first of the rest
   put_first : (g left' : ℕ) (rest : List ℕ) → place < length out → p.rest ≡ g ∷ rest → Left rest left' → Putting number (set out place g) left' (place + 1)
@@ -44,7 +43,6 @@ module _ {number : ℕ} {out : List ℕ} {left place : ℕ} (p : Putting number 
             ∙ append_assoc (take place out) (g ∷ []) rest
             ∙ ap (λ (t : List ℕ). take place out ++ t) (sym e)
             ∙ p.same;
-        long = length-set out place g ∙ p.long;
       }
 
   pub putting_last : place < length out → left < 128 → Putting number (set out place left) (left / 128) (place + 1)
@@ -62,13 +60,6 @@ module _ {number : ℕ} {out : List ℕ} {left place : ℕ} (p : Putting number 
       by _ (groups zero f) e = absurd (omega arith)
       by _ (groups (suc k) f) e =
           put_first (left % 128 + 128) (left / 128) (coding_within (suc k) (left / 128)) h (e ∙ within_more (suc k) left l) (groups k (omega arith))
-
-  pub putting_ends : place ≡ length out → out ≡ coding number
-  putting_ends h = by p.rest refl
-    where
-      by : (r : List ℕ) → p.rest ≡ r → out ≡ coding number
-      by [] e = sym (append-nil out) ∙ sym (rw e at (ap (λ (t : List ℕ). t ++ p.rest) (take_all place out (omega arith)))) ∙ rw e at p.same
-      by (g ∷ r) e = absurd (omega (arith, rest_length (omega arith), ap length e))
 
 -- ---- with room and without
 
