@@ -8,13 +8,12 @@ use native.Mathlib.Omega.{arith}
 use Rattle.exchange.specs.Exchange.{Exchange, End, yields, lacks, told_end, Played, played, play}
 use Rattle.exchange.specs.Answer.{Answer}
 use Rattle.exchange.specs.Keeping.{Kept, kept_end}
-use Rattle.exchange.specs.Left.{Left, left, record_after}
+use Rattle.exchange.specs.Left.{Left, left}
 use Rattle.ps2_kept.specs.declared.KeptBytes.{KeptBytes}
 use Rattle.ps2_kept.specs.Kept.{kept_at}
 use Rattle.ps2_kept.specs.Promises.{PlaysKept}
 use Rattle.port_words.specs.declared.KeptWords.{KeptWords}
 use Rattle.port_words.specs.ToldKept.{kept_numbers, told_kept}
-use Rattle.port_words.specs.ToldLeft.{told_left}
 use Rattle.port_words.specs.Tells.{Tells, AtArgument}
 
 -- ---- a script and a log, and a script alone
@@ -38,19 +37,6 @@ module _ {A : Type 0} {t : Exchange (Kept KeptBytes (Answer A))} {script log l :
 told_left_lem : {X A : Type 0} (e : End (Answer A)) (x : X) → told_end (λ (v : Left X A). v.answer) (told_end (λ a. left a x) e) ≡ e
 told_left_lem (yields a) x = refl
 told_left_lem (lacks y) x = refl
-
-module _ {X A R : Type 0} (numbers : End (Answer A) → ℕ → ℕ → X → R) (passed : X) {t : Exchange (Left X A)} {x : X} {script log l : List ℕ} {u w : ℕ} {answer : R} where
-  pub tells_left : (e : End (Answer A)) → (played (told_end (λ a. left a x) e) u w l ≡ play t script log) × (x ≡ record_after passed (play t script log).end) → answer ≡ numbers e u w x
-      → Tells (told_left numbers passed) t script log answer l
-  tells_left e p q =
-      let o = play t script log in
-      record {
-        answered =
-            q ∙ ap (λ (d : End (Answer A)). numbers d u w x) (sym (told_left_lem e x))
-            ∙ ap (λ (y : Played (Left X A)). numbers (told_end (λ v. v.answer) y.end) y.used y.pairs x) p.0
-            ∙ ap (numbers (told_end (λ v. v.answer) o.end) o.used o.pairs) p.1;
-        logged = ap (λ (y : Played (Left X A)). y.log) p.0;
-      }
 
 -- ---- arguments
 
