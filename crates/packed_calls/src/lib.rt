@@ -203,18 +203,16 @@ fn read_part<R: Read>(
     Ok(repeat(script, from, end, i.times))
 }
 
-/// Hands a session every call of an input, with the script as it then stands.
-pub fn replay<S: Session, R: Read, W: Write>(
+// The same with the script's space, which the check doesn't look into here.
+// Kept a space with the number of its bytes that count, a rule of the format: a part of no bytes is filled with what its places held before.
+fn replay_in<S: Session, R: Read, W: Write>(
     session: &mut S,
     input: &mut R,
     out: &mut W,
+    script: &mut [u8; SCRIPT_SPACE],
 ) -> Result<()>
     ensures { OnOk result (HandedAll (S.handed session.old) u64.MAX (R.remaining input.old) (S.handed session.new)) }
 {
-    // Kept an array, no plainer: a `Vec` would have to be made and may fail. Kept a space with the number of its bytes that count, a rule of the format:
-    // a part of no bytes is filled with what its places held before.
-    let mut space = [0; SCRIPT_SPACE];
-    let script = &mut space[..];
     let mut bytes = 0;
     for _ in 0..u64::MAX {
         let i = take_instruction(input)?;
@@ -226,6 +224,18 @@ pub fn replay<S: Session, R: Read, W: Write>(
         }
     }
     Ok(())
+}
+
+/// Hands a session every call of an input, with the script as it then stands.
+pub fn replay<S: Session, R: Read, W: Write>(
+    session: &mut S,
+    input: &mut R,
+    out: &mut W,
+) -> Result<()>
+    ensures { OnOk result (HandedAll (S.handed session.old) u64.MAX (R.remaining input.old) (S.handed session.new)) }
+{
+    // Kept an array, no plainer: a `Vec` would have to be made and may fail.
+    replay_in(session, input, out, &mut [0; SCRIPT_SPACE])
 }
 
 // The calls themselves, in order.
