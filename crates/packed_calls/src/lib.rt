@@ -203,7 +203,7 @@ fn read_part<R: Read>(
     Ok(repeat(script, from, end, i.times))
 }
 
-// The same with the script's space, which the check doesn't look into here.
+// Hands a session every call of an input, as `replay` below does, in a space for the script that is lent: an array that it made itself the check would look into.
 // Kept a space with the number of its bytes that count, a rule of the format: a part of no bytes is filled with what its places held before.
 fn replay_in<S: Session, R: Read, W: Write>(
     session: &mut S,
