@@ -2,8 +2,9 @@
 #![tactic(auto)]
 
 ghost use Rattle.std.specs.Prelude.{List, ◌++◌, ◌≡◌, ℕ, ◌%◌, ◌<◌};
-ghost use Rattle.dispatcher.specs.Sources.{scripts, keyboard_waits, mouse_waits, waits_now};
+ghost use Rattle.dispatcher.specs.Sources.{scripts, script_of, keyboard_waits, mouse_waits, waits_now};
 ghost use Rattle.dispatcher.specs.Said.{wait_in};
+ghost use Rattle.dispatcher.specs.declared.Source.{Source};
 ghost use Rattle.dispatcher_words.specs.Layout.{place_at, dispatcher_length};
 ghost use Rattle.dispatcher_words.specs.Words.{identity_of, source_number, last_of, handler_in, place_in, dispatcher_of};
 ghost use Rattle.dispatcher_words.specs.Steps.{no_call, with_turn, StepMade};
@@ -191,6 +192,16 @@ fn serve_mouse(words: &mut [u64; DISPATCHER_WORDS], script: &[u8]) -> StepWords
     }
 }
 
+// The script of a side.
+fn side_script<'a>(side: Side, first: &'a [u8], second: &'a [u8]) -> &'a [u8]
+    ensures { (third : List ℕ) → result.now ≡ script_of (Source.Keyboard side) (scripts first.now second.now third) }
+{
+    match side {
+        Side::First => first,
+        Side::Second => second,
+    }
+}
+
 // A step that made no call.
 fn no_call(refusal: u32) -> StepWords
     ensures { result ≡ no_call refusal }
@@ -217,10 +228,11 @@ pub fn dispatcher_step(
         return no_call(21);
     };
     let waits = waits_in(lent, first, second, third);
-    // Kept a `match`, no plainer: whom a step serves is its answer too, and each arm lends another script.
+    // Kept a `match`, no plainer: whom a step serves is its answer too.
     match waits.serves(last_in(lent[LAST_AT])) {
-        Some(Source::Keyboard(Side::First)) => serve_keyboard(lent, Side::First, first, log),
-        Some(Source::Keyboard(Side::Second)) => serve_keyboard(lent, Side::Second, second, log),
+        Some(Source::Keyboard(side)) => {
+            serve_keyboard(lent, side, side_script(side, first, second), log)
+        }
         Some(Source::Mouse) => serve_mouse(lent, third),
         None => no_call(0),
     }

@@ -4,10 +4,10 @@
 ghost use Rattle.std.specs.Prelude.{◌≡◌};
 ghost use Rattle.keycodes_ascii.specs.Keycode.{number_of, keycode_read};
 ghost use Rattle.keycodes_ascii.specs.Characters.{writes, is_letter, character_of, scancode_character};
-ghost use Rattle.keycodes_ascii.specs.CharacterTable.{entry_character, column_of, Agrees};
+ghost use Rattle.keycodes_ascii.specs.CharacterTable.{entry_character, column_of};
 
 use keyboard_modifiers::KeyboardModifiers;
-use layout::{CHARACTERS, KEYCODES};
+use layout::CHARACTERS;
 
 mod layout;
 
@@ -300,21 +300,13 @@ fn column(shift: bool, caps_lock: bool) -> usize
 }
 
 impl Keycode {
-    // The character of this key under the given modifiers: the table's entry.
+    // The character of this key under the given modifiers: the table's entry. The release codes have no row, and no character.
+    // Kept a `match`, no plainer: by `?` it proves, but its wrong program is then refused by no fact, which a rule of the project asks.
     pub fn to_ascii(self, modifiers: KeyboardModifiers) -> Option<u8>
         ensures { result ≡ character_of self modifiers }
     {
-        self.character_in(CHARACTERS, modifiers)
-    }
-
-    // The character of this key in a table that agrees with the rule. The release codes have no row, and no character.
-    // Kept a `match`, no plainer: by `?` it proves, but its wrong program is then refused by no fact, which a rule of the project asks.
-    fn character_in(self, table: [[u8; 4]; KEYCODES], modifiers: KeyboardModifiers) -> Option<u8>
-        requires { Agrees table }
-        ensures { result ≡ character_of self modifiers }
-    {
         let at = column(modifiers.is_shift(), modifiers.is_caps_lock());
-        match table.get(usize::from(u8::from(self))) {
+        match CHARACTERS.get(usize::from(u8::from(self))) {
             Some(row) => of_entry(row[at]),
             None => None,
         }

@@ -47,7 +47,7 @@ fn pass<const LENGTH: usize>(bytes: &[u8], packets: &mut [u8], positions: &mut [
     let mut dropped = 0;
     let answer = 'pass: loop {
         // Packets that follow one another have a loop of their own: one loop for both was faster or slower by a third as the compiler placed it (docs/DECISIONS.md). No `for` counts either, no plainer: a dropped byte shifts all behind it.
-        while let Some(packet) = bytes[used..].first_chunk::<LENGTH>() {
+        while let Some(&packet) = bytes[used..].first_chunk::<LENGTH>() {
             if !has(packet[0], ALWAYS_ONE) {
                 break;
             }
@@ -55,7 +55,7 @@ fn pass<const LENGTH: usize>(bytes: &[u8], packets: &mut [u8], positions: &mut [
             if packets.len() - packet_bytes < LENGTH {
                 break 'pass Err(SalvageRefusal::NoRoom);
             }
-            packets[packet_bytes..packet_bytes + LENGTH].copy_from_slice(packet);
+            packets[packet_bytes..packet_bytes + LENGTH].copy_from_slice(&packet);
             used += LENGTH;
             packet_bytes += LENGTH;
         }

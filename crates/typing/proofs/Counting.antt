@@ -14,9 +14,9 @@ use Rattle.std.specs.Prelude.{None, Some}
 use Rattle.std.specs.Prelude as found
 use Rattle.typing.specs.Keys.{Key, key_of, before, keys_of}
 use Rattle.typing.specs.Lengths.{one_more, with_shift, count_of}
-use Rattle.typing.specs.Table.{or_none, numbered}
+use Rattle.typing.specs.Table.{or_none}
 use Rattle.typing.proofs.Texts.{keys_none, keys_first}
-use Rattle.typing.proofs.Table.{Entry, no_entry, plain, shifted, entry, found_none, found_some}
+use Rattle.typing.proofs.Table.{Entry, no_entry, plain, shifted, entry}
 
 -- a count behind another
 abbrev pub plus : ℕ → found.Option ℕ → found.Option ℕ
@@ -65,14 +65,8 @@ pub record Counting (text : List ℕ) (i n : ℕ) : Type 0 where
   pub all : count_of (keys_of text) ≡ plus n (count_of (keys_of (drop i text)))
 
 module _ {text : List ℕ} {i n : ℕ} (h : Counting text i n) (l : i < length text) where
-  here : Entry (get_or text i 0) (or_none (key_of (get_or text i 0)))
-  here = entry (get_or text i 0)
-
   next : drop i text ≡ get_or text i 0 ∷ drop (i + 1) text
   next = rw (add-one i) (drop-cons text i 0 l)
-
-  pub counting_stops : None ≡ numbered (key_of (get_or text i 0)) → None ≡ count_of (keys_of text)
-  counting_stops q = sym (h.all ∙ ap (λ (t : List ℕ). plus n (count_of (keys_of t))) next ∙ ap (plus n) (count_no_key (get_or text i 0) (drop (i + 1) text) here (found_none here q)))
 
   counting_by : (m : ℕ) → m ≤ 1 → count_of (keys_of (get_or text i 0 ∷ drop (i + 1) text)) ≡ plus m (count_of (keys_of (drop (i + 1) text))) → Counting text (i + 1) (n + m)
   counting_by m s e =
@@ -81,15 +75,18 @@ module _ {text : List ℕ} {i n : ℕ} (h : Counting text i n) (l : i < length t
         all = h.all ∙ ap (λ (t : List ℕ). plus n (count_of (keys_of t))) next ∙ ap (plus n) e ∙ plus-plus n m (count_of (keys_of (drop (i + 1) text)));
       }
 
-  module _ {key : ℕ} (q : Some key ≡ numbered (key_of (get_or text i 0))) where
+  module _ {key : ℕ} (q : key ≡ or_none (key_of (get_or text i 0))) where
     is_key : Entry (get_or text i 0) key
-    is_key = rw (found_some here q).0 here
+    is_key = rw q (entry (get_or text i 0))
+
+    pub counting_stops : key ≡ 0 → None ≡ count_of (keys_of text)
+    counting_stops z = sym (h.all ∙ ap (λ (t : List ℕ). plus n (count_of (keys_of t))) next ∙ ap (plus n) (count_no_key (get_or text i 0) (drop (i + 1) text) is_key z))
 
     pub counting_shift : 0x80 ≤ key → Counting text (i + 1) (n + 1)
-    counting_shift s = counting_by 1 (omega arith) (count_shift (get_or text i 0) (drop (i + 1) text) is_key (found_some here q).1 s)
+    counting_shift s = counting_by 1 (omega arith) (count_shift (get_or text i 0) (drop (i + 1) text) is_key (λ z. omega (arith, z)) s)
 
-    pub counting_plain : key < 0x80 → Counting text (i + 1) n
-    counting_plain s = rw (add-zero n) at (counting_by 0 (omega arith) (count_plain (get_or text i 0) (drop (i + 1) text) is_key (found_some here q).1 s))
+    pub counting_plain : (key ≡ 0 → ⊥) → key < 0x80 → Counting text (i + 1) n
+    counting_plain z s = rw (add-zero n) at (counting_by 0 (omega arith) (count_plain (get_or text i 0) (drop (i + 1) text) is_key z s))
 
 pub counting_ends : {text : List ℕ} {i n : ℕ} → Counting text i n → length text ≤ i → Some n ≡ count_of (keys_of text)
 unfolding with_shift

@@ -19,7 +19,6 @@ use Rattle.typing.specs.Table.{or_none}
 use Rattle.typing.proofs.Texts.{Keyed, no_text, one_key, keyed}
 use Rattle.typing.proofs.Table.{Entry, no_entry, plain, shifted, entry}
 use Rattle.typing.proofs.Lengths.{typed_fits}
-use Rattle.typing.proofs.Typable.{key_below}
 
 -- ---- an output of which a part is written
 
@@ -98,10 +97,6 @@ module _ {text before out : List ℕ} {i at : ℕ} (h : Putting text before i at
   module _ (l : i < length text) where
     next : Next (get_or text i 0) (drop (i + 1) text) h.left
     next = next_key (subst (λ (t : List ℕ). Keyed t h.left) (rw (add-one i) (drop-cons text i 0 l)) h.left_keys)
-
-    -- a byte of the text is in the table
-    pub putting_below : get_or text i 0 < 256 → get_or text i 0 < 0x80
-    putting_below b = key_below b next.is_one
 
     left_first : scancodes h.left ≡ strokes_of next.one ++ scancodes next.others
     left_first = ap scancodes next.all ∙ scancodes_first next.one next.others

@@ -1,6 +1,6 @@
 -- The table of keys: what its numbers say of the bytes' keys.
 -- Assumes nothing.
-use mathlib.Core.Path.{◌≡◌, refl, sym, ap, ◌∙◌}
+use mathlib.Core.Path.{◌≡◌, refl}
 use mathlib.Core.Bool.{Bool, true, false}
 use mathlib.Core.List.{List, [], ◌∷◌}
 use Prim.Native.Nat.{ℕ, zero, suc, ◌+◌, ◌<◌}
@@ -12,8 +12,7 @@ use Rattle.keycodes_ascii.specs.declared.Keycode.{Keycode}
 use Rattle.keycodes_ascii.specs.Keycode.{number_of}
 use Rattle.typing.specs.Keys.{Key, key_of}
 use Rattle.typing.proofs.Keys.{chosen, gives_press}
-use Rattle.std.specs.Prelude.{Some, None}
-use Rattle.typing.specs.Table.{or_none, numbered, Tabulates}
+use Rattle.typing.specs.Table.{or_none, Tabulates}
 
 -- the keys of n bytes from c on, as numbers
 abbrev pub entries : ℕ → ℕ → List ℕ
@@ -25,9 +24,9 @@ entry_at zero from c h = absurd (not-suc-le-zero h)
 entry_at (suc n) from zero h = rw (add-zero from)
 entry_at (suc n) from (suc c) h = rw (add-suc from c, ← suc-add) (entry_at n (suc from) c (omega arith))
 
--- a list with these numbers from 00 on has the key of every byte below 80
-pub tabulates : Tabulates (entries 0x80 0)
-tabulates = record { at = λ c h. rw (zero-add c) at (entry_at 0x80 0 c h) }
+-- a list with these numbers from 00 on has the key of every byte
+pub tabulates : Tabulates (entries 0x100 0)
+tabulates = record { at = λ c h. rw (zero-add c) at (entry_at 0x100 0 c h) }
 
 -- ---- what a number says
 
@@ -53,26 +52,3 @@ entry c = by (key_of c) refl
     by : (o : Option Key) → key_of c ≡ o → Entry c (or_none o)
     by none e = no_entry e
     by (some k) e = one k.keycode k.shift e
-
--- ---- a number that is looked up
-
-pub numbered_none : {c n : ℕ} → Entry c n → n ≡ 0 → None ≡ numbered (key_of c)
-numbered_none (no_entry e) z = sym (ap numbered e)
-numbered_none (plain k e h l) z = absurd (omega (arith, z))
-numbered_none (shifted k e h l) z = absurd (omega (arith, z))
-
-pub found_none : {c n : ℕ} → Entry c n → None ≡ numbered (key_of c) → n ≡ 0
-found_none (no_entry e) q = refl
-found_none (plain k e h l) q = let s : None ≡ Some (number_of k) = q ∙ ap numbered e in absurd (cc)
-found_none (shifted k e h l) q = let s : None ≡ Some (number_of k + 0x80) = q ∙ ap numbered e in absurd (cc)
-
-pub found_some : {c n m : ℕ} → Entry c n → Some m ≡ numbered (key_of c) → (m ≡ n) × (m ≡ 0 → ⊥)
-found_some {m = m} (no_entry e) q = let s : Some m ≡ None = q ∙ ap numbered e in absurd (cc)
-found_some {m = m} (plain k e h l) q =
-    let s : Some m ≡ Some (number_of k) = q ∙ ap numbered e in
-    let i : m ≡ number_of k = cc in
-    (i, λ z. omega (arith, z, i))
-found_some {m = m} (shifted k e h l) q =
-    let s : Some m ≡ Some (number_of k + 0x80) = q ∙ ap numbered e in
-    let i : m ≡ number_of k + 0x80 = cc in
-    (i, λ z. omega (arith, z, i))

@@ -1,8 +1,6 @@
 -- The keys of the bytes as numbers in a table.
 -- Assumes nothing.
 use Rattle.std.specs.Prelude.{Bool, true, false, List, ◌≡◌, ℕ, ◌+◌, ◌<◌, get_or}
-use Rattle.std.specs.Prelude.{Some, None}
-use Rattle.std.specs.Prelude as prelude
 use Rattle.std.proofs.Math.Option.{Option, none, some}
 use Rattle.keycodes_ascii.specs.Keycode.{number_of}
 use Rattle.typing.specs.Keys.{Key, key_of}
@@ -17,11 +15,6 @@ abbrev pub or_none : Option Key → ℕ
 or_none none = 0x00
 or_none (some k) = marked k.shift (number_of k.keycode)
 
--- The same where a number is looked up: none where there is no key.
-abbrev pub numbered : Option Key → prelude.Option ℕ
-numbered none = None
-numbered (some k) = Some (marked k.shift (number_of k.keycode))
-
--- A list of numbers that has, at the place of each byte below 80 (hexadecimal), the byte's key.
+-- A list of numbers that has, at the place of each byte, the byte's key.
 pub record Tabulates (table : List ℕ) : Type 0 where
-  pub at : (c : ℕ) → c < 0x80 → get_or table c 0 ≡ or_none (key_of c)
+  pub at : (c : ℕ) → c < 0x100 → get_or table c 0 ≡ or_none (key_of c)

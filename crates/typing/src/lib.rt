@@ -1,11 +1,11 @@
 // Text turned into scancodes of set 1: the strokes by which a keyboard would type it.
 #![tactic(auto)]
 
-ghost use Rattle.std.specs.Prelude.{◌≡◌, ◌<◌, length};
+ghost use Rattle.std.specs.Prelude.{◌≡◌, length};
 ghost use Rattle.typing.specs.Keys.{key_of, keys_of};
 ghost use Rattle.typing.specs.Typing.{Accepted, typed, leaves, refusal_number, told};
 ghost use Rattle.typing.specs.Lengths.{count_of};
-ghost use Rattle.typing.specs.Table.{or_none, numbered, Tabulates};
+ghost use Rattle.typing.specs.Table.{or_none};
 
 // Why a text is not typed, by request 2.6's numbers.
 #[derive(Clone, Copy, Debug, PartialEq, Eq)]
@@ -37,11 +37,8 @@ const NEEDS_SHIFT: u8 = 0x80;
 
 const NO_KEY: u8 = 0x00;
 
-// No character from here on has a key.
-const END_OF_KEYS: u8 = 0x80;
-
-// The key of each character before that, in rows of sixteen.
-const KEYS: [u8; 128] = *b"\
+// The key of each character, in rows of sixteen.
+static KEYS: [u8; 256] = *b"\
     \x00\x00\x00\x00\x00\x00\x00\x00\x0E\x0F\x1C\x00\x00\x00\x00\x00\
     \x00\x00\x00\x00\x00\x00\x00\x00\x00\x00\x00\x01\x00\x00\x00\x00\
     \x39\x82\xA8\x84\x85\x86\x88\x28\x8A\x8B\x37\x4E\x33\x0C\x34\x35\
@@ -49,22 +46,22 @@ const KEYS: [u8; 128] = *b"\
     \x83\x9E\xB0\xAE\xA0\x92\xA1\xA2\xA3\x97\xA4\xA5\xA6\xB2\xB1\x98\
     \x99\x90\x93\x9F\x94\x96\xAF\x91\xAD\x95\xAC\x1A\x2B\x1B\x87\x8C\
     \x29\x1E\x30\x2E\x20\x12\x21\x22\x23\x17\x24\x25\x26\x32\x31\x18\
-    \x19\x10\x13\x1F\x14\x16\x2F\x11\x2D\x15\x2C\x9A\xAB\x9B\xA9\x00";
-
-// The code's table, lent: an array that is indexed lies on the stack, once for a call, and not for each character.
-#[derive(Drop)]
-struct KeyTable {
-    keys: [u8; 128],
-    ghost tabulates: { Tabulates keys },
-}
+    \x19\x10\x13\x1F\x14\x16\x2F\x11\x2D\x15\x2C\x9A\xAB\x9B\xA9\x00\
+    \x00\x00\x00\x00\x00\x00\x00\x00\x00\x00\x00\x00\x00\x00\x00\x00\
+    \x00\x00\x00\x00\x00\x00\x00\x00\x00\x00\x00\x00\x00\x00\x00\x00\
+    \x00\x00\x00\x00\x00\x00\x00\x00\x00\x00\x00\x00\x00\x00\x00\x00\
+    \x00\x00\x00\x00\x00\x00\x00\x00\x00\x00\x00\x00\x00\x00\x00\x00\
+    \x00\x00\x00\x00\x00\x00\x00\x00\x00\x00\x00\x00\x00\x00\x00\x00\
+    \x00\x00\x00\x00\x00\x00\x00\x00\x00\x00\x00\x00\x00\x00\x00\x00\
+    \x00\x00\x00\x00\x00\x00\x00\x00\x00\x00\x00\x00\x00\x00\x00\x00\
+    \x00\x00\x00\x00\x00\x00\x00\x00\x00\x00\x00\x00\x00\x00\x00\x00";
 
 // Writes the scancodes of a text to the start of an output, and answers how many bytes they are: each key's press and release, with those of Shift around a key that needs it.
 // What is not written stays as it was; a refusal writes nothing.
 pub fn type_text(text: &[u8], out: &mut [u8]) -> Result<usize, TypingRefusal>
     ensures { told result out.new ≡ leaves out.old (typed (length out.old) text.now) }
 {
-    let table = KeyTable { keys: KEYS };
-    let Some(shifted) = table.count_shifted(text) else {
+    let Some(shifted) = count_shifted(text) else {
         return Err(TypingRefusal::NoKey);
     };
     // A character takes two bytes, and two more with Shift.
@@ -72,69 +69,55 @@ pub fn type_text(text: &[u8], out: &mut [u8]) -> Result<usize, TypingRefusal>
     if room < text.len() || room - text.len() < shifted {
         return Err(TypingRefusal::OutputShort);
     }
-    Ok(table.put_keys(text, out))
+    Ok(put_keys(text, out))
 }
 
-impl KeyTable {
-    // The key of a character, if it has one.
-    fn key_of(&self, character: u8) -> Option<u8>
-        ensures { result ≡ numbered (key_of character) }
-    {
-        if END_OF_KEYS <= character {
-            return None;
-        }
-        let key = self.key_in(character);
+// What the table has for a character.
+fn key_in(character: u8) -> u8
+    ensures { result ≡ or_none (key_of character) }
+{
+    KEYS[usize::from(character)]
+}
+
+// Asks every character for its key, and counts those that need Shift, if none lacks a key.
+fn count_shifted(text: &[u8]) -> Option<usize>
+    ensures { result ≡ count_of (keys_of text.now) }
+{
+    let mut shifted = 0;
+    for &character in text {
+        let key = key_in(character);
         if key == NO_KEY {
             return None;
         }
-        Some(key)
-    }
-
-    // What the table has for a character.
-    fn key_in(&self, character: u8) -> u8
-        requires { character < 0x80 }
-        ensures { result ≡ or_none (key_of character) }
-    {
-        self.keys[usize::from(character)]
-    }
-
-    // Asks every character for its key, and counts those that need Shift, if none lacks a key.
-    fn count_shifted(&self, text: &[u8]) -> Option<usize>
-        ensures { result ≡ count_of (keys_of text.now) }
-    {
-        let mut shifted = 0;
-        for &character in text {
-            let key = self.key_of(character)?;
-            if NEEDS_SHIFT <= key {
-                shifted += 1;
-            }
+        if NEEDS_SHIFT <= key {
+            shifted += 1;
         }
-        Some(shifted)
     }
+    Some(shifted)
+}
 
-    // Writes the scancodes of a text that is accepted, and answers how many they are. The table has every character of it.
-    // Kept, a rule of the project: there is no heap, so the bytes go into a lent output, at a place that is counted.
-    fn put_keys(&self, text: &[u8], out: &mut [u8]) -> usize
-        requires { Accepted (length out.old) text.now }
-        ensures { told (Ok result) out.new ≡ leaves out.old (typed (length out.old) text.now) }
-    {
-        let mut at = 0;
-        for &character in text {
-            let key = self.key_in(character);
-            if NEEDS_SHIFT <= key {
-                let code = key - NEEDS_SHIFT;
-                out[at..at + 4].copy_from_slice(&[
-                    SHIFT_PRESSED,
-                    code,
-                    code + RELEASED,
-                    SHIFT_RELEASED,
-                ]);
-                at += 4;
-            } else {
-                out[at..at + 2].copy_from_slice(&[key, key + RELEASED]);
-                at += 2;
-            }
+// Writes the scancodes of a text that is accepted, and answers how many they are. The table has every character of it.
+// Kept, a rule of the project: there is no heap, so the bytes go into a lent output, at a place that is counted.
+fn put_keys(text: &[u8], out: &mut [u8]) -> usize
+    requires { Accepted (length out.old) text.now }
+    ensures { told (Ok result) out.new ≡ leaves out.old (typed (length out.old) text.now) }
+{
+    let mut at = 0;
+    for &character in text {
+        let key = key_in(character);
+        if NEEDS_SHIFT <= key {
+            let code = key - NEEDS_SHIFT;
+            out[at..at + 4].copy_from_slice(&[
+                SHIFT_PRESSED,
+                code,
+                code + RELEASED,
+                SHIFT_RELEASED,
+            ]);
+            at += 4;
+        } else {
+            out[at..at + 2].copy_from_slice(&[key, key + RELEASED]);
+            at += 2;
         }
-        at
     }
+    at
 }

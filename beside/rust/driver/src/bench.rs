@@ -430,7 +430,7 @@ pub fn bench(port: Paths, tablekeys: &str, rounds: usize) -> io::Result<ExitCode
             "small letters and spaces, one in eight a capital; the Rust is plain Rust for the same job (beside/rust/driver/src/plain.rs)",
         ),
         ("`type_text`, 160 characters", one(&typing(160)), "the same, shorter"),
-        ("`type_text`, 2 characters", one(&typing(2)), "the same: the table of 128 bytes, which is put on the stack at each call, is most of it"),
+        ("`type_text`, 2 characters", one(&typing(2)), "the same"),
         (
             "`write_preferences`, version 1",
             one("prefs_write 1 2,100,3,5 room=9"),

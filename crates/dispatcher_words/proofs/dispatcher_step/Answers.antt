@@ -2,22 +2,15 @@
 -- Assumes nothing.
 use mathlib.Core.Path.{ap, ◌∙◌}
 use Rattle.std.specs.Prelude.{Some}
-use Rattle.keyboard_sides.specs.declared.Side.{Side}
 use Rattle.dispatcher.specs.declared.Source.{Source}
 use Rattle.dispatcher_words.proofs.Steps.{side_step, mouse_step, idle_step, step_made}
 use Rattle.dispatcher_words.proofs.dispatcher_step.Goals as goal
 
-pub returns-in-Some-Keyboard-First : goal.returns-in-Some-Keyboard-First
-returns-in-Some-Keyboard-First c =
+pub returns-in-Some-Keyboard : goal.returns-in-Some-Keyboard
+returns-in-Some-Keyboard c =
     step_made c.in-Some.ensures.cases
-    (side_step c.in-Some.lent.now _ c.args.log.now c.waits_in-waits.result c.waits_in-waits.ensures c.last_in.ensures c.serves.ensures Side.First
-    (c.in-Some-Keyboard-First.is ∙ ap (λ (o : Source). Some o) (c.in-Some-Keyboard-First.field-0-is ∙ ap (λ (o : Side). Source.Keyboard o) c.in-Some-Keyboard-First.field-0-0-is)) c.serve_keyboard.ensures)
-
-pub returns-in-Some-Keyboard-Second : goal.returns-in-Some-Keyboard-Second
-returns-in-Some-Keyboard-Second c =
-    step_made c.in-Some.ensures.cases
-    (side_step c.in-Some.lent.now _ c.args.log.now c.waits_in-waits.result c.waits_in-waits.ensures c.last_in.ensures c.serves.ensures Side.Second
-    (c.in-Some-Keyboard-Second.is ∙ ap (λ (o : Source). Some o) (c.in-Some-Keyboard-Second.field-0-is ∙ ap (λ (o : Side). Source.Keyboard o) c.in-Some-Keyboard-Second.field-0-0-is)) c.serve_keyboard-in-Some-Keyboard-Second.ensures)
+    (side_step c.in-Some.lent.now _ c.args.log.now c.waits_in-waits.result c.waits_in-waits.ensures c.last_in.ensures c.serves.ensures c.in-Some-Keyboard.side
+    (c.in-Some-Keyboard.is ∙ ap (λ (o : Source). Some o) c.in-Some-Keyboard.field-0-is) (rw (c.side_script.ensures c.args.third.now) at c.serve_keyboard.ensures))
 
 pub returns-in-Some-Mouse : goal.returns-in-Some-Mouse
 returns-in-Some-Mouse c =

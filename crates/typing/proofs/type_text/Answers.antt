@@ -1,21 +1,11 @@
--- `typing::type_text` meets its contract: 25, then 26, then the scancodes are put. The code's table is computed here.
+-- `typing::type_text` meets its contract: 25, then 26, then the scancodes are put.
 -- Assumes nothing.
 use native.Mathlib.Omega.{arith}
 use mathlib.Core.Path.{sym, ◌∙◌}
-use mathlib.Core.Bool.{xor}
-use Rattle.bits.specs.Bits.{bit, odd, put_bit}
-use Rattle.keycodes_ascii.specs.Keycode.{keycodes}
-use Rattle.keycodes_ascii.specs.Characters.{character_of}
 use Rattle.typing.specs.declared.TypingRefusal.TheVariants.{NoKey, OutputShort}
-use Rattle.typing.specs.Keys.{gives_it, lowest, key_of}
-use Rattle.typing.proofs.Table.{tabulates}
 use Rattle.typing.proofs.Lengths.{typed_no_key, count_none, count_some, short_text, short_shift, accepted, refused}
 use Rattle.typing.proofs.type_text.Goals as goal
 use Rattle.typing.proofs.type_text.Goals.{then-room-text-via-then-room-text, then-room-text-via-else-room-text+then-room-text-2}
-
-pub invariant_of-table : goal.invariant_of-table
-unfolding key_of lowest gives_it character_of keycodes bit odd put_bit xor
-invariant_of-table c = record { tabulates = tabulates }
 
 pub returns-in_default : goal.returns-in_default
 returns-in_default c = refused _ _ NoKey (typed_no_key _ _ (count_none _ (sym c.count_shifted.ensures ∙ c.in_default.is)))

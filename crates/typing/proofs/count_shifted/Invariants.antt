@@ -1,7 +1,7 @@
--- `typing::KeyTable::count_shifted` meets its contract: up to each place the characters that need Shift are counted.
+-- `typing::count_shifted` meets its contract: up to each place the characters that need Shift are counted.
 -- Assumes nothing.
 use Rattle.typing.proofs.Counting.{Counting}
-use Rattle.typing.proofs.KeyTable.count_shifted.Given as goal
+use Rattle.typing.proofs.count_shifted.Given as goal
 
 abbrev pub invariant-loop-character : goal.invariant-loop-character
 invariant-loop-character l = Counting l.text l.character-index l.shifted

@@ -1,16 +1,11 @@
--- `typing::KeyTable::put_keys` meets its contract: up to each place the scancodes are put.
+-- `typing::put_keys` meets its contract: up to each place the scancodes are put.
 -- Assumes nothing.
-use native.Mathlib.Omega.{arith}
-use Rattle.typing.proofs.Putting.{putting_begins, putting_below, room_shift, room_plain, puts_shift, puts_plain, putting_ends}
-use Rattle.typing.proofs.KeyTable.put_keys.Goals as goal
-use Rattle.typing.proofs.KeyTable.put_keys.Goals.{else-key-ge-NEEDS_SHIFT, then-key-ge-NEEDS_SHIFT}
+use Rattle.typing.proofs.Putting.{putting_begins, room_shift, room_plain, puts_shift, puts_plain, putting_ends}
+use Rattle.typing.proofs.put_keys.Goals as goal
+use Rattle.typing.proofs.put_keys.Goals.{else-key-ge-NEEDS_SHIFT, then-key-ge-NEEDS_SHIFT}
 
 pub loop-character-init : goal.loop-character-init
 loop-character-init c = putting_begins _ _ c.requires
-
-pub key_in-key-requires : goal.key_in-key-requires
-key_in-key-requires c =
-    putting_below c.loop-character.invariant c.loop-character-test.true (omega (arith, c.type_inv.character.fits))
 
 pub slice_bounds-copy_from_slice-end : goal.slice_bounds-copy_from_slice-end
 slice_bounds-copy_from_slice-end c =
