@@ -9,7 +9,7 @@ use ps2_bytes::MouseId;
 // What is answered where an argument stands for nothing; documents 01 and 02 have no such number.
 pub const MEANS_NOTHING: u32 = 255;
 
-// The mouse's identity that a number stands for, if any. Such two lines stand in mouse_words, keyboard_words and bytes_words too: one function over `TryFrom<u8>` could only promise what that trait's law says of each type, and is no plainer.
+// The mouse's identity that a number stands for, if any.
 pub fn identity_of(identity: u32) -> Option<MouseId>
     ensures { said_found result ≡ identity_at identity }
 {

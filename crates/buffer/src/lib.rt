@@ -5,7 +5,6 @@ ghost use Rattle.std.specs.Prelude.{[], ◌∷◌};
 ghost use Rattle.buffer.specs.Writer.{Puts};
 
 // A lent buffer and the place in it that is next. What finds no place is dropped.
-// Kept a lent buffer with its place, a rule of the project: there is no heap here, so a text goes into what its caller lends.
 #[derive(Drop)]
 pub struct Writer<'a> {
     pub out: &'a mut [u8],

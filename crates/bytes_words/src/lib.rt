@@ -13,7 +13,8 @@ use argument_words::{MEANS_NOTHING, identity_of};
 use keyboard_modifiers::KeyboardModifiers;
 use keycodes_ascii::{KEY_RELEASED_OFFSET, KeyAction, Keycode};
 
-// Kept, C interface, all three structs: C reads them, so a refusal stands beside the counts, and outputs are slices that C lends.
+// C reads these three: a refusal stands beside the counts, and outputs are slices that C lends.
+
 // What a conversion answers: the refusal's number, 0 where there is none; bytes of the stream used, bytes of the output written.
 #[repr(C)]
 #[derive(Clone, Copy)]
@@ -48,7 +49,7 @@ fn is_keycode(keycode: u32) -> bool
     keycode_of(keycode).is_some()
 }
 
-// The flags that a number stands for, if any. Kept, C interface, as the next: C passes numbers for what it has no type for.
+// The flags that a number stands for, if any.
 fn flags_of(flags: u32) -> Option<KeyboardModifiers>
     ensures { result ≡ flags_at flags }
 {
@@ -93,7 +94,7 @@ pub fn character(keycode: u32, flags: u32) -> u32
     }
 }
 
-// The byte by which a report takes the press or the release of the key with this number. Kept beside report_totals' `event_code`, which is of an event with its flags: C passes a number.
+// The byte by which a report takes the press or the release of the key with this number.
 fn code_of(action: KeyAction, number: u32) -> u32
     ensures { result ≡ code_of action number }
 {

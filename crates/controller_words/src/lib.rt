@@ -18,7 +18,9 @@ pub struct ControllerWords {
     pub mouse: u32,
 }
 
-// Kept with its counts as fields: C gets it so. What initialisation answers: the refusal, 0 where there is none; the port of the read that the script was too short for, or 0; script bytes used and pairs written; and the controller as it is left.
+// What initialisation answers: the refusal, 0 where there is none; the port of the read that the
+// script was too short for, or 0; script bytes used and pairs written; and the controller as it is
+// left.
 #[repr(C)]
 #[derive(Clone, Copy)]
 pub struct InitializedWords {
@@ -29,7 +31,7 @@ pub struct InitializedWords {
     pub controller: ControllerWords,
 }
 
-// Any number but 0 says yes. Kept, no plainer: what a number says stands once for three fields.
+// Any number but 0 says yes.
 fn is_set(word: u32) -> bool
     ensures { result ≡ not (eqb word 0) }
 {
@@ -83,7 +85,8 @@ impl From<Initialized> for InitializedWords {
     }
 }
 
-// Initialises the controller, unless it was before. It becomes initialised only where all steps were done. Kept as two slices: document 01 has each call take a script and a log.
+// Initialises the controller, unless it was before. It becomes initialised only where all steps
+// were done.
 pub fn controller_init(
     controller: ControllerWords,
     script: &[u8],

@@ -56,7 +56,6 @@ pub enum Served {
     Idle,
 }
 
-// Kept beside what was served, a rule of the project: document 01 has every answer give its counts, and a call its records by value.
 // What a step gives back, with the script bytes used and the pairs written by the call that it made.
 #[derive(Clone, Copy)]
 pub struct Dispatched {
@@ -104,7 +103,6 @@ impl<T: Copy> Each<T> {
 
 impl Waits {
     // Whom a step serves: the first that waits, going round from the one after the last served.
-    // Kept as three tests, tried: as a `find` over an array of the three sources `returns` stayed open, and so did a `find` in a function of its own.
     pub fn serves(self, last: Option<Source>) -> Option<Source>
         ensures { result ≡ served (wait_in self) last }
     {
@@ -146,7 +144,6 @@ impl Places {
     }
 }
 
-// Kept as a place and the bytes, here and in the next two, no plainer: a place may lie past its script's end, where no slice begins.
 // A place in a source's script, or the script's end where it is past it: from there on the same bytes are unused.
 pub fn start(place: usize, bytes: &[u8]) -> usize
     ensures within { result ≤ length bytes.now }
@@ -170,7 +167,6 @@ pub fn mouse_waits(place: usize, bytes: &[u8], id: MouseId) -> bool
     packet_length(id) <= unread
 }
 
-// Script and log are kept as two slices, here and in a step, a rule of the project: document 01 has a call take both.
 // A side's turn: one handler call on its unused bytes. A refused call uses the turn too.
 fn serve_keyboard(state: Dispatcher, side: Side, script: &[u8], log: &mut [u8]) -> Dispatched
     ensures { said_step result log.new ≡ serve_keyboard keyboard_lamps side state script.now log.old }
@@ -190,7 +186,6 @@ fn serve_keyboard(state: Dispatcher, side: Side, script: &[u8], log: &mut [u8]) 
     }
 }
 
-// Kept a `match`, no plainer: both arms have the counts, and no other caller asks for them alone.
 // The counts of an answer, script bytes used and pairs written.
 fn counts(answer: Answer<SignedPacket>) -> (usize, usize)
     ensures used { result.0 ≡ used_of answer }
@@ -257,7 +252,6 @@ impl Dispatcher {
         }
     }
 
-    // Kept as three scripts, here and in a step, no plainer: each caller holds three slices, and an `Each` of them would be built for one call.
     // Which sources wait.
     pub fn waits(self, first: &[u8], second: &[u8], third: &[u8]) -> Waits
         ensures { (source : Source) → wait_in result source ≡ waits_now self (scripts first.now second.now third.now) source }
@@ -281,7 +275,6 @@ impl Dispatcher {
     pub fn step(self, first: &[u8], second: &[u8], third: &[u8], log: &mut [u8]) -> Dispatched
         ensures { said_step result log.new ≡ step_of keyboard_lamps self (scripts first.now second.now third.now) log.old }
     {
-        // Kept a `match`, no plainer: whom a step serves is its answer too, and each arm lends another script.
         match self.waits(first, second, third).serves(self.last) {
             Some(Source::Keyboard(Side::First)) => serve_keyboard(self, Side::First, first, log),
             Some(Source::Keyboard(Side::Second)) => serve_keyboard(self, Side::Second, second, log),

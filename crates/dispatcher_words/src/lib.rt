@@ -19,7 +19,8 @@ use port_words::{PacketWords, packet_words, refusing_packet_words};
 use ps2_bytes::MouseId;
 use ps2_packet_reading::read_signed_packet;
 
-// Kept as places of numbers, C's interface: C lends a dispatcher as 149 of them.
+// C lends a dispatcher as 149 numbers; these are places among them.
+
 // How many bytes of either side wait, in the handler's record.
 const FIRST_WAITING_AT: usize = 2;
 
@@ -39,7 +40,9 @@ const LAST_AT: usize = HANDLER_WORDS + 4;
 // The numbers of a dispatcher.
 pub const DISPATCHER_WORDS: usize = HANDLER_WORDS + 5;
 
-// Kept as numbers: C gets it so. What a step answers: the refusal of the call that it made, 0 where there is none; who was served, 0 where nobody waited, 1 or 2 the side, 3 the mouse; and that call's answer, with 0 everywhere in the other.
+// What a step answers: the refusal of the call that it made, 0 where there is none; who was served,
+// 0 where nobody waited, 1 or 2 the side, 3 the mouse; and that call's answer, with 0 everywhere in
+// the other.
 #[repr(C)]
 #[derive(Clone, Copy)]
 pub struct StepWords {
@@ -56,7 +59,8 @@ fn put_unserved(words: &mut [u64; DISPATCHER_WORDS], id: MouseId)
     words[MOUSE_AT..].copy_from_slice(&[u64::from(u8::from(id)), 0, 0, 0, 0]);
 }
 
-// Kept as a slice, here and in a step: C passes how many numbers there are. Makes a lent dispatcher a fresh one, with a fresh record for a table, as `fresh_words` has it, and a mouse of identity 0, 3 or 4: 21 where there are not 149 numbers.
+// Makes a lent dispatcher a fresh one, with a fresh record for a table, as `fresh_words` has it,
+// and a mouse of identity 0, 3 or 4: 21 where there are not 149 numbers.
 pub fn dispatcher_fresh(words: &mut [u64], keyboards: u32, profile: u32, identity: u32) -> u32
     ensures { MadeFresh words.old keyboards profile identity result words.new }
 {
@@ -74,7 +78,7 @@ pub fn dispatcher_fresh(words: &mut [u64], keyboards: u32, profile: u32, identit
     answer
 }
 
-// The mouse's identity that a dispatcher's number says: 3 or 4, and any other 0. Kept as a match, as the next: no number is refused here, so `TryFrom` says less.
+// The mouse's identity that a dispatcher's number says: 3 or 4, and any other 0.
 fn identity_in(word: u64) -> MouseId
     ensures { result ≡ identity_of word }
 {
@@ -97,7 +101,7 @@ fn last_in(word: u64) -> Option<Source>
     }
 }
 
-// Kept as a match, as the next: `Source::Keyboard` carries a side, so there is no discriminant to cast.
+// The number that says who was served.
 fn source_number(source: Source) -> u32
     ensures { result ≡ source_number source }
 {
@@ -125,7 +129,6 @@ fn place_in(words: &[u64; DISPATCHER_WORDS], source: Source) -> usize
     words[place_at(source)] as usize
 }
 
-// Kept as three scripts, here and in a step, C's interface: C lends each source's by itself.
 // Which sources wait.
 fn waits_in(words: &[u64; DISPATCHER_WORDS], first: &[u8], second: &[u8], third: &[u8]) -> Waits
     ensures { (source : Source) → wait_in result source ≡ waits_now (dispatcher_of words.now) (scripts first.now second.now third.now) source }
@@ -149,7 +152,6 @@ fn put_turn(words: &mut [u64; DISPATCHER_WORDS], source: Source, place: usize)
     words[LAST_AT] = u64::from(source_number(source));
 }
 
-// Script and log are kept as two slices, here and in a step, a rule of the project: document 01 has a call take both.
 // A side's turn: one handler call on its unused bytes, on the handler's numbers. A refused call uses the turn too.
 fn serve_keyboard(
     words: &mut [u64; DISPATCHER_WORDS],
@@ -228,7 +230,6 @@ pub fn dispatcher_step(
         return no_call(21);
     };
     let waits = waits_in(lent, first, second, third);
-    // Kept a `match`, no plainer: whom a step serves is its answer too.
     match waits.serves(last_in(lent[LAST_AT])) {
         Some(Source::Keyboard(side)) => {
             serve_keyboard(lent, side, side_script(side, first, second), log)

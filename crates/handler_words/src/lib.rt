@@ -33,7 +33,8 @@ use keycodes_ascii::{KeyAction, KeyEvent, Keycode};
 use ps2_answers::Lack;
 use ps2_kept::KEPT_LIMIT;
 
-// Kept as places of numbers, C's interface: C lends the record as 144 of them.
+// C lends the record as 144 numbers; these are places among them.
+
 // Where the numbers of either keyboard begin: the prefix, the flags, how many bytes wait, and the 16 waiting bytes in two numbers.
 const FIRST_AT: usize = 0;
 
@@ -63,10 +64,8 @@ const LAST_KEYCODE: u8 = 0x5D;
 pub const HANDLER_WORDS: usize = PLACES_FROM + QUEUE_LENGTH;
 
 // A lent slice is asked for its length once, in the public functions; from there on its type says it.
-// Kept as a slice there, C's interface: C passes how many numbers there are.
 type Words = [u64; HANDLER_WORDS];
 
-// Kept as numbers, C's interface, here and below: C gets what a call answers so.
 // What a handler call answers, as numbers: the refusal and that of the lamp exchange, 0 where there is none; script bytes used, pairs written and bytes dropped; and the port of the read that the script was too short for, or 0.
 #[repr(C)]
 #[derive(Clone, Copy)]
@@ -108,7 +107,6 @@ fn waiting_words(bytes: &[u8; KEPT_LIMIT]) -> (u64, u64)
     ((number % (1 << 64)) as u64, (number >> 64) as u64)
 }
 
-// Kept, no plainer, here and below: each `match` between a number and a kind is its table, since the kinds are other crates'; and no number is refused here, so `TryFrom` says less.
 // How many keyboards a record's number says: 2 is two, and any other one.
 fn keyboards_of(word: u64) -> Keyboards
     ensures { result ≡ keyboards_of word }
@@ -173,7 +171,7 @@ fn state_in(words: &Words) -> HandlerState
     }
 }
 
-// Kept, no plainer, here and below: each `match` from a kind to its number is its table, since the kinds are other crates'.
+// The number of what was done to a key.
 fn action_word(action: KeyAction) -> u64
     ensures { result ≡ action_number action }
 {
@@ -225,7 +223,6 @@ fn put_event(words: &mut Words, place: usize, left: HandlerState, event: KeyEven
 }
 
 // Stores the new event, if there is one, in the first place behind those that waited.
-// Kept as two numbers, no plainer: of the state before the call nothing else is asked.
 fn put_new(
     words: &mut Words,
     start: usize,
@@ -260,7 +257,6 @@ fn port_lacked(answer: HandlerAnswer) -> u32
 }
 
 // The number of a place that holds the event of a key's byte, by the byte itself.
-// Kept beside `event_word`, no plainer: the quick ways take a byte's number and look up no keycode.
 fn key_word(scan_code: u8, modifiers: KeyboardModifiers) -> u64
     requires { is_known scan_code ≡ true }
     ensures { (result ≡ word_of (event_of scan_code modifiers.bits)) × (event_at result ≡ event_of scan_code modifiers.bits) }
@@ -294,14 +290,12 @@ fn queue_key(
             );
             0
         }
-        // Kept as three numbers, no plainer: of each it is seen that it is none of those after which the record is as it was.
         Err(NoRoom::OutsideProfile) => 33,
         Err(NoRoom::SideFull) => 31,
         Err(NoRoom::QueueFull) => 20,
     }
 }
 
-// Kept as three parameters, here and below, no plainer: a struct of them would be built at each call and taken apart in each step.
 // Whether a call takes the script's first byte, since none waits, at a table without the profile.
 fn is_from_script(words: &Words, side: Side, script: &[u8]) -> bool
     ensures { Says (FromScript side (state_of words.now) script.now) result }
@@ -373,7 +367,6 @@ fn is_key_alone(words: &Words, side: Side, script: &[u8]) -> bool
         && !is_lock_press(Profile::Any, script[0])
 }
 
-// Script and log are kept as two slices here and below, a rule of the project: document 01 has a call take both.
 // A handler call for a side, on the numbers of a record.
 fn handle_side(words: &mut Words, side: Side, script: &[u8], log: &mut [u8]) -> HandledWords
     ensures { SideHandled side words.old script.now log.old result words.new log.new }
@@ -400,7 +393,8 @@ fn handle_side(words: &mut Words, side: Side, script: &[u8], log: &mut [u8]) -> 
 }
 
 // What most calls are: the script's first byte is taken, it is of a key that has no flag, and the record is ready for its event, which is queued.
-// Kept beside the general call, as `handle_key` is, speed: a plain key takes 6.5 ns so, and a call on the state alone 33 (docs/PERFORMANCE.md).
+// Speed: a plain key takes 6.5 ns so, as in `handle_key`, and by a call on the state alone 33
+// (docs/PERFORMANCE.md).
 fn handle_plain(words: &mut Words, side: Side, script: &[u8]) -> HandledWords
     requires { PlainKey side words.old script.now }
     ensures { KeyHandled side words.old script.now result words.new }
@@ -408,7 +402,6 @@ fn handle_plain(words: &mut Words, side: Side, script: &[u8]) -> HandledWords
     let state = state_in(words);
     let modifiers = state.keyboard_at(side).modifiers;
     put_keyboard(words, side, followed(modifiers));
-    // Kept beside the same in `queue_key`, no plainer: each has a promise of its own, and a function of both would want a third.
     put_place(
         words,
         (state.start + state.count) % QUEUE_LENGTH,
@@ -449,7 +442,8 @@ pub fn handle_words(words: &mut [u64], side: u32, script: &[u8], log: &mut [u8])
             _ => MEANS_NOTHING,
         });
     };
-    // Kept as two equal arms, each side by itself: most of what a call asks goes by the side. With `handle_at` in both, `inline(always)`, a plain key took 15 ns and not 11.
+    // Two equal arms, each side by itself, are for speed: most of what a call asks goes by the
+    // side. With `handle_at` in both, `inline(always)`, a plain key took 15 ns and not 11.
     match side {
         1 => {
             if is_plain_key(words, Side::First, script) {
@@ -547,7 +541,6 @@ pub fn take_words(words: &mut [u64]) -> TakenWords
 }
 
 // The table with these keyboards that a profile's number makes, if any.
-// Kept a `match`, as above: the kinds are other crates'; here other numbers are none.
 fn laid_with(keyboards: Keyboards, profile: u32) -> Option<Table>
     ensures { said_table result ≡ laid_with keyboards profile }
 {

@@ -40,7 +40,6 @@ fn list_calls(script: &[u8], out: &mut Writer<'_>)
     };
     let mut handler = KeyboardHandler::fresh(table);
     let mut rest = script;
-    // Kept, no plainer: what a call uses and leaves waiting says how many there are, so a `for` over as many as there are bytes would want both tests all the same.
     while 0 < bytes_left(&handler, rest) {
         let Some(used) = call_once(&mut handler, rest, out) else {
             return;
@@ -71,7 +70,6 @@ fn call_once(handler: &mut KeyboardHandler, script: &[u8], out: &mut Writer<'_>)
     (!leaves_as_passed(call.answer)).then_some(call.used)
 }
 
-// Kept functions, here and below, no plainer: a crate writes no `Display` for the types of other crates, and printed text is a string on the heap.
 // Puts the number of a refusal; an answer that is none puts nothing.
 fn put_refusal(out: &mut Writer<'_>, answer: HandlerAnswer)
     ensures { Puts (refusal_line (number_ended (said_call answer))) out.old out.new }
@@ -128,7 +126,6 @@ fn put_character(out: &mut Writer<'_>, character: Option<u8>)
 }
 
 // Puts a byte's number in decimal.
-// Kept in this and the next three, no plainer: printed text is a string on the heap; the crate itoa prints decimal alone, and its law is of std's `decimal`.
 fn put_decimal(out: &mut Writer<'_>, n: u8)
     ensures { Puts (decimal n) out.old out.new }
 {
@@ -142,7 +139,6 @@ fn put_decimal(out: &mut Writer<'_>, n: u8)
 }
 
 // Puts a byte as two hexadecimal digits.
-// Kept as two, this and the next, no plainer: one with the count is a loop with an invariant.
 fn put_two_digits(out: &mut Writer<'_>, byte: u8)
     ensures { Puts (digits 16 2 byte) out.old out.new }
 {

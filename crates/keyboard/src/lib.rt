@@ -48,7 +48,6 @@ pub enum HandlerRefusal {
 // How a handler call ends.
 pub type HandlerAnswer = Result<(), HandlerRefusal>;
 
-// Kept beside the answer, no plainer: a read's answer goes out as it came, and as `Answer<(u8, KeptBytes)>` would be built again, of two values without their names.
 // The byte that a call takes, or that there is none; the script bytes used for it; and the bytes that still wait.
 #[derive(Clone, Copy)]
 struct TakenByte {
@@ -56,8 +55,8 @@ struct TakenByte {
     answer: Answer<u8>,
 }
 
-// `used` and `pairs` stand beside each answer in the next four, a rule of the project: document 01 has every answer give them; and the fields that these share are kept in each, no plainer: one within another, some twenty readings would have two names, and only `call_answer` would go.
-// Kept in this and the next three: `lamps_failed` is document 01's 14, shown beside the answer and not in its place; and event and answer stand apart, since the two in one `Result` measured slower.
+// Event and answer stand apart here and in the next three, for speed: the two in one `Result`
+// measured slower.
 // What a call gives back for its keyboard: the event that its byte gives; where it gives none, the answer. A lamp exchange that failed, document 01's 14, is shown beside the answer, and so is the number of the bytes that it threw away and that found no place to wait.
 #[derive(Clone, Copy)]
 struct KeyEffect {
@@ -119,7 +118,7 @@ pub struct Effect {
 }
 
 impl HandlerRefusal {
-    // The number that documents 01 and 02 give to a refusal. Kept a method, no plainer: `u8::from(refusal)` says less, and what a call lacks has numbers of its own.
+    // The number that documents 01 and 02 give to a refusal.
     pub fn number(self) -> u8
         ensures { result ≡ number_ended (said_call (Err self)) }
     {
@@ -185,7 +184,8 @@ fn event_of(keycode: Keycode, scan_code: u8, modifiers: KeyboardModifiers) -> Ke
 }
 
 // Takes the oldest byte that waits: each byte behind it moves up by one place. How many wait is asked here and below, and said by no type: a caller's record may have any number there, and 21 is its answer.
-// Kept a loop, speed: as one `copy_from_slice` it proved, but the press of a lock took 80 ns in place of 41, although none waited.
+// A loop, for speed: by one `copy_from_slice` the press of a lock took 80 ns in place of 41,
+// although none waited.
 fn take_oldest(waiting: WaitingBytes) -> (u8, KeptBytes)
     requires { (waiting.count ≤ kept_limit) × (waiting.count ≢ 0) }
     ensures { (result.0 ≡ get_or waiting.bytes 0 0) × (result.1 ≡ kept_of (bytes_from waiting.bytes 1 (waiting.count - 1))) }
@@ -225,7 +225,6 @@ fn take_byte(waiting: WaitingBytes, script: &[u8]) -> TakenByte
 }
 
 // What follows a scancode's lamp exchange, which used and wrote this much, with the bytes that come to wait.
-// Kept as a flag and two counts, no plainer: they come of an exchange made at once, one that ended, one that failed, and none.
 fn after_lamps(
     kept: KeptBytes,
     scan_code: u8,
@@ -259,7 +258,6 @@ fn after_lamps(
     }
 }
 
-// Script and log are kept as two slices, and the bytes that are taken, the keyboard and the flags as arguments of their own in three steps of one call: document 01 has a call take a script and a log, and a struct for the others would be taken apart in each step.
 // The press of a lock that is followed, with the flags just after it: the lamps are set, and its event is given whether they could be or not. What the lamp exchange throws away waits behind the bytes that wait already.
 fn lock_pressed(
     port: DevicePort,
@@ -376,7 +374,7 @@ fn key_call(
     }
 }
 
-// The port of a side's keyboard. Kept, no plainer: neither type is this crate's, so there is no `From`.
+// The port of a side's keyboard.
 fn port_of(side: Side) -> DevicePort
     ensures { result ≡ port_of side }
 {

@@ -10,10 +10,11 @@ use keyboard::{CallAnswer, handle};
 use keyboard_record::KeyboardHandler;
 use keyboard_sides::Side;
 
-// What the call gives back beside the record, which it changes in place. Kept, a rule of the project: script and log are two slices, and `used` and `pairs` stand beside every answer, as document 01 has it.
+// What the call gives back beside the record, which it changes in place.
 pub type HandledInPlace = CallAnswer;
 
-// A handler call for a side that changes the record in place. Kept, a rule of the project: document 01 has this one thin entry beside the by-value call.
+// A handler call for a side that changes the record in place: document 01's thin entry over the
+// by-value call.
 pub fn handle_in_place(
     handler: &mut KeyboardHandler,
     side: Side,

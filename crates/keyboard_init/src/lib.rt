@@ -15,7 +15,6 @@ use ps2_detect::keyboard_detect;
 use ps2_keyboard::set_keyboard_scancode_set;
 
 // The handler's record, which is good where the answer is that all was done.
-// Kept beside the answer, a rule of the project: a function promises what it promised, and this one a fresh record after a refusal too.
 #[derive(Clone, Copy)]
 pub struct KeyboardInitialized {
     pub answer: Answer<()>,
@@ -23,7 +22,6 @@ pub struct KeyboardInitialized {
 }
 
 // Initialises the first keyboard, with a fresh record for a table: one keyboard or two, and a profile.
-// Kept as two slices here and below: document 01 has each call take a script and a log.
 pub fn keyboard_init(table: Table, script: &[u8], log: &mut [u8]) -> KeyboardInitialized
     ensures { (told result.answer log.new ≡ play keyboard_init script.now log.old) × (result.handler ≡ fresh table) }
 {

@@ -76,8 +76,6 @@ impl KeyboardModifiers {
         self.bits & other.bits != 0
     }
 
-    // Each question below is a name and its flags; one with the flags as a parameter is `intersects` itself.
-
     // Whether a Shift key is held down, left or right.
     pub fn is_shift(self) -> bool
         ensures { result ≡ (bit shift_left self.bits || bit shift_right self.bits) }

@@ -40,7 +40,8 @@ pub struct Table {
 }
 
 // All of the record but the places: what the handler remembers of each side's keyboard, what the table is laid with, and where in the places the events wait.
-// They stand in a ring: the oldest is at `start`, and `count` of them follow each other round the end. `sides` has the side of each, the oldest first. Kept, no plainer: one count serves places and sides, and sides in bits are counted at once.
+// They stand in a ring: the oldest is at `start`, and `count` of them follow each other round the
+// end. `sides` has the side of each, the oldest first.
 // In this order the waiting bytes of either keyboard begin at a multiple of 16, where a copy of the state, 16 bytes at a time, takes them whole.
 #[derive(Clone, Copy)]
 pub struct HandlerState {
@@ -54,7 +55,6 @@ pub struct HandlerState {
 
 // The handler record: its state, and the places of its queue.
 // The places stand last, where no padding touches them: a copy of the record is then not made in two parts.
-// Kept: 128 places inside the record are its fixed memory, without a heap.
 #[derive(Clone, Copy)]
 pub struct KeyboardHandler {
     pub state: HandlerState,
@@ -83,7 +83,7 @@ pub struct MalformedRecord;
 // What a taking from the queue answers: the oldest event, none, or the refusal.
 pub type TakenEvent = Result<Option<SideEvent>, MalformedRecord>;
 
-// What a taking gives back. Kept, a rule of the project: document 01 has a call take and give records by value.
+// What a taking gives back.
 #[derive(Clone, Copy)]
 pub struct Taken {
     pub event: TakenEvent,
@@ -91,7 +91,7 @@ pub struct Taken {
 }
 
 impl MalformedRecord {
-    // The number that document 01 gives to it. Kept, no plainer: the documents call it a number, and `u8::from(refusal)` says less.
+    // The number that document 01 gives to it.
     pub fn number(self) -> u8
         ensures { result ≡ number_answered (said_taken (Err self)) }
     {

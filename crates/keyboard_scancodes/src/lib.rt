@@ -51,7 +51,8 @@ const ALT_AND_ALT_RIGHT: KeyboardModifiers = KeyboardModifiers {
     bits: 1 << 4 | 1 << 10,
 };
 
-// Kept as two words of 64 bits, speed: as one `u128`, as `PLAIN_KEYS` is, they proved, but by C the press of a lock took 45.4 ns in place of 44.8, and that of a key under the profile 41.6 in place of 40.6.
+// Two words of 64 bits, for speed: as one `u128`, as `PLAIN_KEYS` is, the press of a lock took 45.4
+// ns by C in place of 44.8, and that of a key under the profile 41.6 in place of 40.6.
 // The keys that rated games allow, a bit for each keycode: Escape, the digits, Q to P, Enter, Control, A to L, the left Shift, Z to M, the right Shift;
 const TOURNAMENT_KEYS: u64 = 1 << 0x01
     | 0x3FF << 0x02
@@ -90,8 +91,6 @@ pub enum Profile {
 }
 
 // Bytes that wait to be taken, the oldest first: a lamp exchange threw them away.
-// Kept: an array with its count is the record's fixed memory, without a heap, and C is shown both.
-// Kept beside `KeptBytes`, no plainer: in the record no others are counted, and one type in the other would have each byte read by two names.
 #[derive(Clone, Copy)]
 pub struct WaitingBytes {
     pub bytes: [u8; KEPT_LIMIT],
@@ -107,12 +106,11 @@ pub struct KeyboardState {
     pub modifiers: KeyboardModifiers,
 }
 
-// Kept bytes wait from now on; any others are lost.
+// Bytes that a receiving threw away wait from now on; any beyond the earliest 16 are lost.
 impl From<KeptBytes> for WaitingBytes {
     ghost from_gives = { λ kept waiting. waiting ≡ waiting_in kept };
 
     fn from(kept: KeptBytes) -> WaitingBytes {
-        // Kept, tried: as `bytes: kept.bytes` the proof of `from` didn't close; the check of borrows covers no array that goes straight into a struct.
         let bytes = kept.bytes;
         WaitingBytes {
             bytes,
@@ -190,7 +188,7 @@ impl Profile {
     }
 }
 
-// Whether rated games allow a key, by its number. Kept beside `is_plain`, no plainer: a code beyond their words is plain for the one by its low part and allowed by the other never.
+// Whether rated games allow a key, by its number.
 fn is_tournament_key(code: u8) -> bool
     ensures { result ≡ is_tournament_code code }
 {

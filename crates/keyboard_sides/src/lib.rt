@@ -16,7 +16,9 @@ pub enum Side {
     Second,
 }
 
-// The sides of up to 128 events in two words, the low bits first. A bit that is set says the second side. The bits behind those of the events that wait may be anything. Kept two words, and no `u128`, no plainer: handler_words reads and stores them as C's two numbers, and would split and join them in each call.
+// The sides of up to 128 events in two words, the low bits first. A bit that is set says the second
+// side. The bits behind those of the events that wait may be anything. C has the words as two
+// numbers.
 #[derive(Clone, Copy, PartialEq, Eq)]
 pub struct Sides {
     pub low: u64,

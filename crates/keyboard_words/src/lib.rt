@@ -40,8 +40,6 @@ fn command_of(byte: u32) -> Option<HostToKeyboardCommand>
     HostToKeyboardCommand::try_from(byte).ok()
 }
 
-// Kept as a `match` on the number that C passes: no type in ps2_bytes is read as a set without 0.
-
 // The scancode set of a number. 0 sets none: it asks.
 fn set_of(number: u32) -> Option<ScancodeSet>
     ensures { said_found result ≡ scancode_set_at number }
@@ -56,8 +54,6 @@ fn set_of(number: u32) -> Option<ScancodeSet>
 
 // ---- the operations
 
-// Kept as two slices here and below: document 01 has each call take a script and a log.
-
 // Initialises the first keyboard. The lent record becomes a fresh one, whatever the keyboard answers, for a table with 1 keyboard or 2, under profile 0 (none) or 1 (the tournament's): 21 where it has not 144 numbers.
 pub fn keyboard_init(
     words: &mut [u64],
@@ -68,7 +64,6 @@ pub fn keyboard_init(
 ) -> PortWords
     ensures { KeyboardInitialized words.old keyboards profile script.now log.old result words.new log.new }
 {
-    // Kept, C interface: C lends a pointer and a length, and `fresh_words` gives it a number, 0 where nothing is refused.
     let refusal = fresh_words(words, keyboards, profile);
     if refusal != 0 {
         return refusing_words(refusal);

@@ -169,7 +169,7 @@ impl TryFrom<u8> for Keycode {
 
     ghost try_from_gives = { λ byte r. r ≡ keycode_read byte };
 
-    // The enum's numbers once more. Kept a `match`, no plainer: its rows are what is to be read, and a table that is searched would have the same ones.
+    // The enum's numbers once more.
     #[tactic(auto, unfolding(crate::specs::Keycode::keycode_of, crate::specs::Keycode::numbered, crate::specs::Keycode::keycodes))]
     fn try_from(byte: u8) -> Result<Keycode, NoKeycode> {
         let keycode = match byte {
@@ -301,7 +301,6 @@ fn column(shift: bool, caps_lock: bool) -> usize
 
 impl Keycode {
     // The character of this key under the given modifiers: the table's entry. The release codes have no row, and no character.
-    // Kept a `match`, no plainer: by `?` it proves, but its wrong program is then refused by no fact, which a rule of the project asks.
     pub fn to_ascii(self, modifiers: KeyboardModifiers) -> Option<u8>
         ensures { result ≡ character_of self modifiers }
     {

@@ -36,7 +36,7 @@ fn command_of(byte: u32) -> Option<HostToMouseCommand>
     HostToMouseCommand::try_from(byte).ok()
 }
 
-// The sampling rate that a number stands for. Kept, no plainer: one function over `TryFrom<u8>` would have the promise of a type, where each says its table here.
+// The sampling rate that a number stands for.
 fn rate_of(rate: u32) -> Option<MouseSampleRate>
     ensures { said_found result ≡ rate_at rate }
 {

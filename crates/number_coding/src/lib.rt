@@ -19,7 +19,7 @@ pub struct Number {
 pub struct Malformed;
 
 impl Malformed {
-    // The number that document 02 gives to the refusal. Kept, no plainer: the documents call it a number, and `u8::from(refusal)` says less.
+    // The number that document 02 gives to the refusal.
     pub fn number(self) -> u8
         ensures { result ≡ number_answered (said_number (Err self)) }
     {
@@ -32,7 +32,7 @@ impl Malformed {
 pub struct OutputShort;
 
 impl OutputShort {
-    // The number that document 02 gives to the refusal. Kept, no plainer: the documents call it a number, and `u8::from(refusal)` says less.
+    // The number that document 02 gives to the refusal.
     pub fn number(self) -> u8
         ensures { result ≡ number_answered (said_written (Err self)) }
     {
@@ -61,7 +61,8 @@ const FOUR_GROUPS: u32 = 0x20_0000;
 
 const FIVE_GROUPS: u32 = 0x1000_0000;
 
-// Reads the number that stands in a string from a place on. Kept as string and place, as the next, no plainer: a place past the end is a number cut short, and no slice begins there.
+// Reads the number that stands in a string from a place on, which may lie past its end: the number
+// is cut short there.
 pub fn read_number(input: &[u8], at: usize) -> Result<Number, Malformed>
     ensures { said_number result ≡ read_number (drop at input.now) }
 {
@@ -118,7 +119,6 @@ pub fn number_length(number: u32) -> usize
 }
 
 // Writes a number into an output from a place on, and tells how many bytes it takes. What is not written stays as it was; a refusal writes nothing.
-// Kept, a rule of the project, here and below: no heap, so bytes go into a lent output.
 pub fn write_number(number: u32, output: &mut [u8], at: usize) -> Result<usize, OutputShort>
     ensures { outcome (said_written result) (count_written result) output.new ≡ number_written number at output.old }
 {

@@ -56,7 +56,7 @@ pub struct PacketWords {
 
 // ---- the numbers of values
 
-// A value that an operation gives, as a number. Two bodies stand twice below: an impl is of one type, and one for whatever has a byte would be one of `()` too.
+// A value that an operation gives, as a number.
 pub trait Value: Copy {
     ghost worth: { Self → ℕ };
 
@@ -114,7 +114,7 @@ impl Value for MouseId {
     }
 }
 
-// Kept, C interface: these are C's numbers, and a keyboard tells its type by others.
+// C's numbers of the types; a keyboard tells its own by others.
 impl Value for KeyboardType {
     ghost worth = { type_number };
 
@@ -152,7 +152,7 @@ fn port_lacked(refusal: Refusal) -> u32
     }
 }
 
-// An answer, and its value's number. Kept a function, no plainer: its promise names `V.worth`, which a law of `From` would have to say of each `V`; those below stand beside it.
+// An answer, and its value's number.
 pub fn answer_words<V: Value>(answer: Answer<V>) -> PortWords
     ensures { result ≡ told V.worth (ended answer) (used_of answer) (pairs_of answer) }
 {
@@ -193,7 +193,6 @@ pub fn commanded_words(commanded: Commanded) -> KeptWords
     ensures { result ≡ kept_numbers (ended commanded.answer) (used_of commanded.answer) (pairs_of commanded.answer) commanded.kept }
 {
     let answer = answer_words(commanded.answer);
-    // Kept, tried: as `bytes: kept.bytes` the proof of `commanded_words` didn't close; the check of borrows covers no array that goes straight into a struct.
     let kept = commanded.kept;
     let bytes = kept.bytes;
     KeptWords {

@@ -46,7 +46,7 @@ pub fn is_sampling_rate(value: u32) -> bool
     matches!(value, 10 | 20 | 40 | 60 | 80 | 100 | 200)
 }
 
-// Whether a number is one of the resolutions. Kept, as the next two, no plainer: each is one line, and names the question that a field is asked.
+// Whether a number is one of the resolutions.
 pub fn is_resolution(value: u32) -> bool
     ensures { result ≡ is_resolution value }
 {

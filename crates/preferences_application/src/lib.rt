@@ -21,7 +21,7 @@ use ps2_layouts::LEDState;
 use ps2_mouse::PS2Mouse;
 use ps2_ports::DevicePort;
 
-// What a field asks of a device. Kept, as the `match` in `apply_setting`, no plainer: it is what the public `apply_setting` takes; a list of lent closures would want a `requires` that each may be called, and a promise of its play.
+// What a field asks of a device.
 #[derive(Clone, Copy)]
 pub enum Setting {
     ScancodeSet(ScancodeSet),
@@ -30,8 +30,6 @@ pub enum Setting {
     Lamps(LEDState),
     RepeatRateAndDelay(u8),
 }
-
-// Kept as two slices here and below: document 01 has each call take a script and a log.
 
 // Applies a record's fields in their order. Where one is outside its values nothing is read or written; after a refusal the fields before it stay applied.
 pub fn apply_preferences(script: &[u8], log: &mut [u8], preferences: Preferences) -> Answer<()>
@@ -73,7 +71,7 @@ pub fn set_keyboard_repeat(script: &[u8], log: &mut [u8], byte: u8) -> Answer<()
     .answer
 }
 
-// Applies a record whose fields are within their values. Here and below each asks that of its own record: a type that says so would be one for each version.
+// Applies a record whose fields are within their values.
 fn apply_within(script: &[u8], log: &mut [u8], preferences: Preferences) -> Answer<()>
     requires { within_values preferences ≡ true }
     ensures { told result log.new ≡ play (apply_settings (settings_of preferences)) script.now log.old }
@@ -115,7 +113,7 @@ fn apply_four(script: &[u8], log: &mut [u8], four: Fields) -> Answer<()>
     )
 }
 
-// Sets settings, one after another. Kept beside the loop of ps2_mouse_identity, no plainer: a closure for the step would have to promise a play, and these lines are no longer.
+// Sets settings, one after another.
 fn apply_settings(script: &[u8], log: &mut [u8], settings: [Setting; 4]) -> Answer<()>
     ensures { told result log.new ≡ play (apply_settings settings) script.now log.old }
 {
@@ -127,7 +125,7 @@ fn apply_settings(script: &[u8], log: &mut [u8], settings: [Setting; 4]) -> Answ
     Ok(done)
 }
 
-// A field within its values as a byte. `u8::try_from` is no plainer: its refusal, which can't be, would want a byte too.
+// A field within its values as a byte.
 fn byte_of(value: u32) -> u8
     requires { value < 256 }
     ensures { result ≡ value }
@@ -135,7 +133,7 @@ fn byte_of(value: u32) -> u8
     value as u8
 }
 
-// The scancode set of a byte, and below the sampling rate and the resolution. A function for all three would take the value that stands for the unlisted, and be `unwrap_or` itself.
+// The scancode set of a byte, and below the sampling rate and the resolution.
 fn set_of(byte: u8) -> ScancodeSet
     ensures { result ≡ set_of byte }
 {

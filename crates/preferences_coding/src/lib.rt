@@ -41,7 +41,7 @@ const FIELDS_1: u32 = 4;
 const FIELDS_2: u32 = 5;
 
 impl ReadRefusal {
-    // The number that document 02 gives to a refusal. Kept, no plainer: the documents call it a number, and `u8::from(refusal)` says less.
+    // The number that document 02 gives to a refusal.
     pub fn number(self) -> u8
         ensures { result ≡ refusal_number self }
     {
@@ -50,7 +50,7 @@ impl ReadRefusal {
 }
 
 impl WriteRefusal {
-    // The number that document 02 gives to a refusal. Kept, no plainer: the documents call it a number, and `u8::from(refusal)` says less.
+    // The number that document 02 gives to a refusal.
     pub fn number(self) -> u8
         ensures { result ≡ write_refusal_number self }
     {
@@ -96,14 +96,16 @@ impl Version {
     }
 }
 
-// Whether the fifth field is what a reader asks for: that of version 1 checks no range. Kept a flag, speed: as a closure it proved, but a reading of version 1 took 200 instructions in place of 174, and of version 2 214 in place of 178.
+// Whether the fifth field is what a reader asks for: that of version 1 checks no range. The flag is
+// for speed: by a closure a reading of version 1 took 200 instructions in place of 174, and of
+// version 2 214 in place of 178.
 fn accepts_fifth(checks_range: bool, value: u32) -> bool
     ensures { result ≡ fifth_for checks_range value }
 {
     !checks_range || is_repeat_byte(value)
 }
 
-// Reads the number at a place, and answers it with the place behind it. Kept as string and place, here and below, no plainer: a place past the end is a number cut short, and no slice begins there.
+// Reads the number at a place, and answers it with the place behind it.
 fn number_at(input: &[u8], at: usize) -> Result<(u32, usize), ReadRefusal>
     ensures { Takes input.now at any_number result }
 {
@@ -217,7 +219,7 @@ fn codings_length(numbers: &[u32]) -> usize
     length
 }
 
-// Writes numbers that find room, from the start of an output on. Kept, a rule of the project: no heap, so the bytes go into a lent output.
+// Writes numbers that find room, from the start of an output on.
 fn put_all(numbers: &[u32], output: &mut [u8])
     requires { length (codings numbers.now) ≤ length output.old }
     ensures { output.new ≡ codings numbers.now ++ drop (length (codings numbers.now)) output.old }

@@ -18,7 +18,7 @@ use preferences::{Fields, Preferences};
 use preferences_application::apply_preferences;
 use preferences_coding::{ReadRefusal, read_preferences_1, read_preferences_2, write_preferences};
 
-// Kept, C interface, all three structs: C reads them, so a refusal stands beside what is given, and C names a struct for each.
+// C reads these three: a refusal stands beside what is given.
 
 // A record of version 1 or 2: its fields in their order. Version 1 has no repeat byte: it is not looked at, and 0 where it is given back.
 #[repr(C)]
@@ -48,7 +48,7 @@ pub struct PreferencesWrittenWords {
     pub written: usize,
 }
 
-// The record that six numbers stand for, if any. Kept, no plainer, here and below: a name says which numbers stand for which, where `from` would say less.
+// The record that six numbers stand for, if any.
 #[tactic(auto, unfolding(crate::specs::Record::preferences_at))]
 fn preferences_of(words: PreferencesWords) -> Option<Preferences>
     ensures { said_found result ≡ preferences_at words }
@@ -120,7 +120,8 @@ fn read_words(read: Result<Preferences, ReadRefusal>) -> PreferencesReadWords
     }
 }
 
-// Writes a record to the start of an output. What is not written stays as it was; a refusal writes nothing. Kept as a slice: C lends the output, and there is no heap.
+// Writes a record to the start of an output. What is not written stays as it was; a refusal writes
+// nothing.
 pub fn write(preferences: PreferencesWords, output: &mut [u8]) -> PreferencesWrittenWords
     ensures { WordsWritten preferences output.old result output.new }
 {
@@ -155,8 +156,6 @@ pub fn read_2(input: &[u8]) -> PreferencesReadWords
 {
     read_words(read_preferences_2(input))
 }
-
-// Kept as two slices: document 01 has each call take a script and a log.
 
 // Applies a record's fields to the devices, in their order. Where one is outside its values nothing is read or written; after a refusal the fields before it stay applied.
 pub fn apply(preferences: PreferencesWords, script: &[u8], log: &mut [u8]) -> PortWords

@@ -15,7 +15,6 @@ pub enum ReadPort {
 }
 
 // What a call lacked: a script byte for its next read, which was to be of this port, or two free log bytes for its next write.
-// Kept, no plainer: neither case is nothing, or success; `Refusal` likewise.
 #[derive(Clone, Copy, PartialEq, Eq)]
 pub enum Lack {
     Script(ReadPort),
@@ -51,7 +50,6 @@ pub enum Refusal {
     Failed(Failure),
 }
 
-// Kept: `number` here and below is a method, since documents 01 and 02 call it a number; `u8::from(refusal)` says less.
 impl ReadPort {
     // The port's number.
     pub fn number(self) -> u8
@@ -66,7 +64,6 @@ impl Lack {
     pub fn number(self) -> u8
         ensures { result ≡ lack_number (lack_of self) }
     {
-        // Kept as a match: `Lack::Script` carries a port, so there is no discriminant to cast; `Refusal` likewise.
         match self {
             Lack::Script(_) => 2,
             Lack::Log => 3,

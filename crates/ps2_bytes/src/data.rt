@@ -13,7 +13,7 @@ ghost use Rattle.ps2_bytes.specs.Data.{
 
 use crate::Unlisted;
 
-// Each type below has its own `match` on a byte, and shares no function: the rows are what is to be read, and a list of them to be searched is no plainer.
+// Each type's `match` on a byte is its table.
 
 // Data of the keyboard command `ScancodeSet`, and what the keyboard answers to `Get`, untranslated.
 #[derive(Clone, Copy, PartialEq, Eq)]

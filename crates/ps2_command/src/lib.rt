@@ -25,11 +25,11 @@ use ps2_ports::{DevicePort, PS2_COMMAND_AND_STATUS_PORT, PS2_DATA_PORT, write_co
 // The attempts that a command has.
 const ATTEMPTS: u8 = 4;
 
-// A device's byte for a self test that it passed. Kept as a byte, and the next: the wait compares bytes, and any other uses up its turn, listed or not.
+// A device's byte for a self test that it passed. The wait compares bytes: any other uses up its
+// turn, listed or not.
 const SELF_TEST_PASSED: u8 = 0xAA;
 
 // A device's byte for a command that it accepts.
-// Kept as a byte, no plainer: it is compared with a byte of the script, which would be read as a response first.
 const ACKNOWLEDGE: u8 = 0xFA;
 
 // What a command comes to, with the bytes that its whole run threw away.
@@ -65,7 +65,7 @@ fn attempt_once(
 }
 
 // A command to the device of the first port, or to whichever the controller was told to send the next byte to.
-// Kept as `loop`, and as two slices here and below: document 01 has bounded loops that yield by `break`, and the log's tail lent.
+// A bounded `loop` that yields by `break`, with the log's tail lent: document 01 names both forms.
 fn command_onto(
     script: &[u8],
     log: &mut [u8],
@@ -119,9 +119,7 @@ fn command_by_onto(
     }
 }
 
-// Kept as `port, first, second`, here and below, no plainer: a struct would be built in each call and taken apart here.
 // Two commands to a device, the second only where the first was accepted.
-// Kept beside the next, and beside `command_pair`, no plainer: each promises another definition, in a few lines over this one. `command_by` and `command_by_onto` likewise.
 pub fn command_pair_keeping(
     script: &[u8],
     log: &mut [u8],
@@ -157,7 +155,6 @@ pub fn command_pair_onto(
 }
 
 // Whether a script begins with a device's acknowledgement at once: the first status lets a byte be sent, and the first poll brings FA.
-// Kept as tests in turn, a rule of the project: a wrong program is refused by a fact. One `&&` proves alone, but its wrong program is then refused by a limit.
 fn acknowledges_at_once(script: &[u8]) -> bool
     ensures { result ≡ at_once script.now }
 {
@@ -274,7 +271,6 @@ pub fn failing_as<T: Copy>(answer: Answer<T>, failure: Failure) -> Answer<T>
     ensures used { used_of result ≡ used_of answer }
     ensures pairs { pairs_of result ≡ pairs_of answer }
 {
-    // Kept a `match`, no plainer: with `map_err` the promise of end and counts would be a closure's first.
     match answer {
         Ok(done) => Ok(done),
         Err(refused) => Err(refused.with(refusing_as(refused.value, failure))),

@@ -16,13 +16,11 @@ use ps2_polling::{POLL_LIMIT, poll_data};
 use ps2_ports::DevicePort;
 
 // The first byte of a keyboard's identity: an ancient keyboard has no other, and the others have a second one.
-// Kept as bytes, no plainer: they are compared with a byte of the script; no type has them as an identity's.
 const ANCIENT: u8 = 0x00;
 
 const MF2: u8 = 0xAB;
 
 // Detects the type of the keyboard.
-// Kept as two slices here and below: document 01 has each call take a script and a log. Kept as cases in cases: it wants the bytes as enums in enums.
 pub fn keyboard_detect(script: &[u8], log: &mut [u8]) -> Answer<KeyboardType>
     ensures { told result log.new ≡ play keyboard_detect script.now log.old }
 {
@@ -68,7 +66,7 @@ fn enable_scanning(
 }
 
 // Polls for the keyboard's identity. After AB the inner search decides, and the outer one does not go on.
-// Kept as nested `loop`s, left by a label: document 01 asks for this form here.
+// Nested `loop`s, left by a label: document 01 names this form.
 fn poll_keyboard_type(script: &[u8]) -> Answer<KeyboardType>
     ensures { ReadsTold type_search script.now result }
 {
@@ -103,7 +101,7 @@ fn poll_keyboard_type(script: &[u8]) -> Answer<KeyboardType>
     }
 }
 
-// What the second byte of an identity says of the keyboard. Kept as a table, no plainer: two bytes say the translated keyboard, so no `TryFrom` of discriminants is one.
+// What the second byte of an identity says of the keyboard. Two bytes say the translated one.
 fn second_byte(byte: u8) -> Option<KeyboardType>
     ensures { result ≡ second_byte_read byte }
 {

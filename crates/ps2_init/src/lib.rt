@@ -21,7 +21,7 @@ pub struct PS2Controller {
     pub mouse_attached: bool,
 }
 
-// The keyboard, where one is attached. Kept as an enum, a rule of the project: a shorter form was tried and proves, but its wrong program (keyboard_by_the_mouse) is then refused by no fact.
+// The keyboard, where one is attached.
 #[derive(Clone, Copy)]
 pub enum KeyboardRef {
     Attached,
@@ -29,7 +29,7 @@ pub enum KeyboardRef {
 }
 
 // The answer of `init`, with the controller's record as it is left.
-// Kept beside the answer, a rule of the project: document 01 leaves the record as passed after 1, 8 or 9.
+// After 1, 8 or 9 the record is as it was passed.
 #[derive(Clone, Copy)]
 pub struct Initialized {
     pub answer: Answer<()>,
@@ -37,7 +37,6 @@ pub struct Initialized {
 }
 
 // Initialises the controller, unless it was before. It becomes initialised only where all steps were done.
-// Kept as two slices here and below: document 01 has each call take a script and a log.
 pub fn init(controller: PS2Controller, script: &[u8], log: &mut [u8]) -> Initialized
     ensures { PlaysLeftTold said_init (initialize controller) controller script.now log.old result.answer log.new result.controller }
 {

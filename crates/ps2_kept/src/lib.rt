@@ -12,7 +12,6 @@ use ps2_answers::{Answer, Refusal};
 pub const KEPT_LIMIT: usize = 16;
 
 // Bytes that were thrown away: the earliest, in order, in the first `count` places, and how many others there were.
-// Kept as places with a count: document 02 hands back the earliest 16 bytes, in memory of a fixed size.
 #[derive(Clone, Copy)]
 pub struct KeptBytes {
     pub bytes: [u8; KEPT_LIMIT],
@@ -21,7 +20,7 @@ pub struct KeptBytes {
 }
 
 // An answer, with the bytes that the whole run threw away.
-// Kept beside the answer, a rule of the project: the bytes thrown away are handed back with a failure too (document 02).
+// They are handed back with a failure too (document 02, request 2.3).
 #[derive(Clone, Copy)]
 pub struct Handed<T> {
     pub answer: Answer<T>,

@@ -26,7 +26,6 @@ use ps2_ports::{DevicePort, read_data, status_register};
 const RESET_READS: u32 = 262140;
 
 // A byte for the keyboard, by the command rule.
-// Kept as two slices here and below: document 01 has each call take a script and a log. Kept as cases in cases: it wants the bytes as enums in enums.
 pub fn command_to_keyboard(
     script: &[u8],
     log: &mut [u8],
@@ -62,7 +61,7 @@ pub fn set_keyboard_led(script: &[u8], log: &mut [u8], value: LEDState) -> Comma
     set_port_led_onto(script, log, DevicePort::Port1, value, none_kept())
 }
 
-// The same for the keyboard of either port, with what is thrown away behind the bytes kept before. Kept beside the shorter form, a rule of the project: that one has the Rust's name, and it is one line over this.
+// The same for the keyboard of either port, with what is thrown away behind the bytes kept before.
 pub fn set_port_led_onto(
     script: &[u8],
     log: &mut [u8],
@@ -143,7 +142,7 @@ fn command_scancode_set(script: &[u8], log: &mut [u8], value: ScancodeSet) -> An
 }
 
 // Polls for a scancode set.
-// Kept as `loop`, and as one of its own, as `read_test_result`: document 01 asks for bounded loops that yield their answer by `break`.
+// A bounded `loop` that yields by `break`: document 01 names this form.
 fn poll_scancode_set(script: &[u8]) -> Answer<ScancodeSet>
     ensures { ReadsTold set_search script.now result }
 {

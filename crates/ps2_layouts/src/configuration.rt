@@ -46,7 +46,7 @@ impl From<ControllerConfigurationByte> for u8 {
     }
 }
 
-// Each bit has its own accessor, and a setter where it is set, by mask and shift as document 01 asks; one by a parameter is no plainer, since the names are the table.
+// Bits are asked and changed by masks and shifts: document 01 names this form.
 impl ControllerConfigurationByte {
     // Interrupt when the first port has a byte.
     pub fn port1_interrupt_enabled(self) -> bool

@@ -36,7 +36,6 @@ impl From<LEDState> for u8 {
     }
 }
 
-// Each lamp has its own accessor and setter; one by a parameter is no plainer, since the names are the table.
 impl LEDState {
     // All off.
     pub fn new() -> Self

@@ -4,7 +4,6 @@
 ghost use Rattle.std.specs.Prelude.{◌≡◌, ◌<◌};
 ghost use Rattle.bits.specs.Bits.{put_bit};
 
-// Each byte is a struct of its own with `From` both ways, no plainer as one generic: all that they share is a byte.
 mod configuration;
 mod leds;
 mod status;
@@ -13,7 +12,7 @@ pub use configuration::ControllerConfigurationByte;
 pub use leds::LEDState;
 pub use status::ControllerToHostStatus;
 
-// A byte with bit `k` made `value` and the others kept. It asks for a bit of a byte, as the shift does: its callers name eight constants, and a type of bits is no plainer.
+// A byte with bit `k` made `value` and the others as they were.
 fn with(x: u8, k: u8, value: bool) -> u8
     requires { k < 8 }
     ensures { result ≡ put_bit k value x }

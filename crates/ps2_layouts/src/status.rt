@@ -45,7 +45,8 @@ impl From<ControllerToHostStatus> for u8 {
     }
 }
 
-// Each bit has its own accessor, by mask and shift as document 01 asks; the system flag is the configuration's too, but a bit of another register.
+// Bits are asked by masks and shifts: document 01 names this form. The system flag is the
+// configuration's too, but a bit of another register.
 impl ControllerToHostStatus {
     // Must be set before port 60 is read.
     pub fn output_buffer_full(self) -> bool

@@ -63,7 +63,7 @@ impl PS2Mouse {
         command_by(script, log, DevicePort::Port2, HostToDevice::Mouse(value))
     }
 
-    // Sets the mouse's sampling rate. Kept beside `mouse_resolution`, a rule of the project: the Rust's public functions keep their names. Both call `setting`, with cases of their own.
+    // Sets the mouse's sampling rate.
     pub fn set_mouse_sampling_rate(
         script: &[u8],
         log: &mut [u8],
@@ -87,7 +87,7 @@ impl PS2Mouse {
         accepted.then(receive_mouse_id(&script[accepted.used..]))
     }
 
-    // Starts the packets. Kept beside the next for the Rust's names too.
+    // Starts the packets.
     pub fn enable_mouse_packet_streaming(script: &[u8], log: &mut [u8]) -> Answer<()>
         ensures { told result log.new ≡ play enable_packet_streaming script.now log.old }
     {
@@ -140,7 +140,7 @@ impl PS2Mouse {
     }
 }
 
-// One of the mouse's commands. The bytes that were thrown away are dropped, here and below. Kept as cases in cases: document 01 wants the bytes as enums in enums.
+// One of the mouse's commands. The bytes that were thrown away are dropped, here and below.
 fn command(script: &[u8], log: &mut [u8], value: HostToMouseCommand) -> Answer<()>
     ensures { told result log.new ≡ play (mouse_command value) script.now log.old }
 {
@@ -174,7 +174,7 @@ fn read_self_test_and_id(script: &[u8]) -> Answer<()>
     passed.then(flush_output_buffer(&script[passed.used..]))
 }
 
-// Polls until an identity comes: a bounded loop that yields it by `break`, as document 01 requires. It is a loop of its own as `read_test_result` is.
+// Polls until an identity comes: a bounded loop that yields it by `break`, as document 01 requires.
 fn receive_mouse_id(script: &[u8]) -> Answer<MouseId>
     ensures { ReadsTold (repeat poll_limit (refuses 11) (poll_when mouse_byte_waits (listed_turn mouse_ids))) script.now result }
 {
@@ -193,7 +193,6 @@ fn receive_mouse_id(script: &[u8]) -> Answer<MouseId>
 }
 
 // One poll: reads data where the status says that there is a byte of the mouse.
-// Kept beside `poll_data`, no plainer: it asks for two bits, and one over the question would take a closure.
 fn poll_mouse_id(script: &[u8]) -> Answer<Option<MouseId>>
     ensures { ReadsTurn identified (poll_when mouse_byte_waits (listed_turn mouse_ids)) script.now result }
 {
@@ -207,7 +206,6 @@ fn poll_mouse_id(script: &[u8]) -> Answer<Option<MouseId>>
 }
 
 // The identity that a byte is to a poll; one that is none is thrown away.
-// Kept beside `try_from`, no plainer: it says a byte's worth to a poll, which the poll's proof would spell.
 fn listed_id(byte: u8) -> Option<MouseId>
     ensures { identified result ≡ listed_turn mouse_ids byte }
 {

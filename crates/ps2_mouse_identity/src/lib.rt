@@ -14,7 +14,7 @@ use ps2_bytes::{MouseId, MouseSampleRate};
 use ps2_mouse::PS2Mouse;
 
 // An answer, with the mouse's record as it is left.
-// Kept by value beside the answer, a rule of the project: document 01 has the mouse a record by value, and a refusal leaves one too.
+// A refusal leaves a record too.
 #[derive(Clone, Copy)]
 pub struct MouseLeft {
     pub answer: Answer<()>,
@@ -42,7 +42,7 @@ fn change_id(mouse: &mut PS2Mouse, script: &[u8], log: &mut [u8]) -> Answer<()>
     id.then(start_packets(&script[id.used..], &mut log[tail..], mouse, id.value))
 }
 
-// Sets rates, one after another. Kept beside the loop of preferences_application, no plainer: a closure for the step would have to promise a play, and these lines are no longer.
+// Sets rates, one after another.
 fn set_rates(script: &[u8], log: &mut [u8], rates: [MouseSampleRate; 3]) -> Answer<()>
     ensures { told result log.new ≡ play (set_rates rates) script.now log.old }
 {
@@ -121,7 +121,6 @@ fn identity_after(
 }
 
 // A failure is no identity; a lack is not forgiven.
-// Kept beside `tried` of ps2_setup, no plainer: each is two lines over `outcome`, and its callers want a `bool` there.
 fn forgiven(asked: Answer<MouseId>) -> Answer<Option<MouseId>>
     ensures end { ended result ≡ identity_brought (ended asked) }
     ensures used { used_of result ≡ used_of asked }

@@ -53,7 +53,8 @@ const BUTTON_4: u8 = 4;
 
 const BUTTON_5: u8 = 5;
 
-// What every packet starts with. The accessors of x and y and of each bit stay apart: each is a name and a bit, by mask and shift as document 01 asks; one with a parameter is no plainer.
+// What every packet starts with. Its bits are asked by masks and shifts: document 01 names this
+// form.
 #[derive(Clone, Copy, PartialEq, Eq)]
 pub struct MousePacketGeneric {
     byte1: u8,
@@ -62,7 +63,6 @@ pub struct MousePacketGeneric {
 }
 
 impl MousePacketGeneric {
-    // No `From` here and below: it takes one argument, so the bytes would be packed into an array for it alone, and the name is the Rust's.
     pub fn from_bytes(byte1: u8, byte2: u8, byte3: u8) -> Self
         ensures { result ≡ generic byte1 byte2 byte3 }
     {
@@ -109,7 +109,7 @@ impl MousePacketGeneric {
         self.wide_y_movement() as i16
     }
 
-    // The movements in the width of their sums. They aren't made by `i64::from` of the above: that narrows what it then widens again, and is no plainer.
+    // The movements in the width of their sums.
     pub fn wide_x_movement(self) -> i64
         ensures { result ≡ x_movement self }
     {
@@ -213,7 +213,7 @@ pub enum MousePacket {
     Four(MousePacket4),
 }
 
-// The generic part's accessors stand here too, a rule of the project: the Rust's names; each is one line over it.
+// The generic part's accessors stand here too, under the Rust's names.
 impl MousePacket {
     pub fn generic_part(self) -> MousePacketGeneric
         ensures { result ≡ common self }
@@ -225,7 +225,7 @@ impl MousePacket {
         }
     }
 
-    // Bit `k` of byte 4 at identity 4. No `matches!`: tried, and an arm that is wrong is then refused at the search's limit and by no fact.
+    // Bit `k` of byte 4 at identity 4.
     fn side_flag(self, k: u8) -> bool
         ensures { result ≡ side_button k self }
     {

@@ -12,7 +12,7 @@ use ps2_bytes::MouseId;
 use ps2_packet::{MousePacket, MousePacket3, MousePacket4, MousePacketGeneric, SignedPacket};
 use ps2_ports::read_data;
 
-// The bytes that every packet starts with. Kept as three bytes, no plainer: `MousePacket3` and `MousePacket4` are made of bytes.
+// The bytes that every packet starts with.
 #[derive(Clone, Copy)]
 struct FirstBytes {
     byte1: u8,
@@ -20,7 +20,7 @@ struct FirstBytes {
     byte3: u8,
 }
 
-// The identities whose packets have a fourth byte. Kept beside `MouseId`, no plainer: with its three identities a match would have a case that no fourth byte belongs to.
+// The identities whose packets have a fourth byte.
 #[derive(Clone, Copy)]
 enum FourByteId {
     Three,

@@ -25,7 +25,8 @@ const SEND_TRIES: u8 = 255;
 // The most polls of a receiving, of a port test and of a search for a byte, and data reads of the controller's test.
 pub const POLL_LIMIT: u32 = 65535;
 
-// A port's answer to its test where it passed. Kept as a byte, no plainer: the wait compares bytes, and any other uses up its turn, listed or not.
+// A port's answer to its test where it passed. The wait compares bytes: any other uses up its turn,
+// listed or not.
 const PORT_TEST_PASSED: u8 = 0x00;
 
 // The controller's answer to its test where it passed.
@@ -35,7 +36,6 @@ const CONTROLLER_TEST_PASSED: u8 = 0x55;
 pub type Polled = Answer<Option<u8>>;
 
 // How a byte is waited for: by polls, or by data reads that do not ask the status.
-// Kept as an enum, no plainer: with a closure the contract has to speak of every step that it may be, and ask for bounds on what each call returns.
 #[derive(Clone, Copy, PartialEq, Eq)]
 pub enum Waiting {
     Polls,
@@ -46,7 +46,6 @@ pub enum Waiting {
 pub type Received = Handed<DeviceToHostResponse>;
 
 // Has the controller test itself.
-// Kept as two slices here and below: document 01 has each call take a script and a log.
 pub fn test(script: &[u8], log: &mut [u8]) -> Answer<()>
     ensures { told result log.new ≡ play test_controller script.now log.old }
 {
@@ -77,7 +76,6 @@ fn test_port(script: &[u8], log: &mut [u8], command: HostToControllerCommand) ->
 }
 
 // Polls until a port test's answer says that the port passed.
-// Kept beside the next, a rule of the project: the Rust's public functions keep their names. Both call the one wait, with constants of their own.
 pub fn match_port_test_result(script: &[u8]) -> Answer<()>
     ensures { ReadsTold port_test_result script.now result }
 {
@@ -104,7 +102,7 @@ pub fn read_controller_test_result(script: &[u8]) -> Answer<()>
 }
 
 // Waits for the byte that says that a test was passed; any other uses up its turn.
-// Kept as `loop` here and below: document 01 asks for bounded loops that yield their answer by `break`. Each search has its own, no plainer: they differ in what ends a turn, and one for all would take that as a closure.
+// A bounded `loop` that yields by `break`, here and below: document 01 names this form.
 pub fn read_test_result(
     script: &[u8],
     waiting: Waiting,
@@ -149,7 +147,6 @@ pub fn polling_send_receive(script: &[u8], log: &mut [u8], value: HostToDevice) 
 }
 
 // The same, with what is thrown away behind the bytes kept before.
-// Kept beside the shorter form, no plainer, as the receiving's below: each caller of the shorter would hand in `none_kept()`, and prove that onto nothing is the operation itself.
 pub fn polling_send_receive_onto(
     script: &[u8],
     log: &mut [u8],
@@ -167,7 +164,6 @@ pub fn polling_send_receive_onto(
 }
 
 // The same, with what is thrown away added where the bytes kept before lie.
-// Kept beside the by-value form, a rule of the project, as the receiving's below: that one is public and hands its bytes back; it is a few lines over this.
 pub fn polling_send_receive_keeping(
     script: &[u8],
     log: &mut [u8],

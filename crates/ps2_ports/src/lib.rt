@@ -39,7 +39,6 @@ fn read_port(script: &[u8], port: ReadPort) -> Answer<u8>
 }
 
 // A write puts its pair where two bytes are free; a lone last byte of the log stays as it is.
-// Kept as a number, no plainer: `ReadPort` names what is read, and 64 is the status there and the commands here.
 fn write_port(log: &mut [u8], port: u8, value: u8) -> Answer<()>
     ensures { (p : Port) → port ≡ number p → WritesTold (write_port p value) log.old result log.new }
 {
@@ -63,7 +62,6 @@ pub fn write_command(log: &mut [u8], value: HostToControllerCommand) -> Answer<(
 }
 
 // Reads the configuration byte.
-// Kept as two slices: document 01 has each call take a script and a log, and give its counts.
 pub fn read_config(script: &[u8], log: &mut [u8]) -> Answer<ControllerConfigurationByte>
     ensures { told result log.new ≡ play read_config script.now log.old }
 {

@@ -19,7 +19,7 @@ pub enum SalvageRefusal {
 }
 
 impl SalvageRefusal {
-    // The number that document 02 gives to a refusal. Kept, no plainer: the documents call it a number, and `u8::from(refusal)` says less.
+    // The number that document 02 gives to a refusal.
     pub fn number(self) -> u8
         ensures { result ≡ refusal_number self }
     {
@@ -46,12 +46,12 @@ fn pass<const LENGTH: usize>(bytes: &[u8], packets: &mut [u8], positions: &mut [
     let mut packet_bytes = 0;
     let mut dropped = 0;
     let answer = 'pass: loop {
-        // Packets that follow one another have a loop of their own: one loop for both was faster or slower by a third as the compiler placed it (docs/DECISIONS.md). No `for` counts either, no plainer: a dropped byte shifts all behind it.
+        // Packets that follow one another have a loop of their own: one loop for both was faster or
+        // slower by a third as the compiler placed it (docs/DECISIONS.md).
         while let Some(&packet) = bytes[used..].first_chunk::<LENGTH>() {
             if !has(packet[0], ALWAYS_ONE) {
                 break;
             }
-            // `first_chunk_mut`, and `get_mut` below, would ask and write in one. Tried: with them `loop-packet-preserved` and `pass-preserved` stay open, since of what such a loan wrote in a loop only the length is told.
             if packets.len() - packet_bytes < LENGTH {
                 break 'pass Err(SalvageRefusal::NoRoom);
             }

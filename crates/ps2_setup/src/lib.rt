@@ -21,7 +21,6 @@ pub struct WorkingPorts {
 }
 
 // Disables both ports, and reads the configuration.
-// Kept as two slices here and below: document 01 has each call take a script and a log.
 pub fn disable_devices(script: &[u8], log: &mut [u8]) -> Answer<ControllerConfigurationByte>
     ensures { told result log.new ≡ play disable_devices script.now log.old }
 {
@@ -86,7 +85,6 @@ fn test_second(script: &[u8], log: &mut [u8], has_mouse: bool) -> Answer<bool>
 }
 
 // Whether a step worked, where its failure is forgiven. Nothing forgives a lack: it is the only refusal that is answered.
-// Kept beside `forgiven` of ps2_mouse_identity, no plainer: each is two lines over `outcome`, and that one's callers want the identity.
 pub fn tried(answer: Answer<()>) -> Answer<bool>
     ensures { Forgiven answer result }
 {
@@ -129,7 +127,7 @@ fn enable_port(
     }
 }
 
-// The command that enables a port. Kept as a `match`, a rule of the project: a shorter form was tried and proves, but its wrong program (first_port_enabled_twice) is then refused by no fact.
+// The command that enables a port.
 fn enable_command(port: DevicePort) -> HostToControllerCommand
     ensures { result ≡ enable_of port }
 {
@@ -139,7 +137,7 @@ fn enable_command(port: DevicePort) -> HostToControllerCommand
     }
 }
 
-// The port's clock runs, and the port interrupts. Kept as a `match` likewise: a shorter form was tried and proves, but its wrong program (mouse_never_interrupts) is then refused by no fact.
+// The port's clock runs, and the port interrupts.
 fn running(port: DevicePort, config: ControllerConfigurationByte) -> ControllerConfigurationByte
     ensures { result ≡ running_rule (clock_of port) (interrupt_of port) config }
 {

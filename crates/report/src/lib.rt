@@ -18,7 +18,7 @@ use report_totals::{Totals, tally};
 pub struct OutOfRange;
 
 impl OutOfRange {
-    // The number that document 02 gives to this refusal. Kept, no plainer: the documents call it a number, and `u8::from(refusal)` says less.
+    // The number that document 02 gives to this refusal.
     pub fn number(self) -> u8
         ensures { result ≡ refusal_number self }
     {
@@ -26,7 +26,7 @@ impl OutOfRange {
     }
 }
 
-// The number of an answer: 0 where nothing is refused. Kept, C interface: C has no `Result`, and documents 01 and 02 give numbers.
+// The number of an answer: 0 where nothing is refused.
 pub fn answer_number(answer: Result<(), OutOfRange>) -> u8
     ensures { result ≡ answer_number answer }
 {
@@ -46,9 +46,9 @@ pub struct Limits {
 
 // ---- totals within limits
 
-// Kept, C interface: C has the counts of the 94 keys as an array, so they are one here and in each report.
+// C has the counts of the 94 keys as an array, so they are one here and in each report.
 
-// Two counts together. Kept, no plainer, here and for sums: `checked_add` is no trait's, and a sum has a lower limit too.
+// Two counts together.
 fn add_count(most: u64, old: u64, more: u64) -> Result<u64, OutOfRange>
     ensures { result ≡ count_within most (old + more) }
 {
@@ -58,7 +58,7 @@ fn add_count(most: u64, old: u64, more: u64) -> Result<u64, OutOfRange>
     }
 }
 
-// The counts of each key together. Kept, no plainer: the loop ends at the first count that is too high.
+// The counts of each key together.
 fn add_counts(most: u64, old: [u64; 94], more: [u64; 94]) -> Result<[u64; 94], OutOfRange>
     ensures { result ≡ counts_within most (for_each_key (λ key. get_or old key 0 + get_or more key 0)) }
 {
@@ -178,7 +178,7 @@ pub trait Season: Copy {
         Ok(())
     }
 
-    // The mean movement sideways, and upwards. Kept, no plainer: they differ in a field, and one function for both would take a closure.
+    // The mean movement sideways, and upwards.
     final fn mean_x(self) -> Option<WholeMean>
         ensures { result ≡ mean_of (told self).x (told self).packets }
     {
@@ -196,7 +196,7 @@ pub trait Season: Copy {
 
 // ---- the report in 32 bits
 
-// Presses for each key, packets, and sums of x and y. Kept beside `Totals`, C interface: C has a report of each width.
+// Presses for each key, packets, and sums of x and y, as C has them.
 #[repr(C)]
 #[derive(Clone, Copy)]
 pub struct Report {
@@ -206,7 +206,6 @@ pub struct Report {
     pub y: i32,
 }
 
-// Kept, no plainer, here and below: each is called twice, and its callers rest on its promise that a number which fits stays the same.
 fn narrow(n: u64) -> u32
     ensures { n < 4294967296 → result ≡ n }
 {
@@ -241,7 +240,7 @@ fn narrow_counts(counts: [u64; 94]) -> [u32; 94]
 }
 
 impl Report {
-    // A report of no session. Kept, no plainer: one `empty` in `Season` would want a law of each width that 0 is within its limits, and narrow 94 zeros.
+    // A report of no session.
     pub fn empty() -> Report
         ensures { result ≡ report_of no_totals }
     {

@@ -17,7 +17,7 @@ pub struct LongReport {
 }
 
 impl LongReport {
-    // A report of no session. Kept, C interface: C has the 94 counts as an array; and no plainer as one with `Report::empty`, whose lines say why.
+    // A report of no session.
     pub fn empty() -> LongReport
         ensures { result ≡ long_of no_totals }
     {
@@ -31,7 +31,7 @@ impl LongReport {
         }
     }
 
-    // An old report, with no number changed. Kept, no plainer: `widen` says what `from` would not, that no number changes.
+    // An old report, with no number changed.
     pub fn widen(old: Report) -> LongReport
         ensures { result ≡ widened old }
     {

@@ -38,7 +38,7 @@ struct Moved {
 }
 
 // An event as a report takes it, in one byte: the keycode's number where it is a press, and from 128 on where it is a release.
-// Kept a byte, C interface: C lends a session's events as bytes.
+// C lends a session's events as such bytes.
 pub fn event_code(event: KeyEvent) -> u8
     ensures { result ≡ event_code event }
 {
@@ -63,7 +63,7 @@ fn tally_presses(codes: &[u8]) -> [u64; 94]
     presses
 }
 
-// The first three bytes of the packet at a place. Kept a `requires`, no plainer, here and below: these are private, and `tally` asks the length once.
+// The first three bytes of the packet at a place.
 fn packet_at(bytes: &[u8], at: usize) -> MousePacketGeneric
     requires { at + 3 ≤ length bytes.now }
     ensures { result ≡ generic (get_or bytes.now at 0) (get_or bytes.now (at + 1) 0) (get_or bytes.now (at + 2) 0) }
@@ -71,7 +71,7 @@ fn packet_at(bytes: &[u8], at: usize) -> MousePacketGeneric
     MousePacketGeneric::from_bytes(bytes[at], bytes[at + 1], bytes[at + 2])
 }
 
-// The packets of so many bytes and the sums of x and y, packet by packet. Kept, no plainer: `as_chunks` promises chunks, which would have to be led back to the places that `Movements` speaks of.
+// The packets of so many bytes and the sums of x and y, packet by packet.
 fn pass<const N: usize>(bytes: &[u8]) -> Moved
     requires length { (id : MouseId) × (packet_length id ≡ N) }
     requires room { length bytes.now < tally_bytes }

@@ -37,7 +37,8 @@ pub struct MeanWords {
     pub remainder: u64,
 }
 
-// Adds a session of a mouse whose identity is 0, 3 or 4, and answers the refusal's number: 255 where the identity is another. Kept, C interface, here and below: C passes a session's three parts by themselves.
+// Adds a session of a mouse whose identity is 0, 3 or 4, and answers the refusal's number: 255
+// where the identity is another.
 fn add_session<R: Season>(report: &mut R, identity: u32, events: &[u8], mouse: &[u8]) -> u32
     ensures { record { refusal = result; report = report.new } ≡ session_added R.LIMITS R.told R.having (identity_at identity) report.old events.now mouse.now }
 {
@@ -47,7 +48,6 @@ fn add_session<R: Season>(report: &mut R, identity: u32, events: &[u8], mouse: &
     }
 }
 
-// Kept, no plainer: two callers name it, and `from` would say less.
 fn mean_words(mean: Option<WholeMean>) -> MeanWords
     ensures { result ≡ mean_words mean }
 {
@@ -65,7 +65,7 @@ fn mean_words(mean: Option<WholeMean>) -> MeanWords
     }
 }
 
-// The mean movement sideways, and upwards, of a report of either width. Kept two, as in report: they differ in a field.
+// The mean movement sideways, and upwards, of a report of either width.
 pub fn mean_x<R: Season>(report: R) -> MeanWords
     ensures { result ≡ mean_words (mean_of (R.told report).x (R.told report).packets) }
 {
@@ -80,7 +80,7 @@ pub fn mean_y<R: Season>(report: R) -> MeanWords
 
 // ---- the report in 32 bits
 
-// A report of no session. Kept, as in report: the two widths have an `empty` each.
+// A report of no session.
 pub fn report_empty() -> Report
     ensures { result ≡ report_of no_totals }
 {

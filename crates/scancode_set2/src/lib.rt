@@ -13,7 +13,7 @@ pub enum ConvertRefusal {
 }
 
 impl ConvertRefusal {
-    // The number that request 2.2 gives to a refusal. Kept, no plainer: the documents call it a number, and `u8::from(refusal)` says less.
+    // The number that request 2.2 gives to a refusal.
     pub fn number(self) -> u8
         ensures { result ≡ refusal_number self }
     {
@@ -33,7 +33,6 @@ pub struct Conversion {
 const BREAK: u8 = 0xF0;
 
 // What stands for the byte of a code that has no entry.
-// Kept as 00, no plainer: a code's number has room for three bytes, and each may be none.
 const NO_ENTRY: u8 = 0x00;
 
 // From here on a code has the top bit: F0, E0 and E1, and two keys.
@@ -47,7 +46,6 @@ const ALONE: u32 = 0;
 const ALONE_WITH_TOP_BIT: u32 = 24;
 
 // Converts a set 2 key stream to set 1, from the start of both slices on. Behind the bytes written the output stays as it was.
-// Kept a `while` with its places, no plainer: a turn takes one byte or two, so no range counts them, and both places are answered.
 pub fn convert(stream: &[u8], out: &mut [u8]) -> Conversion
     ensures { outcome (said_converted result.answer) result.used result.written out.new ≡ converted stream.now out.old }
 {
@@ -56,7 +54,6 @@ pub fn convert(stream: &[u8], out: &mut [u8]) -> Conversion
     while used < stream.len() {
         let code = stream[used];
         let after = used + 1;
-        // Kept, no plainer: as one `let (key, next, shift)` each branch would give three values without their names.
         let key: u8;
         let next: usize;
         let shift: u32;

@@ -23,7 +23,6 @@ const THIRD: &[u8] = &[0x09, 0x05, 0x00, 0x08, 0x00, 0x05];
 // More steps than the scripts allow.
 const STEPS: usize = 100;
 
-// Kept functions, here and below, no plainer: a program writes no `Display` for the types of other crates.
 fn name_of(side: Side) -> &'static str {
     match side {
         Side::First => "side 1",

@@ -15,7 +15,7 @@ pub enum TypingRefusal {
 }
 
 impl TypingRefusal {
-    // The number that request 2.6 gives to a refusal. Kept, no plainer: the documents call it a number, and `u8::from(refusal)` says less.
+    // The number that request 2.6 gives to a refusal.
     pub fn number(self) -> u8
         ensures { result ≡ refusal_number self }
     {
@@ -32,7 +32,6 @@ const SHIFT_RELEASED: u8 = 0xAA;
 const RELEASED: u8 = 0x80;
 
 // What the table adds to the keycode of a key that needs Shift, and what it has for a character without a key.
-// Kept in one byte, no plainer: the table is a string of bytes, and as options it would be 128 values written out.
 const NEEDS_SHIFT: u8 = 0x80;
 
 const NO_KEY: u8 = 0x00;
@@ -97,7 +96,6 @@ fn count_shifted(text: &[u8]) -> Option<usize>
 }
 
 // Writes the scancodes of a text that is accepted, and answers how many they are. The table has every character of it.
-// Kept, a rule of the project: there is no heap, so the bytes go into a lent output, at a place that is counted.
 fn put_keys(text: &[u8], out: &mut [u8]) -> usize
     requires { Accepted (length out.old) text.now }
     ensures { told (Ok result) out.new ≡ leaves out.old (typed (length out.old) text.now) }

@@ -1,5 +1,7 @@
 // The library that others link: every operation that a table needs, for C or Rust. Each function is one of a layer below, with its contract.
-// Kept, C interface: C passes numbers, and pointers with lengths; so kinds are numbers here, and scripts, logs and records slices; and each export stands by itself, and once for each report, since C has no generics and a static library has its own crate's exports alone (docs/DECISIONS.md).
+// C passes numbers, and pointers with lengths; so kinds are numbers here, and scripts, logs and
+// records slices. Each export stands by itself, and once for each report, since C has no generics
+// and a static library has its own crate's exports alone (docs/DECISIONS.md).
 #![tactic(auto)]
 
 mod byte_exports;
