@@ -2,3 +2,4 @@
 pub mod Codes
 pub mod Chars
 pub mod CharacterTable
+pub mod CharacterPage

@@ -3,6 +3,7 @@ pub mod Keys
 pub mod ChosenOnce
 pub mod Typable
 pub mod Table
+pub mod KeyTable
 pub mod Texts
 pub mod Joining
 pub mod Lengths
