@@ -3,12 +3,11 @@
 use mathlib.Core.Path.{◌≡◌, refl, sym, ap, ap₂, subst, ◌∙◌}
 use mathlib.Core.List.{List, [], ◌∷◌, ◌++◌, append-nil, append_assoc}
 use mathlib.Core.Option.{some, some-injective, none-ne-some}
-use Prim.Native.Nat.{ℕ, ◌+◌, ◌-◌, ◌<◌, ◌≤◌}
+use Prim.Native.Nat.{ℕ, suc, ◌+◌, ◌-◌, ◌<◌, ◌≤◌}
 use native.Mathlib.Numerals.{add-one}
 use native.Mathlib.Omega.{arith}
-use borrow.Rule.Slice.PartMut.{put_mid}
-use lib.ListN.{length, get_or, drop, length-append, length-drop, drop_of_length-le}
-use lib.Seq.{drop-cons, take-append_seam, drop-append_seam, drop-drop}
+use lib.ListN.{length, get_or, set, drop, length-append, length-drop, drop_of_length-le}
+use lib.Seq.{drop-cons, sets, sets-eq, take-append_seam, drop-append-add, drop-drop}
 use Rattle.std.specs.Prelude.{Ok}
 use Rattle.exchange.specs.Answer.{gives}
 use Rattle.ps2_answers.specs.Refusals.{success}
@@ -22,10 +21,12 @@ use Rattle.typing.proofs.Lengths.{typed_fits}
 
 -- ---- an output of which a part is written
 
-over_puts : (put more before : List ℕ) → put_mid (length put) (length more) (put ++ drop (length put) before) more ≡ (put ++ more) ++ drop (length (put ++ more)) before
-over_puts put more before =
+puts_over : (put more before : List ℕ) → length put + length more ≤ length before
+    → sets (put ++ drop (length put) before) (length put) more ≡ (put ++ more) ++ drop (length (put ++ more)) before
+puts_over put more before h =
     let rest = drop (length put) before in
-    rw (take-append_seam put rest, drop-append_seam put rest, drop-drop (length more) (length put) before, length-append put more, append_assoc put more (drop (length put + length more) before))
+    sets-eq more (put ++ rest) (length put) (omega (arith, length-append put rest, length-drop (length put) before))
+    ∙ rw (take-append_seam put rest, drop-append-add put rest (length more), drop-drop (length more) (length put) before, length-append put more, append_assoc put more (drop (length put + length more) before))
 
 -- ---- the strokes of a key, by its number in the table
 
@@ -104,7 +105,7 @@ module _ {text before out : List ℕ} {i at : ℕ} (h : Putting text before i at
     room_for : at + length (strokes_of next.one) ≤ length out
     room_for = omega (arith, written_le, putting_length, h.place, ap length left_first ∙ length-append (strokes_of next.one) (scancodes next.others))
 
-    goes_on : Putting text before (i + 1) (at + length (strokes_of next.one)) (put_mid at (length (strokes_of next.one)) out (strokes_of next.one))
+    goes_on : Putting text before (i + 1) (at + length (strokes_of next.one)) (sets out at (strokes_of next.one))
     goes_on =
         let strokes = strokes_of next.one in
         record {
@@ -117,8 +118,8 @@ module _ {text before out : List ℕ} {i at : ℕ} (h : Putting text before i at
           whole = h.whole ∙ ap (λ (m : List ℕ). h.put ++ m) left_first ∙ sym (append_assoc h.put strokes (scancodes next.others));
           place = ap (λ (p : ℕ). p + length strokes) h.place ∙ sym (length-append h.put strokes);
           holds =
-              ap₂ (λ (o : List ℕ) (p : ℕ). put_mid p (length strokes) o strokes) h.holds h.place
-              ∙ over_puts h.put strokes before;
+              ap₂ (λ (o : List ℕ) (p : ℕ). sets o p strokes) h.holds h.place
+              ∙ puts_over h.put strokes before (omega (arith, room_for, putting_length, h.place));
         }
 
     module _ {n : ℕ} (q : n ≡ or_none (key_of (get_or text i 0))) where
@@ -131,15 +132,18 @@ module _ {text before out : List ℕ} {i at : ℕ} (h : Putting text before i at
       pub room_plain : n < 0x80 → at + 2 ≤ length out
       room_plain s = rw (strokes_plain next.is_one here s) at room_for
 
-      pub puts_shift : 0x80 ≤ n → Putting text before (i + 1) (at + 4) (put_mid at (at + 4 - at) out (0x2A ∷ (n - 0x80) ∷ (n - 0x80 + 0x80) ∷ 0xAA ∷ []))
+      -- the code stores the strokes one after another
+      pub puts_shift : 0x80 ≤ n → Putting text before (i + 1) (at + 4) (set (set (set (set out at 0x2A) (at + 1) (n - 0x80)) (at + 2) (n - 0x80 + 0x80)) (at + 3) 0xAA)
       puts_shift s =
-          let four : at + 4 - at ≡ 4 = omega arith in
-          rw four (rw (strokes_shift next.is_one here s) at goes_on)
+          let one : at + 1 ≡ suc at = omega arith in
+          let two : at + 2 ≡ suc (suc at) = omega arith in
+          let three : at + 3 ≡ suc (suc (suc at)) = omega arith in
+          rw (one, two, three) (rw (strokes_shift next.is_one here s) at goes_on)
 
-      pub puts_plain : n < 0x80 → Putting text before (i + 1) (at + 2) (put_mid at (at + 2 - at) out (n ∷ (n + 0x80) ∷ []))
+      pub puts_plain : n < 0x80 → Putting text before (i + 1) (at + 2) (set (set out at n) (at + 1) (n + 0x80))
       puts_plain s =
-          let two : at + 2 - at ≡ 2 = omega arith in
-          rw two (rw (strokes_plain next.is_one here s) at goes_on)
+          let one : at + 1 ≡ suc at = omega arith in
+          rw one (rw (strokes_plain next.is_one here s) at goes_on)
 
   -- at the end of the text everything is put
   pub putting_ends : length text ≤ i → told (Ok at) out ≡ leaves before (typed (length before) text)

@@ -105,15 +105,14 @@ fn put_keys(text: &[u8], out: &mut [u8]) -> usize
         let key = key_in(character);
         if NEEDS_SHIFT <= key {
             let code = key - NEEDS_SHIFT;
-            out[at..at + 4].copy_from_slice(&[
-                SHIFT_PRESSED,
-                code,
-                code + RELEASED,
-                SHIFT_RELEASED,
-            ]);
+            out[at] = SHIFT_PRESSED;
+            out[at + 1] = code;
+            out[at + 2] = code + RELEASED;
+            out[at + 3] = SHIFT_RELEASED;
             at += 4;
         } else {
-            out[at..at + 2].copy_from_slice(&[key, key + RELEASED]);
+            out[at] = key;
+            out[at + 1] = key + RELEASED;
             at += 2;
         }
     }
