@@ -88,10 +88,13 @@ fn character_number(found: Option<u8>) -> u32
 pub fn character(keycode: u32, flags: u32) -> u32
     ensures { result ≡ character_at (keycode_of keycode) (flags_at flags) }
 {
-    match (keycode_of(keycode), flags_of(flags)) {
-        (Some(key), Some(held)) => character_number(key.to_ascii(held)),
-        _ => MEANS_NOTHING,
-    }
+    let Some(key) = keycode_of(keycode) else {
+        return MEANS_NOTHING;
+    };
+    let Some(held) = flags_of(flags) else {
+        return MEANS_NOTHING;
+    };
+    character_number(key.to_ascii(held))
 }
 
 // The byte by which a report takes the press or the release of the key with this number.
