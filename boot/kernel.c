@@ -1,0 +1,340 @@
+/* A keyboard and a mouse with no operating system: every byte that the 8042 gives goes through the proved library. What is here is not proved:
+   it asks whose byte waits, lends the bytes, and shows what comes of them on the screen and the serial line.
+
+   Built with -DINTERRUPTS it sleeps until interrupt 1 or 12 comes; without, it polls with interrupts off. */
+#include <stddef.h>
+#include <stdint.h>
+#include "interrupts.h"
+#include "machine.h"
+#include "ports.h"
+#include "vurdellow.h"
+
+static _Alignas(128) uint64_t record[VD_HANDLER_WORDS];
+static vd_controller controller;
+static uint32_t identity, buttons;
+static exchange ports;
+static int is_taking = 1; /* whether events are taken as they come: F1 stops it, and F1 again goes on */
+static uint64_t lost;     /* events that met a full queue */
+
+/* ---- the screen */
+
+#define PLAIN ON(GREY, BLACK)
+#define DIM ON(DARK, BLACK)
+#define HEAD ON(BLACK, CYAN)
+enum { TRAFFIC_ROW = 3, FLAGS_ROW = 6, QUEUE_ROW = 8, TYPED_ROW = 11, FIRST_SAID_ROW = 13, LAST_SAID_ROW = 21, MOUSE_ROW = 23, FIRST_COLUMN = 8, LAST_COLUMN = 79 };
+enum { CELL = 8, MOST_X = COLUMNS * CELL - 1, MOST_Y = ROWS * CELL - 1 }; /* the pointer moves by an eighth of a cell */
+
+static int mouse_x = MOST_X / 2, mouse_y = MOST_Y / 2;
+static uint16_t under_pointer;
+static int is_shown;
+
+static void pointer_hide(void)
+{
+    if (is_shown)
+        cell_put((unsigned)mouse_y / CELL, (unsigned)mouse_x / CELL, under_pointer);
+    is_shown = 0;
+}
+
+static void pointer_show(void)
+{
+    unsigned row = (unsigned)mouse_y / CELL, column = (unsigned)mouse_x / CELL;
+    if (!controller.mouse)
+        return;
+    under_pointer = cell_at(row, column);
+    cell(row, column, under_pointer & 0xFF, ON(BLACK, buttons ? RED : GREY));
+    is_shown = 1;
+}
+
+/* The traffic on the ports, two rows in turn: data read white, data written yellow, commands red. Reads of the status are not shown. */
+void saw(uint8_t port, uint8_t value, int is_write)
+{
+    static unsigned column = COLUMNS, row = TRAFFIC_ROW + 1;
+    text it = { .length = 0 };
+    if (port == VD_STATUS_PORT && !is_write)
+        return;
+    if (column + 3 > LAST_COLUMN)
+        row = row == TRAFFIC_ROW ? TRAFFIC_ROW + 1 : TRAFFIC_ROW, column = 1, blank(row, 0, COLUMNS, PLAIN);
+    put_hex(&it, value, 2);
+    column = write(row, column, ON(!is_write ? WHITE : port == VD_STATUS_PORT ? BRIGHT_RED : YELLOW, BLACK), it.letters) + 1;
+}
+
+static void show_record(void)
+{
+    static const char *const names[] = { "ShiftL", "ShiftR", "CtrlL", "CtrlR", "Alt", "SuperL", "SuperR", "CAPS", "NUM", "SCROLL", "AltGr" };
+    unsigned i, column = FIRST_COLUMN;
+    uint64_t waiting = record[VD_EVENTS_WAITING], flags = record[VD_FIRST_FLAGS];
+    int is_full = waiting == VD_QUEUE_LENGTH;
+    text it = { .length = 0 };
+    for (i = 0; i < sizeof names / sizeof *names; i++)
+        column = write(FLAGS_ROW, column, flags >> i & 1 ? ON(BLACK, i < 7 ? GREEN : BROWN) : DIM, names[i]) + 1;
+    for (i = 0; i < VD_QUEUE_LENGTH; i++)
+        cell(QUEUE_ROW + i / 64, FIRST_COLUMN + i % 64, i < waiting ? 0xDB : 0xFA, i < waiting ? ON(is_full ? BRIGHT_RED : BRIGHT_GREEN, BLACK) : DIM);
+    put_number(&it, (int64_t)waiting), put_text(&it, "   ");
+    write(QUEUE_ROW, FIRST_COLUMN + 66, is_full ? ON(BRIGHT_RED, BLACK) : ON(WHITE, BLACK), it.letters);
+    it.length = 0, put_number(&it, (int64_t)lost), put_text(&it, " lost");
+    write(QUEUE_ROW + 1, FIRST_COLUMN + 66, lost ? ON(BRIGHT_RED, BLACK) : DIM, it.letters);
+}
+
+static void show_line(unsigned colour, const text *it)
+{
+    static unsigned row = FIRST_SAID_ROW;
+    unsigned next = row == LAST_SAID_ROW ? FIRST_SAID_ROW : row + 1;
+    blank(row, 1, COLUMNS, PLAIN);
+    write(row, 1, colour, it->letters);
+    blank(next, 0, COLUMNS, PLAIN);
+    row = next;
+}
+
+static void type(uint32_t character)
+{
+    static unsigned typed;
+    if (character == '\b') {
+        if (typed > 0)
+            cell(TYPED_ROW, FIRST_COLUMN + --typed, ' ', PLAIN);
+    } else if (character == '\n' || character == 27) {
+        blank(TYPED_ROW, FIRST_COLUMN, LAST_COLUMN, PLAIN), typed = 0;
+    } else if (character >= 32 && FIRST_COLUMN + typed < LAST_COLUMN) {
+        cell(TYPED_ROW, FIRST_COLUMN + typed++, (uint8_t)character, ON(WHITE, BLACK));
+    }
+}
+
+/* ---- what the calls came to, on the serial line */
+
+static void say(unsigned colour, const text *it)
+{
+    serial_line(it->letters);
+    if (colour)
+        show_line(colour, it);
+}
+
+/* The script that a call read and the log that it wrote, as the recorded calls of tests/traces have them. */
+static void put_call(text *to, const char *name, const uint8_t *script, size_t used, size_t pairs, uint32_t refusal)
+{
+    put_text(to, name), put_text(to, " script="), put_bytes(to, script, used);
+    put_text(to, " log="), put_bytes(to, ports.log, 2 * pairs);
+    put_text(to, " refused="), put_number(to, refusal);
+}
+
+extern uint8_t stack_bottom[], stack_top[];
+enum { UNUSED = 0xA5 };
+
+static size_t stack_used(void)
+{
+    const uint8_t *p = stack_bottom;
+    size_t most;
+    while (p < stack_top && *p == UNUSED)
+        p++;
+    most = (size_t)(stack_top - p);
+#ifdef INTERRUPTS
+    most = interrupts_stack_used() > most ? interrupts_stack_used() : most;
+#endif
+    return most;
+}
+
+/* ---- events */
+
+static void take_all(void)
+{
+    for (;;) {
+        vd_taken event = vd_take(record, VD_HANDLER_WORDS);
+        uint32_t character;
+        text it = { .length = 0 };
+        if (event.side == 0)
+            return;
+        /* A line as the program tablekeys writes it, behind the word. */
+        character = vd_character(event.keycode, event.flags);
+        put_text(&it, "event "), put_hex(&it, event.keycode, 2);
+        put_text(&it, event.action == VD_PRESSED ? " P " : " R "), put_hex(&it, event.flags, 3), put(&it, ' ');
+        if (character)
+            put_number(&it, character);
+        else
+            put(&it, '-');
+        say(event.action == VD_PRESSED ? ON(BRIGHT_GREEN, BLACK) : ON(GREEN, BLACK), &it);
+        if (event.action == VD_PRESSED)
+            type(character);
+        show_record();
+    }
+}
+
+/* ---- the mouse: a byte at a time, until they are a packet */
+
+static void mouse_byte(uint8_t byte)
+{
+    static uint8_t script[4];
+    static size_t length;
+    vd_packet packet;
+    text it = { .length = 0 };
+    script[length++] = byte;
+    packet = vd_mouse_read_packet(identity, script, length);
+    if (packet.refusal == VD_SCRIPT_ENDS && length < sizeof script)
+        return;
+    length = 0, buttons = packet.buttons;
+    mouse_x += packet.x, mouse_y -= packet.y;
+    mouse_x = mouse_x < 0 ? 0 : mouse_x > MOST_X ? MOST_X : mouse_x;
+    mouse_y = mouse_y < 0 ? 0 : mouse_y > MOST_Y ? MOST_Y : mouse_y;
+    put_text(&it, "packet x="), put_number(&it, packet.x), put_text(&it, " y="), put_number(&it, packet.y);
+    put_text(&it, " wheel="), put_number(&it, packet.wheel), put_text(&it, " buttons="), put_hex(&it, packet.buttons, 2);
+    serial_line(it.letters);
+    blank(MOUSE_ROW, FIRST_COLUMN, LAST_COLUMN, PLAIN), write(MOUSE_ROW, FIRST_COLUMN, ON(BRIGHT_CYAN, BLACK), it.letters);
+}
+
+/* ---- the keyboard: a byte at a time; a lock's lamps are told to the keyboard at once */
+
+/* While a lamp exchange reads bytes the mouse is kept quiet: the exchange would take a byte of the mouse for the keyboard's. */
+enum { MOUSE_OFF = 0xA7, MOUSE_ON = 0xA8 };
+
+static void mouse_port(uint8_t command)
+{
+    while (in8(VD_STATUS_PORT) & 2)
+        ;
+    out8(VD_STATUS_PORT, command);
+    while (in8(VD_STATUS_PORT) & 2)
+        ;
+    if (command == MOUSE_OFF && (in8(VD_STATUS_PORT) & 0x21) == 0x21)
+        mouse_byte(in8(VD_DATA_PORT));
+}
+
+/* One handler call, on a byte of the keyboard or, with none, on one that waits in the record. */
+static void keyboard_call(const uint8_t *script, size_t length)
+{
+    vd_handled call = vd_handle(record, VD_HANDLER_WORDS, VD_SIDE_1, script, length, NULL, 0);
+    text it = { .length = 0 };
+    if (call.refusal == VD_SCRIPT_ENDS) {
+        if (controller.mouse)
+            mouse_port(MOUSE_OFF);
+        exchange_begin(&ports, script, length);
+        DRIVE(&ports, call, vd_handle(record, VD_HANDLER_WORDS, VD_SIDE_1, LENT(&ports)));
+        script = ports.script;
+        if (controller.mouse)
+            mouse_port(MOUSE_ON);
+    }
+    put_call(&it, "handle", script, call.used, call.pairs, call.refusal);
+    if (call.lamps)
+        put_text(&it, " lamps="), put_number(&it, call.lamps);
+    if (call.dropped)
+        put_text(&it, " dropped="), put_number(&it, call.dropped);
+    if (call.refusal == VD_QUEUE_FULL)
+        lost++, put_text(&it, " flags="), put_hex(&it, (uint32_t)record[VD_FIRST_FLAGS], 3);
+    say(call.refusal ? ON(BRIGHT_RED, BLACK) : call.pairs ? ON(YELLOW, BLACK) : 0, &it);
+    show_record();
+}
+
+enum { F1_RELEASED = 0xBB };
+
+static void keyboard_byte(uint8_t byte)
+{
+    saw(VD_DATA_PORT, byte, 0);
+    keyboard_call(&byte, 1);
+    while (record[VD_FIRST_WAITING] > 0)
+        keyboard_call(NULL, 0);
+    if (byte == F1_RELEASED) {
+        text it = { .length = 0 };
+        if (is_taking)
+            take_all();
+        is_taking = !is_taking;
+        put_text(&it, is_taking ? "events are taken; stack used so far " : "nobody takes events; stack used so far ");
+        put_number(&it, (int64_t)stack_used());
+        say(ON(WHITE, BLACK), &it);
+    }
+}
+
+/* Whoever's byte waits: whether one did. */
+static int serve(void)
+{
+    uint8_t status = in8(VD_STATUS_PORT);
+    if (!(status & 1))
+        return 0;
+    pointer_hide();
+    if (status & 0x20)
+        mouse_byte(in8(VD_DATA_PORT));
+    else
+        keyboard_byte(in8(VD_DATA_PORT));
+    pointer_show();
+    return 1;
+}
+
+/* ---- the start */
+
+static void tell_call(const char *name, size_t used, size_t pairs, uint32_t refusal)
+{
+    text it = { .length = 0 };
+    put_call(&it, name, ports.script, used, pairs, refusal);
+    serial_line(it.letters);
+}
+
+static void devices_begin(void)
+{
+    vd_initialized found;
+    vd_answer answer;
+    text it = { .length = 0 };
+
+    exchange_begin(&ports, NULL, 0);
+    DRIVE(&ports, found, vd_controller_init(controller, LENT(&ports)));
+    controller = found.controller;
+    tell_call("init", found.used, found.pairs, found.refusal);
+    put_text(&it, "controller: refused "), put_number(&it, found.refusal);
+    put_text(&it, ", keyboard "), put_number(&it, controller.keyboard), put_text(&it, ", mouse "), put_number(&it, controller.mouse);
+    say(ON(WHITE, BLACK), &it);
+
+    exchange_begin(&ports, NULL, 0);
+    DRIVE(&ports, answer, vd_keyboard_init(record, VD_HANDLER_WORDS, VD_ONE_KEYBOARD, VD_ANY_KEYS, LENT(&ports)));
+    tell_call("keyboard_init", answer.used, answer.pairs, answer.refusal);
+    if (controller.mouse) {
+        exchange_begin(&ports, NULL, 0);
+        DRIVE(&ports, answer, vd_mouse_set_identity(VD_NO_WHEEL, LENT(&ports)));
+        identity = (uint32_t)answer.value;
+        tell_call("set_mouse_id", answer.used, answer.pairs, answer.refusal);
+        exchange_begin(&ports, NULL, 0);
+        DRIVE(&ports, answer, vd_mouse_start_packets(LENT(&ports)));
+        tell_call("mouse_enable", answer.used, answer.pairs, answer.refusal);
+        it.length = 0, put_text(&it, "mouse: identity "), put_number(&it, identity);
+        say(ON(WHITE, BLACK), &it);
+    }
+    it.length = 0, put_number(&it, (int64_t)traffic_so_far.runs), put_text(&it, " runs, "), put_number(&it, (int64_t)traffic_so_far.reads);
+    put_text(&it, " reads, "), put_number(&it, (int64_t)traffic_so_far.writes), put_text(&it, " writes; stack used so far ");
+    put_number(&it, (int64_t)stack_used());
+    say(ON(WHITE, BLACK), &it);
+}
+
+static void screen_heads(void)
+{
+    screen_begin();
+    blank(0, 0, COLUMNS, HEAD), write(0, 1, HEAD, "Vurdellow on bare metal: a PS/2 keyboard and mouse through the proved library");
+    write(TRAFFIC_ROW - 1, 1, DIM, "Ports: read from 60 white, written to 60 yellow, commands to 64 red");
+    write(FLAGS_ROW, 1, DIM, "Flags"), write(QUEUE_ROW, 1, DIM, "Queue"), write(TYPED_ROW, 1, DIM, "Text"), write(MOUSE_ROW, 1, DIM, "Mouse");
+    blank(ROWS - 1, 0, COLUMNS, HEAD), write(ROWS - 1, 1, HEAD, "F1: nobody takes events, and the queue fills up. F1 again: they are taken");
+}
+
+#ifdef INTERRUPTS
+/* A byte an interrupt; none is there where an exchange has read it. */
+static void on_interrupt(void)
+{
+    serve();
+}
+#endif
+
+void kernel(void)
+{
+    uint8_t *p, *here = __builtin_frame_address(0);
+    for (p = stack_bottom; p < here - 512; p++)
+        *p = UNUSED;
+    serial_begin();
+    screen_heads();
+#ifdef INTERRUPTS
+    interrupts_begin(on_interrupt, on_interrupt);
+#endif
+    devices_begin();
+    serial_line("ready");
+    show_record();
+    pointer_show();
+    for (;;) {
+#ifdef INTERRUPTS
+        interrupts_wait();
+#else
+        if (!serve())
+            __asm__ volatile("pause");
+#endif
+        if (is_taking && record[VD_EVENTS_WAITING] > 0)
+            pointer_hide(), take_all(), pointer_show();
+    }
+}
