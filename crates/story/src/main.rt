@@ -6,7 +6,9 @@ use keyboard_modifiers::KeyboardModifiers;
 use keyboard_record::{KeyboardHandler, Keyboards, Table, take_event};
 use keyboard_scancodes::Profile;
 use keyboard_sides::Side;
+use program_status::ended;
 use std::io::Result;
+use std::process::ExitCode;
 
 const CONTROL_PRESSED: u8 = 0x1D;
 
@@ -145,8 +147,11 @@ fn tell_two_sides(rt: &impl Print) -> Result<()> {
     )
 }
 
-fn main(rt: HostRuntime) {
-    // A story that can't be written ends there: the failure is told nowhere, and the status is 0.
-    let _ = tell_full_queue(&rt);
-    let _ = tell_two_sides(&rt);
+fn tell_both(rt: &impl Print) -> Result<()> {
+    tell_full_queue(rt)?;
+    tell_two_sides(rt)
+}
+
+fn main(rt: HostRuntime) -> ExitCode {
+    ended(&rt, "story", tell_both(&rt))
 }

@@ -1,7 +1,9 @@
 // Prints the key events of the scancodes on standard input. The first 65,536 bytes are the script; more are ignored.
 #![tactic(auto)]
 
+use program_status::ended;
 use std::io::{Read, Result, Write};
+use std::process::ExitCode;
 
 const SCRIPT_LIMIT: u64 = 65536;
 
@@ -10,8 +12,7 @@ const LISTING_ROOM: usize = 851968;
 
 fn print_listing(rt: &HostRuntime) -> Result<()> {
     let mut script = Vec::new(rt.alloc());
-    // What came before a reading that fails is the script, as before the input's end.
-    let _ = rt.stdin().take(SCRIPT_LIMIT).read_to_end(&mut script);
+    rt.stdin().take(SCRIPT_LIMIT).read_to_end(&mut script)?;
     let mut listing = Vec::new(rt.alloc());
     listing.resize(LISTING_ROOM, 0)?;
     let count = key_listing::list_keys(script.as_slice(), listing.as_mut_slice());
@@ -19,7 +20,6 @@ fn print_listing(rt: &HostRuntime) -> Result<()> {
     rt.stdout().write_all(listing.as_slice())
 }
 
-fn main(rt: HostRuntime) {
-    // A listing that can't be written ends there: the failure is told nowhere, and the status is 0.
-    let _ = print_listing(&rt);
+fn main(rt: HostRuntime) -> ExitCode {
+    ended(&rt, "tablekeys", print_listing(&rt))
 }

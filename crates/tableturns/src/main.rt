@@ -7,9 +7,11 @@ use keyboard_record::{KeyboardHandler, Keyboards, SideEvent, Table, take_event};
 use keyboard_scancodes::Profile;
 use keyboard_sides::Side;
 use keycodes_ascii::KeyAction;
+use program_status::ended;
 use ps2_mouse::PS2Mouse;
 use ps2_packet::MousePacket;
 use std::io::Result;
+use std::process::ExitCode;
 
 // Side 1 presses Caps Lock, and A during its lamp exchange; then releases A.
 const FIRST: &[u8] = &[0x3A, 0x00, 0x01, 0x1E, 0x01, 0xFA, 0x00, 0x01, 0xFA, 0x9E];
@@ -146,7 +148,6 @@ fn show_both(rt: &impl Print) -> Result<()> {
     show(rt, Keyboards::One, SECOND, SECOND, THIRD)
 }
 
-fn main(rt: HostRuntime) {
-    // Where a line can't be written, the program ends: the failure is told nowhere, and the status is 0.
-    let _ = show_both(&rt);
+fn main(rt: HostRuntime) -> ExitCode {
+    ended(&rt, "tableturns", show_both(&rt))
 }

@@ -1,7 +1,9 @@
 // Types the text on standard input: writes its scancodes to standard output. The first 65,536 characters are taken; more are ignored. A refusal is told on standard error.
 #![tactic(auto)]
 
+use program_status::ended;
 use std::io::{Eprint, Read, Result, Write};
+use std::process::ExitCode;
 
 const TEXT_LIMIT: u64 = 65536;
 
@@ -10,8 +12,7 @@ const SCANCODE_ROOM: usize = 262144;
 
 fn type_input(rt: &HostRuntime) -> Result<()> {
     let mut text = Vec::new(rt.alloc());
-    // What came before a reading that fails is the text, as before the input's end.
-    let _ = rt.stdin().take(TEXT_LIMIT).read_to_end(&mut text);
+    rt.stdin().take(TEXT_LIMIT).read_to_end(&mut text)?;
     let mut scancodes = Vec::new(rt.alloc());
     scancodes.resize(SCANCODE_ROOM, 0)?;
     match typing::type_text(text.as_slice(), scancodes.as_mut_slice()) {
@@ -26,7 +27,6 @@ fn type_input(rt: &HostRuntime) -> Result<()> {
     }
 }
 
-fn main(rt: HostRuntime) {
-    // What can't be written is told nowhere, and the status is 0.
-    let _ = type_input(&rt);
+fn main(rt: HostRuntime) -> ExitCode {
+    ended(&rt, "tabletypes", type_input(&rt))
 }

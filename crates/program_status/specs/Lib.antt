@@ -1,0 +1,2 @@
+-- The status that a program ends with.
+pub mod Status
