@@ -2,6 +2,7 @@
 
 use std::env;
 use std::path::{Path, PathBuf};
+use std::process;
 
 const ARCHIVE: &str = "libvurdellow.a";
 
@@ -15,12 +16,18 @@ fn main() {
     };
     println!("cargo:rerun-if-changed={}", archive.display());
     if archive.file_name().is_none_or(|name| name != ARCHIVE) {
-        panic!("VURDELLOW_LIB is to name {ARCHIVE} or its folder, and names {}", archive.display());
+        fail(format!("VURDELLOW_LIB is to name {ARCHIVE} or its folder, and names {}", archive.display()));
     }
     if !archive.is_file() {
-        panic!("there is no {}: ./build-lib makes it, and VURDELLOW_LIB may name another place", archive.display());
+        fail(format!("there is no {}: ./build-lib makes it, and VURDELLOW_LIB may name another place", archive.display()));
     }
-    let folder = archive.parent().unwrap_or(Path::new(".")).canonicalize().expect("the library's folder");
-    println!("cargo:rustc-link-search=native={}", folder.display());
+    // A path without a folder is one in this package's: the whole path has a parent in any case.
+    let whole = archive.canonicalize().unwrap_or_else(|e| fail(format!("{}: {e}", archive.display())));
+    println!("cargo:rustc-link-search=native={}", whole.with_file_name("").display());
     println!("cargo:rustc-link-lib=static=vurdellow");
+}
+
+fn fail(words: String) -> ! {
+    eprintln!("{words}");
+    process::exit(1)
 }
