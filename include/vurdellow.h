@@ -23,7 +23,7 @@ extern "C" {
 /* ---- sizes */
 
 /* How many numbers a handler's record has, and a dispatcher's state, which begins with a handler's record. Aligned to 128 bytes, its first
-   sixteen lie on one page; elsewhere a call can take twice as long, and is otherwise the same (docs/USING.md). */
+   sixteen lie on one page; elsewhere a call can take longer, and is otherwise the same (docs/USING.md). */
 #define VD_HANDLER_WORDS 144
 #define VD_DISPATCHER_WORDS 149
 /* Where in them it says the flags of either side and how many of its bytes wait, and how many events wait .. */
