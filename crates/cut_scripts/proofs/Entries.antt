@@ -7,14 +7,15 @@ use lib.ListN.{take}
 use Rattle.std.specs.Prelude.{Option, Result}
 use Rattle.exchange.specs.Exchange.{Port, Exchange, End, played, play, Reads}
 use Rattle.exchange.specs.Answer.{Answer}
-use Rattle.exchange.specs.Keeping.{Kept, kept_end}
+use Rattle.exchange.specs.Keeping.{Kept}
 use Rattle.exchange.specs.Left.{record_after}
 use Rattle.ps2_answers.specs.declared.Counted.{Counted}
 use Rattle.ps2_answers.specs.declared.Refusal.{Refusal}
 use Rattle.ps2_answers.specs.Answers.{ended, turn_end, used_of, pairs_of, told}
 use Rattle.ps2_kept.specs.declared.KeptBytes.{KeptBytes}
-use Rattle.ps2_kept.specs.Kept.{nothing_kept, kept_at}
-use Rattle.ps2_kept.specs.Promises.{ReadsKept, PlaysKept, told_kept}
+use Rattle.ps2_kept.specs.Kept.{nothing_kept}
+use Rattle.ps2_kept.specs.Added.{keeping_onto}
+use Rattle.ps2_kept.specs.Promises.{ReadsKept, PlaysKept, PlaysLentTold}
 use Rattle.ps2_polling.specs.Polling.{poll_data, polled}
 use Rattle.ps2_init.specs.declared.Initialized.{Initialized}
 use Rattle.ps2_init.specs.declared.PS2Controller.{PS2Controller}
@@ -41,7 +42,7 @@ use Rattle.keyboard_init.specs.KeyboardInit.{keyboard_init}
 use Rattle.cut_scripts.specs.CutShort.{Handed, handed, next_port, CutShort}
 use Rattle.cut_scripts.specs.Forms.{lack, answer_with, lack_with}
 use Rattle.cut_scripts.specs.Coded.{Codes, coded_with, refused_for, handed_answer, handed_beside, StateCoded, RecordCoded, coded_state, coded_record}
-use Rattle.cut_scripts.proofs.Forms.{plays_cut, reads_cut, plays_kept_cut, reads_kept_cut, plays_keeping_cut, reads_keeping_cut, left_cut, made_cut, effects_cut, handled_cut}
+use Rattle.cut_scripts.proofs.Forms.{plays_cut, reads_cut, plays_kept_cut, reads_kept_cut, plays_keeping_cut, left_cut, made_cut, effects_cut, handled_cut}
 use Rattle.cut_scripts.proofs.Coded.{as_coded, with_codes}
 use Rattle.cut_scripts.proofs.Answers.{answer_codes, said_ended, polled_codes, said_turned, kept_codes, state_codes, record_codes}
 
@@ -97,15 +98,11 @@ module _ {T : Type 0} (r r' : Result (Counted T) (Counted Refusal)) (n : ℕ) (s
           → CutShort n (coded_with nothing_kept refused_for (next_port n t script log)) log (handed_beside r k log) (handed_beside r' k' log)
       answer_read_kept_cut p q = beside_coded r r' (next_port n t script log) nothing_kept (reads_kept_cut t n script log p q)
 
-    -- kept bytes behind a reference: none after a lack
-    module _ (k k' : KeptBytes) where
-      pub answer_keeping_cut : {l l' : List ℕ} → told_kept r k l ≡ play t script log → told_kept r' k' l' ≡ play t (take n script) log
-          → CutShort n (coded_with nothing_kept refused_for (next_port n t script log)) log (handed_beside r (kept_at (ended r) k) l) (handed_beside r' (kept_at (ended r') k') l')
-      answer_keeping_cut p q = beside_coded r r' (next_port n t script log) nothing_kept (plays_keeping_cut t n script log k k' p q)
-
-      pub answer_read_keeping_cut : Reads t script (kept_end (ended r) k) (used_of r) (pairs_of r) → Reads t (take n script) (kept_end (ended r') k') (used_of r') (pairs_of r')
-          → CutShort n (coded_with nothing_kept refused_for (next_port n t script log)) log (handed_beside r (kept_at (ended r) k) log) (handed_beside r' (kept_at (ended r') k') log)
-      answer_read_keeping_cut p q = beside_coded r r' (next_port n t script log) nothing_kept (reads_keeping_cut t n script log k k' p q)
+  -- bytes that were lent
+  module _ (lent : KeptBytes) (t : Exchange (Answer T)) {k k' : KeptBytes} where
+    pub answer_keeping_cut : {l l' : List ℕ} → PlaysLentTold lent t script log r l k → PlaysLentTold lent t (take n script) log r' l' k'
+        → CutShort n (coded_with lent refused_for (next_port n (keeping_onto lent t) script log)) log (handed_beside r k l) (handed_beside r' k' l')
+    answer_keeping_cut p q = beside_coded r r' (next_port n (keeping_onto lent t) script log) lent (plays_keeping_cut lent t n script log p q)
 
 -- one poll
 pub poll_cut : (n : ℕ) (script log : List ℕ) (r r' : Result (Counted (Option ℕ)) (Counted Refusal)) → Reads poll_data script (turn_end polled r) (used_of r) (pairs_of r)

@@ -9,9 +9,9 @@ use Rattle.exchange.specs.Answer.{Answer}
 use Rattle.exchange.specs.Keeping.{Kept, kept_end}
 use Rattle.exchange.specs.Left.{Left, left, record_after}
 use Rattle.ps2_kept.specs.declared.KeptBytes.{KeptBytes}
-use Rattle.ps2_kept.specs.Kept.{nothing_kept, kept_at}
-use Rattle.ps2_kept.specs.Promises.{ReadsKept, PlaysKept}
-use Rattle.ps2_kept.proofs.Contracts.{plays_handed, reads_handed}
+use Rattle.ps2_kept.specs.Kept.{nothing_kept, kept_or}
+use Rattle.ps2_kept.specs.Added.{keeping_onto}
+use Rattle.ps2_kept.specs.Promises.{ReadsKept, PlaysKept, PlaysLent}
 use Rattle.keyboard_sides.specs.declared.Side.{Side}
 use Rattle.keyboard_record.specs.declared.HandlerState.{HandlerState}
 use Rattle.keyboard_record.specs.declared.KeyboardHandler.{KeyboardHandler}
@@ -34,36 +34,37 @@ module _ {A : Type 0} (t : Exchange A) (n : ℕ) (script log : List ℕ) where
 
 -- ---- the same with the bytes that were thrown away
 
-abbrev tell_kept : {A : Type 0} → End (Kept KeptBytes A) → AnswerWith KeptBytes A
-tell_kept (yields k) = answer_with (yields k.value) k.bytes
-tell_kept (lacks x) = answer_with (lacks x) nothing_kept
+-- after a lack: nothing, or the bytes that were lent
+abbrev tell_kept : {A : Type 0} → KeptBytes → End (Kept KeptBytes A) → AnswerWith KeptBytes A
+tell_kept otherwise (yields k) = answer_with (yields k.value) k.bytes
+tell_kept otherwise (lacks x) = answer_with (lacks x) otherwise
 
-told_kept : {A : Type 0} (e : End A) {k : KeptBytes} → k ≡ kept_at e k → answer_with e k ≡ tell_kept (kept_end e k)
-told_kept (yields a) h = refl
-told_kept (lacks x) h = ap (answer_with (lacks x)) h
+told_kept : {A : Type 0} (otherwise : KeptBytes) (e : End A) {k : KeptBytes} → k ≡ kept_or otherwise e k → answer_with e k ≡ tell_kept otherwise (kept_end e k)
+told_kept otherwise (yields a) h = refl
+told_kept otherwise (lacks x) h = ap (answer_with (lacks x)) h
+
+module _ {A : Type 0} (t : Exchange (Kept KeptBytes A)) (otherwise : KeptBytes) (log : List ℕ) where
+  handed_kept : (s : List ℕ) {e : End A} {u w : ℕ} {l : List ℕ} {k : KeptBytes} → k ≡ kept_or otherwise e k → played (kept_end e k) u w l ≡ play t s log
+      → handed (answer_with e k) u w l ≡ handed_by (tell_kept otherwise) (play t s log)
+  handed_kept s {e} {u} {w} {l} {k} h p = ap (λ (x : AnswerWith KeptBytes A). handed x u w l) (told_kept otherwise e h) ∙ ap (handed_by (tell_kept otherwise)) p
 
 module _ {A : Type 0} (t : Exchange (Kept KeptBytes A)) (n : ℕ) (script log : List ℕ) where
-  handed_kept : (s : List ℕ) {e : End A} {u w : ℕ} {l : List ℕ} {k : KeptBytes} → k ≡ kept_at e k → played (kept_end e k) u w l ≡ play t s log
-      → handed (answer_with e k) u w l ≡ handed_by tell_kept (play t s log)
-  handed_kept s {e} {u} {w} {l} {k} h p = ap (λ (x : AnswerWith KeptBytes A). handed x u w l) (told_kept e h) ∙ ap (handed_by tell_kept) p
-
   pub plays_kept_cut : {e e' : End A} {u u' w w' : ℕ} {l l' : List ℕ} {k k' : KeptBytes} → PlaysKept t script log e u w l k → PlaysKept t (take n script) log e' u' w' l' k'
       → CutShort n (lack_kept (next_port n t script log)) log (handed (answer_with e k) u w l) (handed (answer_with e' k') u' w' l')
-  plays_kept_cut c c' = cut_short tell_kept t n script log (handed_kept script c.ended c.plays) (handed_kept (take n script) c'.ended c'.plays)
+  plays_kept_cut c c' = cut_short (tell_kept nothing_kept) t n script log (handed_kept t nothing_kept log script c.ended c.plays) (handed_kept t nothing_kept log (take n script) c'.ended c'.plays)
 
   pub reads_kept_cut : {e e' : End A} {u u' w w' : ℕ} {k k' : KeptBytes} → ReadsKept t script e u w k → ReadsKept t (take n script) e' u' w' k'
       → CutShort n (lack_kept (next_port n t script log)) log (handed (answer_with e k) u w log) (handed (answer_with e' k') u' w' log)
   reads_kept_cut c c' =
-      rw (c.reads.no_pairs, c'.reads.no_pairs) (cut_short tell_kept t n script log (handed_kept script c.ended (c.reads.with_any log)) (handed_kept (take n script) c'.ended (c'.reads.with_any log)))
+      rw (c.reads.no_pairs, c'.reads.no_pairs)
+      (cut_short (tell_kept nothing_kept) t n script log (handed_kept t nothing_kept log script c.ended (c.reads.with_any log)) (handed_kept t nothing_kept log (take n script) c'.ended (c'.reads.with_any log)))
 
-  -- kept bytes behind a reference: after a lack nothing is promised of them, and so none count as handed back
-  pub plays_keeping_cut : {e e' : End A} {u u' w w' : ℕ} {l l' : List ℕ} (k k' : KeptBytes) → played (kept_end e k) u w l ≡ play t script log → played (kept_end e' k') u' w' l' ≡ play t (take n script) log
-      → CutShort n (lack_kept (next_port n t script log)) log (handed (answer_with e (kept_at e k)) u w l) (handed (answer_with e' (kept_at e' k')) u' w' l')
-  plays_keeping_cut {e} {e'} k k' p q = plays_kept_cut (plays_handed e k refl p) (plays_handed e' k' refl q)
-
-  pub reads_keeping_cut : {e e' : End A} {u u' w w' : ℕ} (k k' : KeptBytes) → Reads t script (kept_end e k) u w → Reads t (take n script) (kept_end e' k') u' w'
-      → CutShort n (lack_kept (next_port n t script log)) log (handed (answer_with e (kept_at e k)) u w log) (handed (answer_with e' (kept_at e' k')) u' w' log)
-  reads_keeping_cut {e} {e'} k k' p q = reads_kept_cut (reads_handed e k refl p) (reads_handed e' k' refl q)
+-- bytes that were lent: after a lack they are as they were lent
+module _ {A : Type 0} (lent : KeptBytes) (t : Exchange A) (n : ℕ) (script log : List ℕ) where
+  pub plays_keeping_cut : {e e' : End A} {u u' w w' : ℕ} {l l' : List ℕ} {k k' : KeptBytes} → PlaysLent lent t script log e u w l k → PlaysLent lent t (take n script) log e' u' w' l' k'
+      → CutShort n (lack_with lent (next_port n (keeping_onto lent t) script log)) log (handed (answer_with e k) u w l) (handed (answer_with e' k') u' w' l')
+  plays_keeping_cut c c' =
+      cut_short (tell_kept lent) (keeping_onto lent t) n script log (handed_kept (keeping_onto lent t) lent log script c.ended c.plays) (handed_kept (keeping_onto lent t) lent log (take n script) c'.ended c'.plays)
 
 -- ---- an answer with a record that was passed in, and with one that is made
 

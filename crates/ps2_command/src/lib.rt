@@ -19,7 +19,7 @@ use ps2_answers::{Answer, Counted, Failure, Refusal};
 use ps2_bytes::{DeviceToHostResponse, HostToControllerCommand, HostToDevice};
 use ps2_kept::{Handed, KeptBytes, none_kept};
 use ps2_layouts::ControllerToHostStatus;
-use ps2_polling::{Waiting, polling_send_receive_keeping, read_test_result};
+use ps2_polling::{Waiting, polling_send_receive, read_test_result};
 use ps2_ports::{DevicePort, PS2_COMMAND_AND_STATUS_PORT, PS2_DATA_PORT, write_command};
 
 // The attempts that a command has.
@@ -51,7 +51,7 @@ fn verdict(response: DeviceToHostResponse) -> Result<bool, Failure>
     }
 }
 
-// One attempt: sends the byte, and reads the response. What is thrown away is added to the bytes kept before, here and below.
+// One attempt: sends the byte, and reads the response. What is thrown away is added to the bytes kept before, here and below; after 2 and 3 they are of no use, and the public functions hand back none.
 fn attempt_once(
     script: &[u8],
     log: &mut [u8],
@@ -60,7 +60,7 @@ fn attempt_once(
 ) -> Answer<bool>
     ensures { played (kept_end (turn_end accepted result) kept.new) (used_of result) (pairs_of result) log.new ≡ play (keeping_onto kept.old (attempt_rule value)) script.now log.old }
 {
-    let response = polling_send_receive_keeping(script, log, value, kept)?;
+    let response = polling_send_receive(script, log, value, kept)?;
     response.conclude(verdict(response.value))
 }
 
@@ -120,7 +120,7 @@ fn command_by_onto(
 }
 
 // Two commands to a device, the second only where the first was accepted.
-pub fn command_pair_keeping(
+fn command_pair_keeping(
     script: &[u8],
     log: &mut [u8],
     port: DevicePort,
@@ -135,7 +135,7 @@ pub fn command_pair_keeping(
     done.then(command_by_onto(&script[done.used..], &mut log[tail..], port, second, kept))
 }
 
-// The same, with the bytes kept before taken and given by value.
+// The same, with the bytes kept before taken and given by value: they and those that the run threw away, or none after 2 and 3.
 pub fn command_pair_onto(
     script: &[u8],
     log: &mut [u8],

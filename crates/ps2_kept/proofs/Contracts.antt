@@ -11,9 +11,9 @@ use Rattle.exchange.proofs.Sequence.{bind_assoc}
 use Rattle.exchange.proofs.Told.{bind_told}
 use Rattle.ps2_kept.specs.declared.KeptBytes.{KeptBytes}
 use Rattle.ps2_kept.specs.Thrown.{thrown}
-use Rattle.ps2_kept.specs.Kept.{kept_of, nothing_kept, keeping_thrown, kept_at}
+use Rattle.ps2_kept.specs.Kept.{kept_of, nothing_kept, keeping_thrown, kept_or, kept_at}
 use Rattle.ps2_kept.specs.Added.{others_limit, keeping_onto}
-use Rattle.ps2_kept.specs.Promises.{ReadsKept, PlaysKept}
+use Rattle.ps2_kept.specs.Promises.{ReadsKept, PlaysKept, PlaysLent}
 use Rattle.ps2_kept.proofs.Thrown.{keeping_thrown_lem}
 
 -- ---- an operation that adds to nothing hands back what the definition says
@@ -46,19 +46,34 @@ module _ {A : Type 0} (t : Exchange A) where
     pub reads_forgets : ReadsKept (keeping_thrown t) script e used pairs k → Reads t script e used pairs
     reads_forgets x = record { with_any = λ l. forgets k script l e (x.reads.with_any l); no_pairs = x.reads.no_pairs }
 
--- ---- what is handed back is what was kept, and nothing after a lack
+-- ---- what is handed back is what was kept, and nothing after a lack; what was lent is then as it was lent
 
-handed_end : {A : Type 0} (e : End A) (k : KeptBytes) {k₂ : KeptBytes} → k₂ ≡ kept_at e k → kept_end e k₂ ≡ kept_end e k
-handed_end (yields a) k q = rw q
-handed_end (lacks x) k q = refl
+module _ (otherwise : KeptBytes) where
+  or_end : {A : Type 0} (e : End A) (k : KeptBytes) {k₂ : KeptBytes} → k₂ ≡ kept_or otherwise e k → kept_end e k₂ ≡ kept_end e k
+  or_end (yields a) k q = rw q
+  or_end (lacks x) k q = refl
 
-handed_again : {A : Type 0} (e : End A) (k : KeptBytes) {k₂ : KeptBytes} → k₂ ≡ kept_at e k → k₂ ≡ kept_at e k₂
-handed_again (yields a) k q = refl
-handed_again (lacks x) k q = q
+  or_again : {A : Type 0} (e : End A) (k : KeptBytes) {k₂ : KeptBytes} → k₂ ≡ kept_or otherwise e k → k₂ ≡ kept_or otherwise e k₂
+  or_again (yields a) k q = refl
+  or_again (lacks x) k q = q
 
-module _ {A : Type 0} (e : End A) (k : KeptBytes) {t : Exchange (Kept KeptBytes A)} {script : List ℕ} {used pairs : ℕ} {k₂ : KeptBytes} where
-  pub reads_handed : k₂ ≡ kept_at e k → Reads t script (kept_end e k) used pairs → ReadsKept t script e used pairs k₂
-  reads_handed q x = record { reads = record { with_any = λ l. rw (handed_end e k q) (x.with_any l); no_pairs = x.no_pairs }; ended = handed_again e k q }
+or_same : {A : Type 0} (k : KeptBytes) (e : End A) → k ≡ kept_or k e k
+or_same k (yields a) = refl
+or_same k (lacks x) = refl
 
-  pub plays_handed : {log left : List ℕ} → k₂ ≡ kept_at e k → played (kept_end e k) used pairs left ≡ play t script log → PlaysKept t script log e used pairs left k₂
-  plays_handed q x = record { plays = rw (handed_end e k q) x; ended = handed_again e k q }
+module _ {A : Type 0} (e : End A) (k : KeptBytes) {script : List ℕ} {used pairs : ℕ} where
+  module _ {t : Exchange (Kept KeptBytes A)} {k₂ : KeptBytes} (q : k₂ ≡ kept_at e k) where
+    pub reads_handed : Reads t script (kept_end e k) used pairs → ReadsKept t script e used pairs k₂
+    reads_handed x =
+        record { reads = record { with_any = λ l. rw (or_end nothing_kept e k q) (x.with_any l); no_pairs = x.no_pairs }; ended = or_again nothing_kept e k q }
+
+    pub plays_handed : {log left : List ℕ} → played (kept_end e k) used pairs left ≡ play t script log → PlaysKept t script log e used pairs left k₂
+    plays_handed x = record { plays = rw (or_end nothing_kept e k q) x; ended = or_again nothing_kept e k q }
+
+  pub plays_lent : {lent k₂ : KeptBytes} {t : Exchange A} → k₂ ≡ kept_or lent e k → {log left : List ℕ} → played (kept_end e k) used pairs left ≡ play (keeping_onto lent t) script log
+      → PlaysLent lent t script log e used pairs left k₂
+  plays_lent {lent} q x = record { plays = rw (or_end lent e k q) x; ended = or_again lent e k q }
+
+  -- bytes that an exchange leaves as they were lent, whatever its end
+  pub unchanged_lent : {t : Exchange A} {log left : List ℕ} → played (kept_end e k) used pairs left ≡ play (keeping_onto k t) script log → PlaysLent k t script log e used pairs left k
+  unchanged_lent x = record { plays = x; ended = or_same k e }

@@ -20,7 +20,11 @@ nothing_kept = kept_of []
 unfoldable pub keeping_thrown : {A : Type 0} → Exchange A → Exchange (Kept KeptBytes A)
 keeping_thrown t = bind (keeping thrown [] t) (λ k. done (retold kept_of k))
 
--- "on failure too"; but a used-up script and a full log, 2 and 3, are no failures of the operation, and hand back nothing.
+-- "on failure too"; but a used-up script and a full log, 2 and 3, are no failures of the operation: these bytes are there then.
+abbrev pub kept_or : {A : Type 0} → KeptBytes → End A → KeptBytes → KeptBytes
+kept_or otherwise (yields a) k = k
+kept_or otherwise (lacks x) k = otherwise
+
+-- Bytes that are handed back: nothing after 2 and 3.
 abbrev pub kept_at : {A : Type 0} → End A → KeptBytes → KeptBytes
-kept_at (yields a) k = k
-kept_at (lacks x) k = nothing_kept
+kept_at e k = kept_or nothing_kept e k

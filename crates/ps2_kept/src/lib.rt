@@ -3,7 +3,7 @@
 
 ghost use Rattle.std.specs.Prelude.{◌≡◌};
 ghost use Rattle.ps2_answers.specs.Answers.{ended};
-ghost use Rattle.ps2_kept.specs.Kept.{nothing_kept, kept_at};
+ghost use Rattle.ps2_kept.specs.Kept.{nothing_kept, kept_or, kept_at};
 ghost use Rattle.ps2_kept.specs.Added.{added};
 
 use ps2_answers::{Answer, Refusal};
@@ -57,10 +57,17 @@ impl KeptBytes {
     pub fn after<T: Copy>(self, answer: Answer<T>) -> KeptBytes
         ensures { result ≡ kept_at (ended answer) self }
     {
+        self.or_lent(none_kept(), answer)
+    }
+
+    // The same of bytes that were lent: after 2 and 3 they are as they were lent.
+    pub fn or_lent<T: Copy>(self, lent: KeptBytes, answer: Answer<T>) -> KeptBytes
+        ensures { result ≡ kept_or lent (ended answer) self }
+    {
         match answer {
             Ok(_) => self,
             Err(refused) => match refused.value {
-                Refusal::Lacking(_) => none_kept(),
+                Refusal::Lacking(_) => lent,
                 Refusal::Failed(_) => self,
             },
         }

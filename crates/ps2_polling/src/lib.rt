@@ -11,7 +11,7 @@ ghost use Rattle.ps2_answers.specs.Refusals.{number_of};
 ghost use Rattle.ps2_answers.specs.Answers.{ended, used_of, pairs_of, told, ReadsTold, ReadsTurn};
 ghost use Rattle.ps2_kept.specs.Kept.{keeping_thrown};
 ghost use Rattle.ps2_kept.specs.Added.{keeping_onto};
-ghost use Rattle.ps2_kept.specs.Promises.{told_kept, ReadsKeptTold, PlaysKeptTold};
+ghost use Rattle.ps2_kept.specs.Promises.{ReadsKeptTold, PlaysLentTold};
 ghost use Rattle.ps2_polling.specs.Polling.{polling_send, poll_data, turn_of, passed_turn, polling_receive, polling_send_receive, controller_test_result, test_controller, port_test_result, test_port, polled};
 
 use ps2_answers::{Answer, Counted, Failure, Refusal};
@@ -139,41 +139,20 @@ fn take_turn(script: &[u8], waiting: Waiting) -> Polled
     }
 }
 
-// One attempt: sends a byte, then receives the response.
-pub fn polling_send_receive(script: &[u8], log: &mut [u8], value: HostToDevice) -> Received
-    ensures { PlaysKeptTold (keeping_thrown (polling_send_receive value)) script.now log.old result.answer log.new result.kept }
-{
-    polling_send_receive_onto(script, log, value, none_kept())
-}
-
-// The same, with what is thrown away behind the bytes kept before.
-pub fn polling_send_receive_onto(
-    script: &[u8],
-    log: &mut [u8],
-    value: HostToDevice,
-    before: KeptBytes,
-) -> Received
-    ensures { PlaysKeptTold (keeping_onto before (polling_send_receive value)) script.now log.old result.answer log.new result.kept }
-{
-    let mut kept = before;
-    let answer = polling_send_receive_keeping(script, log, value, &mut kept);
-    Received {
-        answer,
-        kept: kept.after(answer),
-    }
-}
-
-// The same, with what is thrown away added where the bytes kept before lie.
-pub fn polling_send_receive_keeping(
+// One attempt: sends a byte, then receives the response. What is thrown away is added to the bytes that are lent; after 2 and 3 they are as they were lent.
+pub fn polling_send_receive(
     script: &[u8],
     log: &mut [u8],
     value: HostToDevice,
     kept: &mut KeptBytes,
 ) -> Answer<DeviceToHostResponse>
-    ensures { told_kept result kept.new log.new ≡ play (keeping_onto kept.old (polling_send_receive value)) script.now log.old }
+    ensures { PlaysLentTold kept.old (polling_send_receive value) script.now log.old result log.new kept.new }
 {
+    let lent = *kept;
     let sent = polling_send(script, log, value)?;
-    sent.then(polling_receive_keeping(&script[sent.used..], kept))
+    let received = sent.then(polling_receive_keeping(&script[sent.used..], kept));
+    *kept = kept.or_lent(lent, received);
+    received
 }
 
 // Writes a byte for a device as soon as the status says that the last one was taken.
@@ -199,14 +178,7 @@ pub fn polling_send(script: &[u8], log: &mut [u8], value: HostToDevice) -> Answe
 pub fn polling_receive(script: &[u8]) -> Received
     ensures { ReadsKeptTold (keeping_thrown polling_receive) script.now result.answer result.kept }
 {
-    polling_receive_onto(script, none_kept())
-}
-
-// The same, with what is thrown away behind the bytes kept before.
-pub fn polling_receive_onto(script: &[u8], before: KeptBytes) -> Received
-    ensures { ReadsKeptTold (keeping_onto before polling_receive) script.now result.answer result.kept }
-{
-    let mut kept = before;
+    let mut kept = none_kept();
     let answer = polling_receive_keeping(script, &mut kept);
     Received {
         answer,
@@ -214,8 +186,8 @@ pub fn polling_receive_onto(script: &[u8], before: KeptBytes) -> Received
     }
 }
 
-// The same, with what is thrown away added where the bytes kept before lie.
-pub fn polling_receive_keeping(script: &[u8], kept: &mut KeptBytes) -> Answer<DeviceToHostResponse>
+// The same, with what is thrown away added where the bytes kept before lie. After 2 they are of no use: each caller drops them.
+fn polling_receive_keeping(script: &[u8], kept: &mut KeptBytes) -> Answer<DeviceToHostResponse>
     ensures { Reads (keeping_onto kept.old polling_receive) script.now (kept_end (ended result) kept.new) (used_of result) (pairs_of result) }
 {
     let mut at = Counted::new(None);
