@@ -158,16 +158,10 @@ pub fn command_pair_onto(
 fn acknowledges_at_once(script: &[u8]) -> bool
     ensures { result ≡ at_once script.now }
 {
-    if script.len() < 3 {
-        return false;
-    }
-    if ControllerToHostStatus::from(script[0]).input_buffer_full() {
-        return false;
-    }
-    if !ControllerToHostStatus::from(script[1]).output_buffer_full() {
-        return false;
-    }
-    script[2] == ACKNOWLEDGE
+    script.len() >= 3
+        && !ControllerToHostStatus::from(script[0]).input_buffer_full()
+        && ControllerToHostStatus::from(script[1]).output_buffer_full()
+        && script[2] == ACKNOWLEDGE
 }
 
 // Puts these pairs at the start of the log where it has room for all of them, and tells how many they are.

@@ -17,8 +17,7 @@ use Rattle.ps2_mouse.specs.Mouse.{reset_mouse}
 use Rattle.ps2_setup.specs.declared.WorkingPorts.{WorkingPorts}
 use Rattle.ps2_setup.specs.SetUp.{quieted, disable_devices, test_with, test_ports, enable_ports}
 use Rattle.ps2_init.specs.declared.PS2Controller.{PS2Controller}
-use Rattle.ps2_init.specs.declared.KeyboardRef.{KeyboardRef}
-use Rattle.ps2_init.specs.declared.KeyboardRef.TheVariants as KeyboardIs
+use Rattle.ps2_init.specs.declared.PS2Keyboard.{PS2Keyboard}
 
 -- ---- its steps: those of the controller alone are in crates/ps2_setup/specs/SetUp.antt
 
@@ -63,8 +62,8 @@ initialize passed = cond passed.initialized (done (left (refuses 1) passed)) (bi
 
 -- ---- the devices, by the "attached" flags; a mouse has identity 0 until `set_mouse_id` finds another
 
-abbrev pub keyboard_ref : PS2Controller → KeyboardRef
-keyboard_ref c = cond c.keyboard_attached KeyboardIs.Attached KeyboardIs.NotAttached
+abbrev pub keyboard_ref : PS2Controller → Option PS2Keyboard
+keyboard_ref c = cond c.keyboard_attached (Some (record {})) None
 
 abbrev pub mouse_ref : PS2Controller → Option PS2Mouse
 mouse_ref c = cond c.mouse_attached (Some (record { id = Zero })) None

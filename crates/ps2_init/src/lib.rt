@@ -21,12 +21,9 @@ pub struct PS2Controller {
     pub mouse_attached: bool,
 }
 
-// The keyboard, where one is attached.
+// A keyboard that is attached. It has no record: what is done with one stands in ps2_keyboard, by itself.
 #[derive(Clone, Copy)]
-pub enum KeyboardRef {
-    Attached,
-    NotAttached,
-}
+pub struct PS2Keyboard;
 
 // The answer of `init`, with the controller's record as it is left.
 // After 1, 8 or 9 the record is as it was passed.
@@ -60,14 +57,10 @@ pub fn init(controller: PS2Controller, script: &[u8], log: &mut [u8]) -> Initial
 
 impl PS2Controller {
     // The keyboard, where its reset passed.
-    pub fn keyboard_ref(self) -> KeyboardRef
+    pub fn keyboard_ref(self) -> Option<PS2Keyboard>
         ensures { result ≡ keyboard_ref self }
     {
-        if self.keyboard_attached {
-            KeyboardRef::Attached
-        } else {
-            KeyboardRef::NotAttached
-        }
+        self.keyboard_attached.then_some(PS2Keyboard)
     }
 
     // The mouse, where its reset passed.

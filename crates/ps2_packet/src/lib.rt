@@ -229,11 +229,7 @@ impl MousePacket {
     fn side_flag(self, k: u8) -> bool
         ensures { result ≡ side_button k self }
     {
-        match self {
-            MousePacket::Zero(_) => false,
-            MousePacket::Three(_) => false,
-            MousePacket::Four(m) => has(m.byte4, k),
-        }
+        matches!(self, MousePacket::Four(m) if has(m.byte4, k))
     }
 
     pub fn button_left(self) -> bool

@@ -110,7 +110,7 @@ pub fn enable_ports(
     both.then(write_config(&mut log[2 * both.pairs..], both.value))
 }
 
-// Enables a port where it passed, and gives the configuration that goes with it.
+// Enables a port where it passed, and gives the configuration that goes with it: the port's clock runs, and the port interrupts.
 fn enable_port(
     log: &mut [u8],
     port: DevicePort,
@@ -119,34 +119,23 @@ fn enable_port(
 ) -> Answer<ControllerConfigurationByte>
     ensures { WritesTold (enable_port (enable_of port) (clock_of port) (interrupt_of port) works config) log.old result log.new }
 {
-    if works {
-        let written = write_command(log, enable_command(port))?;
-        Ok(written.with(running(port, config)))
-    } else {
-        Ok(Counted::new(config))
+    if !works {
+        return Ok(Counted::new(config));
     }
-}
-
-// The command that enables a port.
-fn enable_command(port: DevicePort) -> HostToControllerCommand
-    ensures { result ≡ enable_of port }
-{
-    match port {
-        DevicePort::Port1 => HostToControllerCommand::EnablePort1,
-        DevicePort::Port2 => HostToControllerCommand::EnablePort2,
-    }
-}
-
-// The port's clock runs, and the port interrupts.
-fn running(port: DevicePort, config: ControllerConfigurationByte) -> ControllerConfigurationByte
-    ensures { result ≡ running_rule (clock_of port) (interrupt_of port) config }
-{
-    match port {
-        DevicePort::Port1 => config
-            .set_port1_clock_disabled(false)
-            .set_port1_interrupt_enabled(true),
-        DevicePort::Port2 => config
-            .set_port2_clock_disabled(false)
-            .set_port2_interrupt_enabled(true),
-    }
+    let (enable, running) = match port {
+        DevicePort::Port1 => (
+            HostToControllerCommand::EnablePort1,
+            config
+                .set_port1_clock_disabled(false)
+                .set_port1_interrupt_enabled(true),
+        ),
+        DevicePort::Port2 => (
+            HostToControllerCommand::EnablePort2,
+            config
+                .set_port2_clock_disabled(false)
+                .set_port2_interrupt_enabled(true),
+        ),
+    };
+    let written = write_command(log, enable)?;
+    Ok(written.with(running))
 }

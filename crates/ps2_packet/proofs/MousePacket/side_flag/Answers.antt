@@ -1,8 +1,5 @@
--- `MousePacket::side_flag` meets its contract: by the kind of packet. Assumes nothing.
+-- `MousePacket::side_flag` meets its contract: the bit of byte 4, which identity 4 alone has. Assumes nothing.
 use Rattle.ps2_packet.proofs.MousePacket.side_flag.Goals as goal
 
 pub returns-in-Four : goal.returns-in-Four
-returns-in-Four c = cc
-
-pub returns-in-Three : goal.returns-in-Three
-returns-in-Three c = rw c.in-Three.is
+returns-in-Four c = rw c.in-Four.is cc
