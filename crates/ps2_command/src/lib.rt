@@ -51,7 +51,8 @@ fn verdict(response: DeviceToHostResponse) -> Result<bool, Failure>
     }
 }
 
-// One attempt: sends the byte, and reads the response. What is thrown away is added to the bytes kept before, here and below; after 2 and 3 they are of no use, and the public functions hand back none.
+// One attempt: sends the byte, and reads the response. What is thrown away is added to the bytes
+// kept before, here and below; after 2 and 3 they are of no use, and nothing is handed back.
 fn attempt_once(
     script: &[u8],
     log: &mut [u8],
@@ -135,7 +136,8 @@ fn command_pair_keeping(
     done.then(command_by_onto(&script[done.used..], &mut log[tail..], port, second, kept))
 }
 
-// The same, with the bytes kept before taken and given by value: they and those that the run threw away, or none after 2 and 3.
+// The same, with the bytes kept before taken and given by value: they and those that the run threw
+// away, or none after 2 and 3.
 pub fn command_pair_onto(
     script: &[u8],
     log: &mut [u8],

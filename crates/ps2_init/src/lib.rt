@@ -21,7 +21,7 @@ pub struct PS2Controller {
     pub mouse_attached: bool,
 }
 
-// A keyboard that is attached. It has no record: what is done with one stands in ps2_keyboard, by itself.
+// A keyboard that is attached. It has no record: what is done with one stands in ps2_keyboard.
 #[derive(Clone, Copy)]
 pub struct PS2Keyboard;
 

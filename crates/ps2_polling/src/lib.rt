@@ -139,7 +139,8 @@ fn take_turn(script: &[u8], waiting: Waiting) -> Polled
     }
 }
 
-// One attempt: sends a byte, then receives the response. What is thrown away is added to the bytes that are lent; after 2 and 3 they are as they were lent.
+// One attempt: sends a byte, then receives the response. What is thrown away is added to the bytes
+// that are lent; after 2 and 3 they are as they were lent.
 pub fn polling_send_receive(
     script: &[u8],
     log: &mut [u8],
@@ -186,7 +187,8 @@ pub fn polling_receive(script: &[u8]) -> Received
     }
 }
 
-// The same, with what is thrown away added where the bytes kept before lie. After 2 they are of no use: each caller drops them.
+// The same, with what is thrown away added where the bytes kept before lie. After 2 they are of no
+// use: each caller drops them.
 fn polling_receive_keeping(script: &[u8], kept: &mut KeptBytes) -> Answer<DeviceToHostResponse>
     ensures { Reads (keeping_onto kept.old polling_receive) script.now (kept_end (ended result) kept.new) (used_of result) (pairs_of result) }
 {

@@ -5,7 +5,7 @@ ghost use Rattle.std.specs.Prelude.{◌≡◌};
 ghost use Rattle.exchange.specs.Exchange.{play, done, bind};
 ghost use Rattle.exchange.specs.Answer.{gives};
 ghost use Rattle.ps2_answers.specs.Answers.{told, WritesTold};
-ghost use Rattle.ps2_setup.specs.SetUp.{quieted as quieted_rule, running as running_rule, disable_devices, test_with, test_second, test_ports, enable_port, enable_ports};
+ghost use Rattle.ps2_setup.specs.SetUp.{quieted as quieted_rule, disable_devices, test_with, test_second, test_ports, enable_port, enable_ports};
 ghost use Rattle.ps2_setup.specs.Answers.{Forgiven, enable_of, clock_of, interrupt_of};
 
 use ps2_answers::{Answer, Counted, Failure, Refusal, outcome};
@@ -110,7 +110,8 @@ pub fn enable_ports(
     both.then(write_config(&mut log[2 * both.pairs..], both.value))
 }
 
-// Enables a port where it passed, and gives the configuration that goes with it: the port's clock runs, and the port interrupts.
+// Enables a port where it passed, and gives the configuration that goes with it: the port's clock
+// runs, and the port interrupts.
 fn enable_port(
     log: &mut [u8],
     port: DevicePort,
