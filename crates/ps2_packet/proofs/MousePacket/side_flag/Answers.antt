@@ -1,5 +1,6 @@
 -- `MousePacket::side_flag` meets its contract: the bit of byte 4, which identity 4 alone has. Assumes nothing.
+use mathlib.Core.Path.{sym}
 use Rattle.ps2_packet.proofs.MousePacket.side_flag.Goals as goal
 
 pub returns-in-Four : goal.returns-in-Four
-returns-in-Four c = rw c.in-Four.is cc
+returns-in-Four c = rw (c.in-Four.is, sym c.has.ensures) cc
