@@ -52,6 +52,17 @@ fn set_of(number: u32) -> Option<ScancodeSet>
     }
 }
 
+// The lamps of a number: scroll 1, number 2, caps 4 added.
+pub fn lamps_of(lamps: u32) -> Option<LEDState>
+    ensures { said_found result ≡ lamps_at lamps }
+{
+    if lamps < 8 {
+        Some(LEDState::from(lamps as u8))
+    } else {
+        None
+    }
+}
+
 // ---- the operations
 
 // Initialises the first keyboard. The lent record becomes a fresh one, whatever the keyboard answers, for a table with 1 keyboard or 2, under profile 0 (none) or 1 (the tournament's): 21 where it has not 144 numbers.
@@ -101,11 +112,10 @@ pub fn keyboard_command(byte: u32, script: &[u8], log: &mut [u8]) -> KeptWords
 pub fn keyboard_lamps(lamps: u32, script: &[u8], log: &mut [u8]) -> KeptWords
     ensures { TellsAt (refusing_kept means_nothing) told_kept setting_lamps (lamps_at lamps) script.now log.old result log.new }
 {
-    if lamps < 8 {
-        let leds = LEDState::from(lamps as u8);
-        return commanded_words(set_keyboard_led(script, log, leds));
+    match lamps_of(lamps) {
+        Some(leds) => commanded_words(set_keyboard_led(script, log, leds)),
+        None => refusing_kept_words(MEANS_NOTHING),
     }
-    refusing_kept_words(MEANS_NOTHING)
 }
 
 // Sets the scancode set, 1 to 3.

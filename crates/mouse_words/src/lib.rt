@@ -37,7 +37,7 @@ fn command_of(byte: u32) -> Option<HostToMouseCommand>
 }
 
 // The sampling rate that a number stands for.
-fn rate_of(rate: u32) -> Option<MouseSampleRate>
+pub fn rate_of(rate: u32) -> Option<MouseSampleRate>
     ensures { said_found result ≡ rate_at rate }
 {
     let byte = u8::try_from(rate).ok()?;
@@ -45,7 +45,7 @@ fn rate_of(rate: u32) -> Option<MouseSampleRate>
 }
 
 // The resolution that a number stands for.
-fn resolution_of(resolution: u32) -> Option<MouseResolution>
+pub fn resolution_of(resolution: u32) -> Option<MouseResolution>
     ensures { said_found result ≡ resolution_at resolution }
 {
     let byte = u8::try_from(resolution).ok()?;

@@ -4,14 +4,14 @@
 ghost use Rattle.std.specs.Prelude.{◌≡◌, ℕ};
 ghost use Rattle.bits.specs.Bits.{weigh};
 ghost use Rattle.ps2_bytes.specs.Data.{scancode_set_byte};
-ghost use Rattle.ps2_bytes.specs.Responses.{mouse_id_byte};
+ghost use Rattle.ps2_bytes.specs.Responses.{mouse_id_byte, response_byte};
 ghost use Rattle.ps2_answers.specs.Answers.{ended, used_of, pairs_of};
 ghost use Rattle.port_words.specs.Told.{port_of_refusal, refusing, no_value, byte_value, type_number, told};
 ghost use Rattle.port_words.specs.ToldKept.{refusing_kept, kept_numbers};
 ghost use Rattle.port_words.specs.ToldPacket.{buttons_of, refusing_packet, told_packet};
 
 use ps2_answers::{Answer, Lack, Refusal};
-use ps2_bytes::{KeyboardType, MouseId, ScancodeSet};
+use ps2_bytes::{DeviceToHostResponse, KeyboardType, MouseId, ScancodeSet};
 use ps2_command::Commanded;
 use ps2_packet::{MousePacket, SignedPacket};
 
@@ -111,6 +111,23 @@ impl Value for MouseId {
 
     fn number(self) -> u64 {
         u64::from(u8::from(self)) // the identity's byte
+    }
+}
+
+impl Value for DeviceToHostResponse {
+    ghost worth = { response_byte };
+
+    fn number(self) -> u64 {
+        match self {
+            DeviceToHostResponse::KeyDetectionErrorOrInternalBufferOverrun1 => 0x00,
+            DeviceToHostResponse::SelfTestPassed => 0xAA,
+            DeviceToHostResponse::ResponseToEcho => 0xEE,
+            DeviceToHostResponse::Acknowledge => 0xFA,
+            DeviceToHostResponse::SelfTestFailed1 => 0xFC,
+            DeviceToHostResponse::SelfTestFailed2 => 0xFD,
+            DeviceToHostResponse::ResendCommand => 0xFE,
+            DeviceToHostResponse::KeyDetectionErrorOrInternalBufferOverrun2 => 0xFF,
+        }
     }
 }
 

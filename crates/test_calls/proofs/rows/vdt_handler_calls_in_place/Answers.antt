@@ -1,0 +1,16 @@
+-- `test_calls::vdt_handler_calls_in_place` meets its contract: after i turns the record and the log are what i calls leave.
+-- Assumes nothing.
+use native.Mathlib.Omega.{arith}
+use mathlib.Core.Path.{sym}
+use Rattle.test_calls.proofs.Calls.{none_called, one_more_called, all_called}
+use Rattle.test_calls.proofs.rows.vdt_handler_calls_in_place.Goals as goal
+
+pub loop-init : goal.loop-init
+loop-init c = none_called _ _ _ _ (rw (sym c.table_of.ensures) c.fresh-handler.ensures)
+
+pub loop-preserved : goal.loop-preserved
+loop-preserved c =
+    one_more_called _ _ _ _ _ c.loop.invariant c.side_of-side.ensures c.call_in_place-handler.ensures.0 c.call_in_place-handler.ensures.1
+
+pub returns : goal.returns
+returns c = all_called _ _ _ _ c.loop.invariant (omega arith)

@@ -1,0 +1,6 @@
+-- Calls for tests and measuring alone.
+pub mod Arguments
+pub mod Polling
+pub mod Devices
+pub mod Calls
+pub mod Steps

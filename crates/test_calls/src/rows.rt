@@ -1,0 +1,165 @@
+// Handler calls by value, in place or on the state alone, and a dispatcher's steps, one after another: for measuring.
+ghost use Rattle.std.specs.Prelude.{◌≡◌};
+ghost use Rattle.keyboard_sides.specs.Sides.{side_of};
+ghost use Rattle.keyboard_record.specs.Record.{fresh};
+ghost use Rattle.keyboard.specs.KeyboardLamps.{keyboard_lamps};
+ghost use Rattle.keyboard.specs.Handler.{effects, handled, log_left};
+ghost use Rattle.ps2_mouse.specs.Answers.{fresh_mouse};
+ghost use Rattle.dispatcher.specs.Sources.{scripts};
+ghost use Rattle.dispatcher.specs.Step.{new_dispatcher};
+ghost use Rattle.test_calls.specs.Calls.{table_of, left, called};
+ghost use Rattle.test_calls.specs.Steps.{left as left_by_step, one_more, made, two_keyboards};
+
+use dispatcher::Dispatcher;
+use keyboard::{effect_of, handle};
+use keyboard_in_place::handle_in_place;
+use keyboard_record::{HandlerState, KeyboardHandler, Keyboards, Table};
+use keyboard_scancodes::Profile;
+use keyboard_sides::Side;
+use ps2_mouse::PS2Mouse;
+
+// A table with one keyboard or two, without the profile, and a side of it: enums don't cross `extern "C"`.
+fn table_of(two: bool) -> Table
+    ensures { result ≡ table_of two }
+{
+    Table {
+        keyboards: if two { Keyboards::Two } else { Keyboards::One },
+        profile: Profile::Any,
+    }
+}
+
+fn side_of(second: bool) -> Side
+    ensures { result ≡ side_of second }
+{
+    if second { Side::Second } else { Side::First }
+}
+
+// A handler call in place, on a record that this function holds.
+fn call_in_place(
+    mut handler: KeyboardHandler,
+    side: Side,
+    script: &[u8],
+    log: &mut [u8],
+) -> KeyboardHandler
+    ensures { (result ≡ (handled keyboard_lamps side handler script.now log.old).handler) × (log.new ≡ log_left keyboard_lamps side handler.state script.now log.old) }
+{
+    handle_in_place(&mut handler, side, script, log);
+    handler
+}
+
+// A handler call by value.
+fn call_by_value(
+    handler: KeyboardHandler,
+    side: Side,
+    script: &[u8],
+    log: &mut [u8],
+) -> KeyboardHandler
+    ensures { (result ≡ (handled keyboard_lamps side handler script.now log.old).handler) × (log.new ≡ log_left keyboard_lamps side handler.state script.now log.old) }
+{
+    handle(handler, side, script, log).handler
+}
+
+// A handler call on the state alone: whoever holds the places stores the event.
+fn call_on_state(state: HandlerState, side: Side, script: &[u8], log: &mut [u8]) -> HandlerState
+    ensures { (result ≡ (effects keyboard_lamps side state script.now log.old).state) × (log.new ≡ log_left keyboard_lamps side state script.now log.old) }
+{
+    effect_of(state, side, script, log).state
+}
+
+/// So many handler calls by value for a side, from a fresh record on for one keyboard or two; answers how
+/// many events then wait.
+#[unsafe(no_mangle)]
+pub extern "C" fn vdt_handler_calls_by_value(
+    script: &[u8],
+    log: &mut [u8],
+    times: usize,
+    two: bool,
+    second: bool,
+) -> usize
+    ensures { (result ≡ (called (side_of second) times script.now (left (fresh (table_of two)) log.old)).handler.state.count) × (log.new ≡ (called (side_of second) times script.now (left (fresh (table_of two)) log.old)).log) }
+{
+    let side = side_of(second);
+    let mut handler = KeyboardHandler::fresh(table_of(two));
+    for _ in 0..times {
+        handler = call_by_value(handler, side, script, log);
+    }
+    handler.state.count
+}
+
+/// So many handler calls in place for a side, from a fresh record on for one keyboard or two; answers how
+/// many events then wait.
+#[unsafe(no_mangle)]
+pub extern "C" fn vdt_handler_calls_in_place(
+    script: &[u8],
+    log: &mut [u8],
+    times: usize,
+    two: bool,
+    second: bool,
+) -> usize
+    ensures { (result ≡ (called (side_of second) times script.now (left (fresh (table_of two)) log.old)).handler.state.count) × (log.new ≡ (called (side_of second) times script.now (left (fresh (table_of two)) log.old)).log) }
+{
+    let side = side_of(second);
+    let mut handler = KeyboardHandler::fresh(table_of(two));
+    for _ in 0..times {
+        handler = call_in_place(handler, side, script, log);
+    }
+    handler.state.count
+}
+
+/// So many handler calls for a side on the state alone, from that of a fresh record on for one
+/// keyboard or two; answers how many events then wait.
+#[unsafe(no_mangle)]
+pub extern "C" fn vdt_handler_calls_on_state(
+    script: &[u8],
+    log: &mut [u8],
+    times: usize,
+    two: bool,
+    second: bool,
+) -> usize
+    ensures { (result ≡ (called (side_of second) times script.now (left (fresh (table_of two)) log.old)).handler.state.count) × (log.new ≡ (called (side_of second) times script.now (left (fresh (table_of two)) log.old)).log) }
+{
+    let side = side_of(second);
+    let mut state = KeyboardHandler::fresh(table_of(two)).state;
+    for _ in 0..times {
+        state = call_on_state(state, side, script, log);
+    }
+    state.count
+}
+
+// A step, whatever it answers.
+fn one_step(
+    state: Dispatcher,
+    first: &[u8],
+    second: &[u8],
+    third: &[u8],
+    log: &mut [u8],
+) -> Dispatcher
+    ensures { left_by_step result log.new ≡ one_more (scripts first.now second.now third.now) (left_by_step state log.old) }
+{
+    state.step(first, second, third, log).state
+}
+
+/// So many steps at a table with two keyboards, from a fresh state on; answers how many events then
+/// wait.
+#[unsafe(no_mangle)]
+pub extern "C" fn vdt_dispatcher_steps(
+    first: &[u8],
+    second: &[u8],
+    third: &[u8],
+    log: &mut [u8],
+    times: usize,
+) -> usize
+    ensures { let after = made times (scripts first.now second.now third.now) (left_by_step (new_dispatcher (fresh two_keyboards) fresh_mouse) log.old) in (result ≡ after.state.handler.state.count) × (log.new ≡ after.log) }
+{
+    let mut state = Dispatcher::new(
+        KeyboardHandler::fresh(Table {
+            keyboards: Keyboards::Two,
+            profile: Profile::Any,
+        }),
+        PS2Mouse::new(),
+    );
+    for _ in 0..times {
+        state = one_step(state, first, second, third, log);
+    }
+    state.handler.state.count
+}
