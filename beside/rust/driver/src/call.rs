@@ -8,6 +8,33 @@ use crate::report::{self, Season};
 use crate::salvage::{self, Salvage};
 use std::fmt::{self, Write};
 
+/// Why a line tells no call, and where what can't be read begins.
+#[derive(Debug)]
+pub struct Bad {
+    /// The address of its first byte, which lies in the line.
+    at: usize,
+    pub why: String,
+}
+
+impl Bad {
+    pub fn new(text: &str, why: impl Into<String>) -> Bad {
+        Bad { at: text.as_ptr() as usize, why: why.into() }
+    }
+
+    /// Where it begins in its line, counted from 1.
+    pub fn column(&self, line: &str) -> usize {
+        self.at - line.as_ptr() as usize + 1
+    }
+}
+
+/// What a line tells, or why it can't be read.
+pub type Read<T> = Result<T, Bad>;
+
+/// The most bytes that a part of a line can stand for, and the most events and calls: what is repeated more often than that is refused, since
+/// a line's call and its answer are held whole.
+pub const MOST_BYTES: usize = 1 << 26;
+pub const MOST_CALLS: u64 = 1 << 22;
+
 /// What stands in a call line.
 #[derive(Clone, Debug, PartialEq)]
 pub struct Call {
@@ -106,7 +133,7 @@ pub struct Remembered {
     /// The bytes that wait, oldest first.
     pub kept: Vec<u8>,
     /// How many are said to wait, where that is more than there are places: such a record is malformed.
-    pub waits: Option<u8>,
+    pub waits: Option<u64>,
 }
 
 /// The handler's record.
@@ -120,9 +147,9 @@ pub struct Handler {
     pub rated: bool,
     pub queue: Vec<KeyEvent>,
     /// The place of the oldest event: of a record that is told, 0 or one that makes it malformed.
-    pub start: u16,
+    pub start: u64,
     /// How many events are said to wait, where that is more than there are places: such a record is malformed.
-    pub count: Option<u16>,
+    pub count: Option<u64>,
 }
 
 #[derive(Clone, Copy, Debug, PartialEq)]
@@ -140,8 +167,8 @@ pub enum Step {
     Auto,
     /// A handler call and a taking in turn, until the script is used.
     Each,
-    Handle(Side, u32),
-    Take(u32),
+    Handle(Side, u64),
+    Take(u64),
 }
 
 pub const KEYBOARD_COMMANDS: [u8; 8] = [0xED, 0xF0, 0xF2, 0xF3, 0xF4, 0xF5, 0xFE, 0xFF];
@@ -166,49 +193,51 @@ pub fn is_skipped(line: &str) -> bool {
     line.trim().is_empty() || line.starts_with('#') || line.starts_with("out=")
 }
 
-pub fn parse(line: &str) -> Result<Call, String> {
+/// The fields `key=value` of a line, each at most once, in the order of their names here.
+pub fn fields<'a, const N: usize>(
+    words: impl Iterator<Item = &'a str>,
+    name: &str,
+    keys: [&str; N],
+) -> Read<[Option<&'a str>; N]> {
+    let mut values = [None; N];
+    for word in words {
+        let (key, value) = word.split_once('=').ok_or_else(|| Bad::new(word, format!("'{word}' is not key=value")))?;
+        let at = keys.iter().position(|&known| known == key);
+        let at = at.ok_or_else(|| Bad::new(word, format!("{name} has no field '{key}='")))?;
+        if values[at].replace(value).is_some() {
+            return Err(Bad::new(word, format!("the field '{key}=' comes twice")));
+        }
+    }
+    Ok(values)
+}
+
+/// A field that an operation's line must have.
+pub fn needed<'a>(name: &str, key: &str, value: Option<&'a str>) -> Read<&'a str> {
+    value.ok_or_else(|| Bad::new(name, format!("the field '{key}=' is missing")))
+}
+
+pub fn parse(line: &str) -> Read<Call> {
     let mut words = line.split_ascii_whitespace().peekable();
-    let name = words.next().ok_or("an empty line")?;
+    let name = words.next().ok_or_else(|| Bad::new(line, "an empty line"))?;
     if name == salvage::NAME {
-        return salvage::parse(words);
+        return salvage::parse(name, words);
     }
     if let Some(call) = report::parse(name, words.clone()) {
         return call;
     }
     if name == dispatch::NAME {
-        return dispatch::parse(words);
+        return dispatch::parse(name, words);
     }
     let mut args = Vec::new();
     while let Some(word) = words.next_if(|word| !word.contains('=')) {
         args.push(word);
     }
-    let (mut script, mut log, mut state, mut plan, mut repeat, mut show) = (None, None, None, None, None, None);
-    let (mut input, mut output) = (None, None);
-    let (mut script2, mut table, mut profile) = (None, None, None);
-    for word in words {
-        let (key, value) = word.split_once('=').ok_or_else(|| format!("'{word}' is not key=value"))?;
-        let field = match key {
-            "script" => &mut script,
-            "script2" => &mut script2,
-            "table" => &mut table,
-            "profile" => &mut profile,
-            "log" => &mut log,
-            "in" => &mut input,
-            "room" => &mut output,
-            "state" => &mut state,
-            "plan" => &mut plan,
-            "repeat" => &mut repeat,
-            "show" => &mut show,
-            _ => return Err(format!("there is no field '{key}='")),
-        };
-        if field.replace(value).is_some() {
-            return Err(format!("the field '{key}=' comes twice"));
-        }
-    }
+    let keys = ["script", "script2", "log", "in", "room", "state", "plan", "repeat", "show", "table", "profile"];
+    let [script, script2, log, input, output, state, plan, repeat, show, table, profile] = fields(words, name, keys)?;
     let op = match (parse_op(name, &args, state, plan, [table, profile])?, show) {
         (op, None) => op,
         (op, Some("kept")) if kept::keeps(&op) => Op::Kept(Box::new(op)),
-        (_, Some(value)) => return Err(format!("{name} has no '{value}' to show")),
+        (_, Some(value)) => return Err(Bad::new(value, format!("{name} has no '{value}' to show"))),
     };
     // What an operation takes: a script and a log, or lent bytes.
     let takes = [
@@ -219,19 +248,19 @@ pub fn parse(line: &str) -> Result<Call, String> {
     ];
     for (key, value, takes) in takes {
         match (value, takes) {
-            (None, true) => return Err(format!("the field '{key}=' is missing")),
-            (Some(_), false) => return Err(format!("{name} takes no {key}")),
+            (None, true) => drop(needed(name, key, None)?),
+            (Some(value), false) => return Err(Bad::new(value, format!("{name} takes no {key}"))),
             _ => {}
         }
     }
-    if script2.is_some() && !matches!(op, Op::Handle(..)) {
-        return Err(format!("{name} has no second side"));
+    if let (Some(value), false) = (script2, matches!(op, Op::Handle(..))) {
+        return Err(Bad::new(value, format!("{name} has no second side")));
     }
     Ok(Call {
         op,
         script: script.or(input).map_or(Ok(Vec::new()), parse_script)?,
         script2: script2.map(parse_script).transpose()?,
-        room: log.or(output).map_or(Ok(0), decimal)? as usize,
+        room: log.or(output).map_or(Ok(0), room)?,
         repeat: repeat.map_or(Ok(1), decimal)?,
     })
 }
@@ -242,25 +271,29 @@ fn parse_op(
     state: Option<&str>,
     plan: Option<&str>,
     [table, profile]: [Option<&str>; 2],
-) -> Result<Op, String> {
+) -> Read<Op> {
     let count = |n: usize| match args.len() == n {
         true => Ok(()),
-        false => Err(format!("{name} takes {n} arguments, not {}", args.len())),
+        false => {
+            let at = args.get(n).copied().unwrap_or(name);
+            Err(Bad::new(at, format!("{name} takes {n} arguments, not {}", args.len())))
+        }
     };
     // An operation's one argument: a hexadecimal byte of a list, or a decimal number.
-    let one_hex = |allowed: &[u8]| -> Result<u8, String> {
+    let one_hex = |allowed: &[u8]| -> Read<u8> {
         count(1)?;
         let byte = hex(args[0], 2)? as u8;
         if allowed.is_empty() || allowed.contains(&byte) {
             Ok(byte)
         } else {
-            Err(format!("{name} knows no {}", args[0]))
+            Err(Bad::new(args[0], format!("{name} knows no {}", args[0])))
         }
     };
-    let one_decimal = |allowed: &[u8]| -> Result<u8, String> {
+    let one_decimal = |allowed: &[u8]| -> Read<u8> {
         count(1)?;
         let number = decimal(args[0])?;
-        allowed.iter().copied().find(|&a| a as u64 == number).ok_or_else(|| format!("{name} knows no {}", args[0]))
+        let known = allowed.iter().copied().find(|&a| a as u64 == number);
+        known.ok_or_else(|| Bad::new(args[0], format!("{name} knows no {}", args[0])))
     };
     let none = |op: Op| count(0).map(|()| op);
     let sets = [0, 1, 2, 3];
@@ -303,12 +336,12 @@ fn parse_op(
             none(Op::KeyboardInit { two: table.map_or(Ok(false), are_two)?, rated: profile.map_or(Ok(false), bit)? })
         }
         // The Rust has one handler; the port has also an entry that changes the record in place.
-        "handle" => none(Op::Handle(parse_handler(state)?, parse_plan(plan.unwrap_or("auto"))?)),
+        "handle" => none(Op::Handle(parse_handler(pairs(state))?, parse_plan(plan.unwrap_or("auto"))?)),
         "to_ascii" => {
             count(2)?;
             let keycode = hex(args[0], 2)? as u8;
             if keycode > LAST_KEYCODE && !RELEASE_KEYCODES.contains(&keycode) {
-                return Err(format!("{} is no keycode", args[0]));
+                return Err(Bad::new(args[0], format!("{} is no keycode", args[0])));
             }
             Ok(Op::ToAscii(keycode, parse_flags(args[1])?))
         }
@@ -324,126 +357,149 @@ fn parse_op(
         }
         prefs_code::READ_1 => none(Op::ReadPreferences(1)),
         prefs_code::READ_2 => none(Op::ReadPreferences(2)),
-        _ => return Err(format!("there is no operation '{name}'")),
+        _ => return Err(Bad::new(name, format!("there is no operation '{name}'"))),
     }?;
-    if plan.is_some() && !matches!(op, Op::Handle(..)) {
-        return Err(format!("{name} takes no plan"));
+    let takes = [
+        ("plan", plan, matches!(op, Op::Handle(..))),
+        ("table", table, matches!(op, Op::KeyboardInit { .. })),
+        ("profile", profile, matches!(op, Op::KeyboardInit { .. })),
+        ("state", state, matches!(op, Op::Handle(..) | Op::Mouse(..) | Op::Init(..))),
+    ];
+    match takes.into_iter().find_map(|(key, value, takes)| value.filter(|_| !takes).map(|value| (key, value))) {
+        Some((key, value)) => Err(Bad::new(value, format!("{name} takes no {key}"))),
+        None => Ok(op),
     }
-    for (key, value) in [("table", table), ("profile", profile)] {
-        if value.is_some() && !matches!(op, Op::KeyboardInit { .. }) {
-            return Err(format!("{name} takes no {key}"));
-        }
-    }
-    if state.is_some() && !matches!(op, Op::Handle(..) | Op::Mouse(..) | Op::Init(..)) {
-        return Err(format!("{name} takes no state"));
-    }
-    Ok(op)
 }
 
-pub fn decimal(text: &str) -> Result<u64, String> {
-    text.parse().map_err(|_| format!("'{text}' is no decimal number"))
+pub fn decimal(text: &str) -> Read<u64> {
+    // A sign is no digit, which `parse` lets through.
+    let digits = text.bytes().all(|byte| byte.is_ascii_digit());
+    let number = text.parse().ok().filter(|_| digits);
+    number.ok_or_else(|| Bad::new(text, format!("'{text}' is no decimal number of 64 bits")))
 }
 
-pub fn hex(text: &str, digits: usize) -> Result<u16, String> {
+/// A number up to a limit.
+pub fn at_most(most: u64, text: &str) -> Read<u64> {
+    match decimal(text)? {
+        number if number <= most => Ok(number),
+        number => Err(Bad::new(text, format!("{number} is above {most}"))),
+    }
+}
+
+/// The room of a log or of an output.
+pub fn room(text: &str) -> Read<usize> {
+    Ok(at_most(MOST_BYTES as u64, text)? as usize)
+}
+
+pub fn hex(text: &str, digits: usize) -> Read<u16> {
     let good = text.len() == digits && text.bytes().all(|b| b.is_ascii_hexdigit());
-    if !good {
-        return Err(format!("'{text}' is not {digits} hexadecimal digits"));
+    let number = u16::from_str_radix(text, 16).ok().filter(|_| good);
+    number.ok_or_else(|| Bad::new(text, format!("'{text}' is not {digits} hexadecimal digits")))
+}
+
+/// A part of a list and how often it comes: PART or PART*N. Repeated so often there may not be more than `most` things.
+pub fn repeated(part: &str, most: u64, things: impl FnOnce(&str) -> u64) -> Read<(&str, u64)> {
+    let Some((one, times)) = part.split_once('*') else { return Ok((part, 1)) };
+    let number = decimal(times)?;
+    match number.checked_mul(things(one).max(1)) {
+        Some(all) if all <= most => Ok((one, number)),
+        _ => Err(Bad::new(times, format!("'{part}' is more than {most}"))),
     }
-    Ok(u16::from_str_radix(text, 16).unwrap())
 }
 
 /// Parts joined by commas, each perhaps repeated: 0001FA*4,02*255. `-` is empty.
-pub fn parse_script(text: &str) -> Result<Vec<u8>, String> {
+pub fn parse_script(text: &str) -> Read<Vec<u8>> {
     let mut script = Vec::new();
     if text == "-" || text.is_empty() {
         return Ok(script);
     }
     for part in text.split(',') {
-        let (digits, times) = part.split_once('*').unwrap_or((part, "1"));
+        let left = (MOST_BYTES - script.len()) as u64;
+        let (digits, times) = repeated(part, left, |digits| digits.len() as u64 / 2)?;
+        let bad = || Bad::new(digits, format!("'{digits}' is not pairs of hexadecimal digits"));
         if digits.is_empty() || digits.len() % 2 == 1 || !digits.is_ascii() {
-            return Err(format!("'{digits}' is not pairs of hexadecimal digits"));
+            return Err(bad());
         }
-        let bytes = digits.as_bytes().chunks(2).map(|pair| Ok(hex(std::str::from_utf8(pair).unwrap(), 2)? as u8));
-        let bytes = bytes.collect::<Result<Vec<u8>, String>>()?;
-        for _ in 0..decimal(times)? {
-            script.extend(&bytes);
-        }
+        let pairs = (0..digits.len()).step_by(2).map(|at| Ok(hex(&digits[at..at + 2], 2)? as u8));
+        let bytes = pairs.collect::<Read<Vec<u8>>>()?;
+        (0..times).for_each(|_| script.extend(&bytes));
     }
     Ok(script)
 }
 
 /// The pairs `key:value` of a state.
-pub fn pairs(state: Option<&str>) -> impl Iterator<Item = Result<(&str, &str), String>> {
+pub fn pairs(state: Option<&str>) -> impl Iterator<Item = Read<(&str, &str)>> + Clone {
     let parts = state.into_iter().flat_map(|s| s.split(','));
-    parts.map(|part| part.split_once(':').ok_or_else(|| format!("'{part}' of the state is not key:value")))
+    parts.map(|part| {
+        part.split_once(':').ok_or_else(|| Bad::new(part, format!("'{part}' of the state is not key:value")))
+    })
 }
 
-pub fn bit(text: &str) -> Result<bool, String> {
+pub fn bit(text: &str) -> Read<bool> {
     match text {
         "0" => Ok(false),
         "1" => Ok(true),
-        _ => Err(format!("'{text}' is neither 0 nor 1")),
+        _ => Err(Bad::new(text, format!("'{text}' is neither 0 nor 1"))),
     }
 }
 
-pub fn parse_controller(state: Option<&str>) -> Result<Controller, String> {
+fn parse_controller(state: Option<&str>) -> Read<Controller> {
     let mut controller = Controller::default();
     for pair in pairs(state) {
         match pair? {
             ("init", v) => controller.init = bit(v)?,
             ("kbd", v) => controller.kbd = bit(v)?,
             ("mouse", v) => controller.mouse = bit(v)?,
-            (key, _) => return Err(format!("a controller's state has no '{key}'")),
+            (key, _) => return Err(Bad::new(key, format!("a controller's state has no '{key}'"))),
         }
     }
     Ok(controller)
 }
 
-pub fn parse_identity(state: Option<&str>) -> Result<Option<u8>, String> {
-    let mut identity = None;
+/// A mouse's identity: 0, 3 or 4.
+pub fn identity(text: &str) -> Read<u8> {
+    match text {
+        "0" => Ok(0),
+        "3" => Ok(3),
+        "4" => Ok(4),
+        _ => Err(Bad::new(text, format!("'{text}' is no identity"))),
+    }
+}
+
+fn parse_identity(state: Option<&str>) -> Read<Option<u8>> {
+    let mut found = None;
     for pair in pairs(state) {
-        identity = match pair? {
-            ("id", "0") => Some(0),
-            ("id", "3") => Some(3),
-            ("id", "4") => Some(4),
-            (key, v) => return Err(format!("'{key}:{v}' is no mouse's state")),
+        found = match pair? {
+            ("id", v) => Some(identity(v)?),
+            (key, v) => return Err(Bad::new(key, format!("'{key}:{v}' is no mouse's state"))),
         };
     }
-    Ok(identity)
+    Ok(found)
 }
 
 /// Flags may be any that three digits tell; the Rust has none above `ALL_FLAGS`.
-fn parse_flags(text: &str) -> Result<u16, String> {
+fn parse_flags(text: &str) -> Read<u16> {
     hex(text, 3)
 }
 
 /// Whether a table has two keyboards.
-fn are_two(text: &str) -> Result<bool, String> {
+fn are_two(text: &str) -> Read<bool> {
     match text {
         "1" => Ok(false),
         "2" => Ok(true),
-        _ => Err(format!("there is no table with '{text}' keyboards")),
+        _ => Err(Bad::new(text, format!("there is no table with '{text}' keyboards"))),
     }
 }
 
-pub fn parse_handler(state: Option<&str>) -> Result<Handler, String> {
+/// A handler's record by the pairs of a state.
+pub fn parse_handler<'a>(state: impl Iterator<Item = Read<(&'a str, &'a str)>>) -> Read<Handler> {
     let mut handler = Handler::default();
-    for pair in pairs(state) {
+    for pair in state {
         match pair? {
-            ("queue", "-") => {}
-            ("queue", v) => {
-                for part in v.split(';') {
-                    let (event, times) = part.split_once('*').unwrap_or((part, "1"));
-                    let (event, times) = (parse_event(event)?, decimal(times)? as usize);
-                    if handler.queue.len() + times > QUEUE_PLACES {
-                        return Err(format!("a queue has no more than {QUEUE_PLACES} events"));
-                    }
-                    handler.queue.extend(vec![event; times]);
-                }
-            }
+            ("queue", v) => handler.queue = parse_events(v, QUEUE_PLACES as u64)?,
             ("table", v) => handler.two = are_two(v)?,
             ("profile", v) => handler.rated = bit(v)?,
-            ("start", v) => handler.start = u16::try_from(decimal(v)?).map_err(|_| format!("'{v}' is no start"))?,
+            ("start", v) => handler.start = decimal(v)?,
             ("count", v) => handler.count = said("events", v, QUEUE_PLACES, &mut handler.queue)?,
             // The fields of side 2 have a 2 behind their names.
             (key, v) => match key.strip_suffix('2') {
@@ -455,38 +511,55 @@ pub fn parse_handler(state: Option<&str>) -> Result<Handler, String> {
     Ok(handler)
 }
 
-fn parse_remembered(keyboard: &mut Remembered, name: &str, key: &str, v: &str) -> Result<(), String> {
+fn parse_remembered(keyboard: &mut Remembered, name: &str, key: &str, v: &str) -> Read<()> {
     match name {
         "ext" => keyboard.ext = bit(v)?,
         "flags" => keyboard.flags = parse_flags(v)?,
         "kept" => {
             keyboard.kept = parse_script(v)?;
             if keyboard.kept.len() > WAITING_PLACES {
-                return Err(format!("no more than {WAITING_PLACES} bytes can be told to wait"));
+                return Err(Bad::new(v, format!("no more than {WAITING_PLACES} bytes can be told to wait")));
             }
         }
         "waits" => keyboard.waits = said("bytes", v, WAITING_PLACES, &mut keyboard.kept)?,
-        _ => return Err(format!("a handler's state has no '{key}'")),
+        _ => return Err(Bad::new(key, format!("a handler's state has no '{key}'"))),
     }
     Ok(())
 }
 
 /// How many things are said to wait: more than there are places, where every place is told, or the first of those that are told.
-fn said<N: TryFrom<u64>, T>(what: &str, text: &str, places: usize, told: &mut Vec<T>) -> Result<Option<N>, String> {
-    let bad = || format!("'{text}' {what} can't be said to wait");
+fn said<T>(what: &str, text: &str, places: usize, told: &mut Vec<T>) -> Read<Option<u64>> {
     let number = decimal(text)?;
     if number <= told.len() as u64 {
         told.truncate(number as usize);
         return Ok(None);
     }
     match told.len() == places {
-        true => N::try_from(number).map(Some).map_err(|_| bad()),
-        false => Err(bad()),
+        true => Ok(Some(number)),
+        false => Err(Bad::new(text, format!("'{text}' {what} can't be said to wait"))),
     }
 }
 
-pub fn parse_event(text: &str) -> Result<KeyEvent, String> {
-    let bad = || format!("'{text}' is no event");
+/// Events joined by `;`, each perhaps repeated, so many at most; `-` is none.
+pub fn parse_events(text: &str, most: u64) -> Read<Vec<KeyEvent>> {
+    let mut events = Vec::new();
+    if text == "-" {
+        return Ok(events);
+    }
+    for part in text.split(';') {
+        let left = most - events.len() as u64;
+        let (event, times) = repeated(part, left, |_| 1)?;
+        let event = parse_event(event)?;
+        if times > left {
+            return Err(Bad::new(part, format!("there are more than {most} events")));
+        }
+        events.resize(events.len() + times as usize, event);
+    }
+    Ok(events)
+}
+
+fn parse_event(text: &str) -> Read<KeyEvent> {
+    let bad = || Bad::new(text, format!("'{text}' is no event"));
     let (event, side) = match text.strip_suffix("@2") {
         Some(event) => (event, Side::Second),
         None => (text, Side::First),
@@ -506,15 +579,16 @@ pub fn parse_event(text: &str) -> Result<KeyEvent, String> {
     Ok(KeyEvent { keycode, released, flags: parse_flags(&event[3..])?, side })
 }
 
-fn parse_plan(text: &str) -> Result<Vec<Step>, String> {
-    let step = |part: &str| {
-        let (letter, times) = part.split_once('*').unwrap_or((part, "1"));
-        let times = decimal(times)? as u32;
+fn parse_plan(text: &str) -> Read<Vec<Step>> {
+    let mut left = MOST_CALLS;
+    let step = |part| {
+        let (letter, times) = repeated(part, left, |_| 1)?;
+        left = left.saturating_sub(times);
         match letter {
             "h" => Ok(Step::Handle(Side::First, times)),
             "g" => Ok(Step::Handle(Side::Second, times)),
             "t" => Ok(Step::Take(times)),
-            _ => Err(format!("'{part}' is no part of a plan")),
+            _ => Err(Bad::new(part, format!("'{part}' is no part of a plan"))),
         }
     };
     match text {
@@ -617,8 +691,8 @@ impl Remembered {
     }
 
     /// How many bytes wait.
-    pub fn waiting(&self) -> u8 {
-        self.waits.unwrap_or(self.kept.len() as u8)
+    pub fn waiting(&self) -> u64 {
+        self.waits.unwrap_or(self.kept.len() as u64)
     }
 }
 
@@ -669,13 +743,13 @@ impl Handler {
     }
 
     /// How many events wait.
-    pub fn events(&self) -> u16 {
-        self.count.unwrap_or(self.queue.len() as u16)
+    pub fn events(&self) -> u64 {
+        self.count.unwrap_or(self.queue.len() as u64)
     }
 
     /// The start where it is no place, else 0: the others are not told.
-    pub fn start_told(&self) -> u16 {
-        if self.start < QUEUE_PLACES as u16 {
+    pub fn start_told(&self) -> u64 {
+        if self.start < QUEUE_PLACES as u64 {
             0
         } else {
             self.start
@@ -735,7 +809,7 @@ impl Op {
     }
 
     /// The operation, whether or not its call shows the bytes that it threw away.
-    fn without_show(&self) -> &Op {
+    pub fn without_show(&self) -> &Op {
         match self {
             Op::Kept(op) => op,
             op => op,

@@ -1,4 +1,4 @@
-//! The same calls to the Rust and to the port's programs, and their answers held side by side.
+//! The same calls to the Rust and to the others, and their answers held side by side.
 
 use crate::answer::{Answer, Done};
 use crate::call;
@@ -7,18 +7,22 @@ use crate::device::Rng;
 use crate::generate::{by_chance, kind_by_chance, names, sweep, sweep_lengths, Enough, KINDS};
 use crate::kept;
 use crate::oracle::Oracle;
-use crate::packed::{put_call, read_answer, Program, PROGRAMS};
-use crate::port::{self, Running};
+use crate::port::Port;
+use crate::sides::Answerer;
 use std::collections::BTreeMap;
-use std::io::{self, BufRead, Read, Write};
+use std::io;
 use std::process::ExitCode;
 use std::sync::atomic::{AtomicU64, Ordering};
 use std::sync::mpsc::{sync_channel, SyncSender};
 use std::thread;
 use std::time::{Duration, Instant};
 
-/// A call line, its operation and the Rust's answer.
-type Asked = (String, Op, Answer);
+/// A call's line, the call, and the Rust's answer.
+struct Asked {
+    line: String,
+    call: Call,
+    rust: Answer,
+}
 
 /// From so many calls on, each operation must have been called.
 pub const FEW: u64 = 1000;
@@ -26,11 +30,9 @@ pub const FEW: u64 = 1000;
 /// How many calls have been found alike.
 static ALIKE: AtomicU64 = AtomicU64::new(0);
 
-/// Calls on their way: packed to the port's programs, with the Rust's answers to the thread that compares.
+/// Calls on their way, with the Rust's answers, to the thread in which the others answer.
 struct Sender {
-    to_port: [SyncSender<Vec<u8>>; PROGRAMS],
-    to_reader: SyncSender<Vec<Asked>>,
-    packed: [Vec<u8>; PROGRAMS],
+    to_others: SyncSender<Vec<Asked>>,
     batch: Vec<Asked>,
     calls: u64,
     /// How many calls of each operation were sent, from the sweep and by chance.
@@ -65,11 +67,10 @@ impl Sender {
             }
             line = call.line();
         }
-        put_call(&call, &mut self.packed[Program::of(&call.op) as usize]).expect("a call within the program's space");
         self.calls += 1;
         self.sent.entry(call.op.name()).or_default()[from as usize] += 1;
         count_answers(&mut self.answers, &answer);
-        self.batch.push((line, call.op, answer));
+        self.batch.push(Asked { line, call, rust: answer });
         if self.batch.len() == BATCH {
             self.flush()
         } else {
@@ -78,11 +79,8 @@ impl Sender {
     }
 
     fn flush(&mut self) -> Result<(), Enough> {
-        // A channel is closed only where the comparison has ended. A batch is read only once all programs have been sent their part of it.
-        for (to_port, packed) in self.to_port.iter().zip(&mut self.packed) {
-            to_port.send(std::mem::take(packed)).map_err(|_| Enough)?;
-        }
-        self.to_reader.send(std::mem::take(&mut self.batch)).map_err(|_| Enough)
+        // A channel is closed only where the comparison has ended.
+        self.to_others.send(std::mem::take(&mut self.batch)).map_err(|_| Enough)
     }
 }
 
@@ -134,75 +132,54 @@ pub fn shares(lengths: &BTreeMap<&'static str, u64>, wanted: u64) -> BTreeMap<&'
     lengths.iter().map(|(&name, &length)| (name, first(length) + by_length(length))).collect()
 }
 
-/// Reads from one of the port's programs, and changes a byte of the answers where that is asked for.
-struct Damaging<R> {
-    from: R,
-    /// Whether the next bytes are to be changed.
-    now: bool,
-}
-
-impl<R: Read> Read for Damaging<R> {
-    fn read(&mut self, into: &mut [u8]) -> io::Result<usize> {
-        let count = self.from.read(into)?;
-        // The ninth byte of an answer tells, with seven more, how much was used.
-        if count > 8 && std::mem::take(&mut self.now) {
-            into[8] ^= 1;
-        }
-        Ok(count)
-    }
-}
-
 pub fn listed<K: std::fmt::Display>(counts: &BTreeMap<K, u64>) -> String {
     counts.iter().map(|(key, count)| format!("{key} {count}")).collect::<Vec<_>>().join(", ")
 }
 
 /// Ends the program, with the exit status 1.
-fn differ(call: u64, (line, _, rust): &Asked, port: &str) -> ! {
-    println!("# the first difference: call {call}");
-    println!("{line}\n# the Rust\n{rust}\n# the port\n{port}");
+fn differ(number: u64, asked: &Asked, other: &str, theirs: &str) -> ! {
+    let Asked { line, rust, .. } = asked;
+    println!("# the first difference: call {number}");
+    println!("{line}\n# the Rust\n{rust}\n# {other}\n{theirs}");
     std::process::exit(1)
 }
 
-/// Compares so many calls. The port's answer to call `damaged` is changed on its way, so that a comparison can be seen to find it.
-pub fn compare(port: port::Paths, calls: u64, seed: u64, damaged: Option<u64>) -> io::Result<ExitCode> {
-    let start = Instant::now();
-    let (mut children, mut outputs) = (Vec::new(), Vec::new());
-    // One thread writes to each program and another reads, so that no side waits for the other.
-    let mut writers = Vec::new();
-    let to_port = port::start(port)?.map(|Running { child, mut input, output }| {
-        children.push(child);
-        outputs.push(Damaging { from: output, now: false });
-        let (to_port, batches) = sync_channel::<Vec<u8>>(16);
-        writers.push(thread::spawn(move || {
-            for batch in batches {
-                // Where the program has ended, the reader tells.
-                if input.write_all(&batch).is_err() {
-                    return;
-                }
+/// An answer of which something is changed, so that a comparison can be seen to find it.
+pub fn changed(mut answer: Answer) -> Answer {
+    match &mut answer {
+        Answer::Call { end, .. } | Answer::Bytes { end, .. } => *end ^= 1,
+        Answer::Run { done, .. } => done.push(Done::NotTaken(0)),
+        Answer::Salvaged(salvaged) => salvaged.end ^= 1,
+        Answer::Dispatched(dispatched) => dispatched.last ^= 1,
+        Answer::Fields(read) => read.end ^= 1,
+        Answer::Reported(reported) => reported.report.packets ^= 1,
+        Answer::Kept(kept) => kept.others ^= 1,
+    }
+    answer
+}
+
+/// Has each of the others answer the calls, and compares their answers with the Rust's.
+fn hold(others: &mut [Box<dyn Answerer>], batches: impl Iterator<Item = Vec<Asked>>, damaged: Option<u64>) {
+    for asked in batches.flatten() {
+        let number = ALIKE.load(Ordering::Relaxed) + 1;
+        for other in &mut *others {
+            let answer = other.ask(&asked.call).map(Answer::without_additions);
+            match answer.map(|answer| if damaged == Some(number) { changed(answer) } else { answer }) {
+                Ok(answer) if answer == asked.rust => {}
+                Ok(answer) => differ(number, &asked, other.name(), &answer.to_string()),
+                Err(why) => differ(number, &asked, other.name(), &format!("({why})")),
             }
-        }));
-        to_port
-    });
-    let (to_reader, asked) = sync_channel::<Vec<Asked>>(64);
-    let reader = thread::spawn(move || {
-        for one in asked.iter().flatten() {
-            let call = ALIKE.load(Ordering::Relaxed) + 1;
-            let output = &mut outputs[Program::of(&one.1) as usize];
-            output.now = damaged == Some(call);
-            match read_answer(&one.1, output) {
-                Ok(Ok(answer)) => {
-                    let answer = answer.without_additions();
-                    if answer != one.2 {
-                        differ(call, &one, &answer.to_string())
-                    }
-                }
-                Ok(Err(why)) => differ(call, &one, &format!("({why})")),
-                Err(_) => differ(call, &one, "(no answer)"),
-            }
-            ALIKE.store(call, Ordering::Relaxed);
         }
-        outputs.iter_mut().any(|output| matches!(output.from.fill_buf(), Ok(rest) if !rest.is_empty()))
-    });
+        ALIKE.store(number, Ordering::Relaxed);
+    }
+}
+
+/// Compares so many calls. The port's answer to call `damaged` is changed on its way, so that a comparison can be seen to find it.
+pub fn compare(calls: u64, seed: u64, damaged: Option<u64>) -> io::Result<ExitCode> {
+    let start = Instant::now();
+    let (to_others, batches) = sync_channel::<Vec<Asked>>(16);
+    // A third side that answers the Rust's calls stands here.
+    let holding = thread::spawn(move || hold(&mut [Box::new(Port::new(seed))], batches.iter(), damaged));
     let progress = thread::spawn(move || loop {
         thread::park_timeout(Duration::from_secs(5));
         let alike = ALIKE.load(Ordering::Relaxed);
@@ -214,9 +191,7 @@ pub fn compare(port: port::Paths, calls: u64, seed: u64, damaged: Option<u64>) -
     });
 
     let mut sender = Sender {
-        to_port,
-        to_reader,
-        packed: [const { Vec::new() }; PROGRAMS],
+        to_others,
         batch: Vec::new(),
         calls: 0,
         sent: names().into_iter().map(|name| (name, [0, 0])).collect(),
@@ -250,21 +225,11 @@ pub fn compare(port: port::Paths, calls: u64, seed: u64, damaged: Option<u64>) -
         going = sender.send(&mut oracle, call, Source::Chance);
     }
     let _ = sender.flush();
-    let Sender { to_port, to_reader, sent, answers, .. } = sender;
-    drop((to_port, to_reader));
-    writers.into_iter().for_each(|writer| writer.join().unwrap());
-    let more = reader.join().unwrap();
-    let ends = children.iter_mut().map(|child| child.wait()).collect::<io::Result<Vec<_>>>()?;
+    let Sender { to_others, sent, answers, .. } = sender;
+    drop(to_others);
+    holding.join().unwrap();
     progress.thread().unpark();
     progress.join().unwrap();
-    if more {
-        println!("# a program of the port answered more than it was given calls");
-        return Ok(ExitCode::from(1));
-    }
-    if let Some(status) = ends.iter().find(|status| !status.success()) {
-        println!("# a program of the port ended with {status}");
-        return Ok(ExitCode::from(1));
-    }
     let seconds = start.elapsed().as_secs();
     let (all, swept): (u64, u64) = (lengths.values().sum(), sent.values().map(|[swept, _]| swept).sum());
     println!("compare: {calls} calls, seed {seed}, no difference: {swept} of the sweep's {all}, the others by chance; {seconds} s");

@@ -4,8 +4,10 @@ use crate::answer::Answer;
 use crate::call::*;
 use crate::device::*;
 use crate::oracle::Oracle;
-use crate::packed::LONGEST_SCRIPT;
 use std::collections::{BTreeMap, BTreeSet};
+
+/// The longest script that a device makes up: longer than the longest exchange.
+const LONGEST_SCRIPT: usize = 1_199_999;
 
 /// How many bytes for a device are answered badly: fewer than its attempts, all four, the next command's too, all.
 const TIMES: [usize; 5] = [1, 3, 4, 5, 1000];
@@ -97,7 +99,7 @@ fn handler(rng: &mut Rng) -> Handler {
 fn plan(rng: &mut Rng) -> Vec<Step> {
     // The longer runs fill and empty the queue, and go round its places.
     let most = if rng.once_in(16) { 200 } else { 6 };
-    let calls = 1 + rng.below(most) as u32;
+    let calls = 1 + rng.below(most) as u64;
     match rng.below(6) {
         0 => (0..2 * calls).map(|i| if i % 2 == 0 { Step::Handle(Side::First, 1) } else { Step::Take(1) }).collect(),
         1 => (0..=rng.below(4))

@@ -1,14 +1,8 @@
-//! A call with the bytes that it threw away, `show=kept`: its answer, and both packed. The Rust hands back no such bytes, but what it
-//! read tells them.
+//! A call with the bytes that it threw away, `show=kept`, and its answer. The Rust hands back no such bytes, but what it read tells them.
 
 use crate::answer::Answer;
 use crate::call::{Call, Hex, KeyboardOp, MouseOp, Op};
-use crate::packed::{answer_of, operation, Instruction, Packed};
 use std::fmt;
-use std::io::{self, Read};
-
-/// The packed call.
-const KEEPING: u8 = 39;
 
 /// The most bytes that are handed back.
 const KEPT_LIMIT: usize = 16;
@@ -46,34 +40,6 @@ pub fn keeping(mut thrown: Vec<u8>) -> (Vec<u8>, usize) {
     let others = thrown.len().saturating_sub(KEPT_LIMIT);
     thrown.truncate(KEPT_LIMIT);
     (thrown, others)
-}
-
-/// Puts the call of an operation; the operation's number goes as the state.
-pub fn put_call(op: &Op, call: &Call, out: &mut Vec<u8>) -> Result<(), String> {
-    if call.repeat != 1 {
-        return Err("the port's program repeats no call that shows bytes".to_string());
-    }
-    let (number, argument, _) = operation(op);
-    Instruction { op: KEEPING, argument, state: number as u16, room: call.room, times: 1 }.put(out);
-    Ok(())
-}
-
-/// Reads the port's answer: the call's, then one that has the bytes as logged, their number as the value and that of the others as used.
-pub fn read_answer(op: &Op, from: &mut impl Read) -> io::Result<Result<Answer, String>> {
-    let head = Packed::read(from)?;
-    if head.op != KEEPING {
-        return Ok(Err(format!("no answer to {}: {head:?}", op.name())));
-    }
-    let answer = match answer_of(op, Packed { op: operation(op).0, ..head }) {
-        Ok(answer) => Box::new(answer),
-        Err(why) => return Ok(Err(why)),
-    };
-    let Packed { used: others, value: count, mut log, .. } = Packed::read(from)?;
-    if count > KEPT_LIMIT as u64 || log.len() as u64 != count + count % 2 {
-        return Ok(Err(format!("no bytes of {}: {count} of {log:?}", op.name())));
-    }
-    log.truncate(count as usize);
-    Ok(Ok(Answer::Kept(Kept { answer, bytes: log, others })))
 }
 
 impl fmt::Display for Kept {

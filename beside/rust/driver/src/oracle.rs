@@ -417,8 +417,8 @@ impl Oracle {
         wire().at = 0;
         for step in plan {
             let (mut left, each) = match *step {
-                Step::Auto => (u32::MAX, false),
-                Step::Each => (u32::MAX, true),
+                Step::Auto => (u64::MAX, false),
+                Step::Each => (u64::MAX, true),
                 Step::Handle(_, times) | Step::Take(times) => (times, false),
             };
             while left > 0 {

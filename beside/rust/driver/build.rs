@@ -1,0 +1,10 @@
+//! Links the port's proved libraries, which `tools/built vurdellow` and `tools/built test_calls` make.
+
+fn main() {
+    let folder = concat!(env!("CARGO_MANIFEST_DIR"), "/../../../target/staticlib");
+    println!("cargo:rustc-link-search=native={folder}");
+    for library in ["vurdellow", "test_calls"] {
+        println!("cargo:rerun-if-changed={folder}/lib{library}.a");
+        println!("cargo:rustc-link-lib=static={library}");
+    }
+}

@@ -1,2 +1,0 @@
--- Steps in a row.
-pub mod Steps

@@ -1,2 +1,0 @@
--- Laws of handler calls in a row.
-pub mod Calls

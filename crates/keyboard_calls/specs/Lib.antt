@@ -1,2 +1,0 @@
--- Handler calls in a row.
-pub mod Calls

@@ -1,2 +1,0 @@
--- A session reported on, by plain numbers.
-pub mod Numbers

@@ -1,2 +1,0 @@
--- A pass over a recording by plain numbers.
-pub mod Numbers
