@@ -29,3 +29,13 @@ pub fn handle_directly() {
         let _ = handle_keyboard_input(keyboard, queue, scan_code, false);
     }
 }
+
+/// What the interrupt handler does with E0 and with the scancode behind it, called without an interrupt frame.
+pub fn handle_prefixed() {
+    if let Some(KeyboardInterruptParams { keyboard, queue }) = KEYBOARD.get() {
+        if keyboard.read_scancode() == 0xE0 {
+            let scan_code = keyboard.read_scancode();
+            let _ = handle_keyboard_input(keyboard, queue, scan_code, true);
+        }
+    }
+}

@@ -54,6 +54,17 @@ impl Rust {
         wire().script.clone_from(&self.script);
     }
 
+    /// The bytes of a row's calls, one for each.
+    pub fn set_row(&mut self, bytes: &[u8]) {
+        self.script = bytes.to_vec();
+        wire().script.clone_from(&self.script);
+    }
+
+    /// Takes the oldest event.
+    pub fn pop(&self) -> Option<Event> {
+        self.queue.pop()
+    }
+
     /// What a row begins with.
     pub fn begin_row(&self) {
         wire().begin(0, ROOM * IN_A_ROW, false);
@@ -104,4 +115,4 @@ pub fn spread(mut values: Vec<f64>) -> (f64, f64) {
 
 /// Entering the Rust's handler by an interrupt frame, or an empty one in its place, and calling what it does without a frame.
 pub use interrupts::{raise, register_again, register_nothing};
-pub use keyboard::reach::handle_directly;
+pub use keyboard::reach::{handle_directly, handle_prefixed};

@@ -61,7 +61,8 @@ const FLAGS: [Flags; 10] = [
     Flags::SCROLL_LOCK,
 ];
 
-fn to_flags(number: u16) -> Flags {
+/// The flags of a number that has document 01's bits.
+pub fn to_flags(number: u16) -> Flags {
     let mut flags = Flags::new();
     for (bit, flag) in FLAGS.into_iter().enumerate() {
         if number >> bit & 1 == 1 {
