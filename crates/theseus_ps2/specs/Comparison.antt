@@ -1,0 +1,46 @@
+-- What it is that the Rust's function and ours agree.
+-- Assumes nothing.
+use Rattle.std.specs.Prelude.{Bool, true, false, ℕ, List, ◌≡◌, Result, Ok, Err}
+use Rattle.std.specs.Borrow.{Bor}
+use Rattle.exchange.specs.Exchange.{Exchange, End, yields, lacks, Played, played, play}
+use Rattle.exchange.specs.Exchange as exchange
+use Rattle.exchange.specs.Answer.{Answer, gives, refuses}
+use Rattle.ps2_answers.specs.declared.Counted.{Counted}
+use Rattle.ps2_answers.specs.declared.Refusal.{Refusal}
+use Rattle.ps2_answers.specs.declared.Refusal.TheVariants.{Lacking, Failed}
+use Rattle.ps2_answers.specs.Refusals.{number_of, lack_of}
+use Rattle.theseus_ps2.specs.declared.recording.Recording.{Recording}
+use Rattle.theseus_ps2.specs.Messages.{said}
+
+-- Nothing is read and nothing written yet.
+abbrev pub Begins : Recording → Type 0
+Begins s = (s.used ≡ 0) × (s.pairs ≡ 0) × (s.short ≡ false)
+
+abbrev pub number_lacked : exchange.Lack → ℕ
+number_lacked (exchange.no_script p) = exchange.number p
+number_lacked exchange.no_log = 0
+
+abbrev pub TellsEnd : {A : Type 0} → End A → A → Bool → ℕ → Type 0
+TellsEnd (yields a) answer short asked = (answer ≡ a) × (short ≡ false)
+TellsEnd (lacks l) answer short asked = (short ≡ true) × (asked ≡ number_lacked l)
+
+abbrev pub TellsPlay : {A : Type 0} → Played A → A → Recording → Type 0
+TellsPlay o answer left = (left.used ≡ o.used) × (left.pairs ≡ o.pairs) × (left.log.now ≡ o.log) × TellsEnd o.end answer left.short left.asked
+
+-- Where an operation's play lacks neither a script byte nor room, this is what it comes to.
+abbrev pub Tells : {T : Type 0} → Exchange (Answer T) → Recording → Answer T → Recording → Type 0
+Tells {T} t s answer left = TellsPlay (play t s.script.now s.log.now) answer left
+
+-- The same answer, bytes used, pairs and log.
+abbrev pub Same : {T : Type 0} → Answer T → ℕ → ℕ → List ℕ → Result T (Bor (List ℕ)) → Recording → Type 0
+Same answer used pairs log rusts left = (said rusts ≡ answer) × (left.used ≡ used) × (left.pairs ≡ pairs) × (left.log.now ≡ log) × (left.short ≡ false)
+
+-- Of a refusal: a lack is no answer of the Rust's; any other is the Rust's, with the same counts.
+abbrev pub AgreeRefused : {T : Type 0} → Refusal → ℕ → ℕ → List ℕ → Result T (Bor (List ℕ)) → Recording → Type 0
+AgreeRefused (Lacking l) used pairs log rusts left = (left.used ≡ used) × (left.pairs ≡ pairs) × (left.log.now ≡ log) × (left.short ≡ true) × (left.asked ≡ number_lacked (lack_of l))
+AgreeRefused (Failed f) used pairs log rusts left = Same (refuses (number_of f)) used pairs log rusts left
+
+-- Unless ours lacked a script byte or room in the log, the two come to the same.
+abbrev pub Agree : {T : Type 0} → Result (Counted T) (Counted Refusal) → List ℕ → Result T (Bor (List ℕ)) → Recording → Type 0
+Agree (Ok a) log rusts left = Same (gives a.value) a.used a.pairs log rusts left
+Agree (Err e) log rusts left = AgreeRefused e.value e.used e.pairs log rusts left
