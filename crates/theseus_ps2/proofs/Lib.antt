@@ -4,6 +4,7 @@ pub mod Polling
 pub mod Command
 pub mod Exit
 pub mod Recorded
+pub mod Noted
 pub mod Agreed
 pub mod SelfTest
 pub mod Detect

@@ -8,17 +8,20 @@ use lib.Dec.{ltb}
 use lib.ListN.{length, get_or, set}
 use Rattle.std.proofs.lemmas.Bool.{ltb-true, ltb-false}
 use Rattle.exchange.specs.Exchange.{number, Exchange, Lack, no_script, no_log, done, read, write, lacks, Played, played, play}
+use Rattle.exchange.specs.Keeping.{Kept, noted, keeping}
 use Rattle.exchange.specs.Position.{Reached}
 use Rattle.exchange.proofs.Position.{reached_done, reached_read, reached_no_byte, reached_write, reached_no_pair}
+use Rattle.ps2_kept.specs.declared.KeptBytes.{KeptBytes}
+use Rattle.ps2_kept.specs.Added.{added_thrown, keeping_onto}
 use Rattle.theseus_ps2.specs.Hardware.{Device, Ran, ran, run}
 use Rattle.theseus_ps2.specs.Recording.{recording}
-use Rattle.theseus_ps2.specs.Comparison.{TellsPlay, number_lacked}
+use Rattle.theseus_ps2.specs.Comparison.{TellsKept, number_lacked}
 use Rattle.theseus_ps2.specs.Controller.{on_controller}
 use Rattle.theseus_ps2.specs.declared.PS2Controller.{PS2Controller}
 use Rattle.theseus_ps2.specs.declared.recording.Recording.{Recording}
 
-abbrev pub TellsRan : {A : Type 0} → Played A → Ran Recording A → Type 0
-TellsRan o r = TellsPlay o r.value r.now
+abbrev pub TellsRan : {A : Type 0} → Played (Kept KeptBytes A) → Ran Recording A → Type 0
+TellsRan o r = TellsKept o r.value r.now
 
 pub true_false : true ≡ false → ⊥
 true_false h = cc
@@ -27,7 +30,7 @@ stuck : {A : Type 0} (t : Exchange A) (s : Recording) → s.short ≡ true → (
 unfolding run
 stuck (done a) s q = refl
 stuck (read p f) s q =
-    elim s.short as (λ y. s.short ≡ y → (run recording (f (cond y 0 (get_or s.script.now s.used 0))) (cond y s (cond (ltb s.used (length s.script.now)) (record s { used = s.used + 1 }) (record s { short = true; asked = number p })))).now ≡ s) [
+    elim s.short as (λ y. s.short ≡ y → (run recording (f (cond y 0 (get_or s.script.now s.used 0))) (cond y s (cond (ltb s.used (length s.script.now)) (record s { used = s.used + 1; thrown = noted added_thrown p s.thrown (get_or s.script.now s.used 0) }) (record s { short = true; asked = number p })))).now ≡ s) [
       | true ↦ λ e. stuck (f 0) s q
       | false ↦ λ e. absurd (true_false (sym q ∙ e))
     ] refl
@@ -37,21 +40,21 @@ stuck (write p v t) s q =
       | false ↦ λ e. absurd (true_false (sym q ∙ e))
     ] refl
 
-lacking : {A : Type 0} (l : Lack) (t : Exchange A) (o : Played A) (s : Recording) → played (lacks l) s.used s.pairs s.log.now ≡ o
+lacking : {A : Type 0} (l : Lack) (t : Exchange A) (o : Played (Kept KeptBytes A)) (s : Recording) → played (lacks l) s.used s.pairs s.log.now ≡ o
     → TellsRan o (run recording t (record s { short = true; asked = number_lacked l }))
 lacking l t o s p = rw (sym p, stuck t (record s { short = true; asked = number_lacked l }) refl) (refl, refl, refl, (refl, refl))
 
-pub recorded : {A : Type 0} (rest whole : Exchange A) (s : Recording) (log : List ℕ)
-    → Reached whole s.script.now log rest s.used s.pairs s.log.now → s.short ≡ false
+pub recorded : {A : Type 0} (rest : Exchange A) (whole : Exchange (Kept KeptBytes A)) (s : Recording) (log : List ℕ)
+    → Reached whole s.script.now log (keeping_onto s.thrown rest) s.used s.pairs s.log.now → s.short ≡ false
     → TellsRan (play whole s.script.now log) (run recording rest s)
-unfolding run
-recorded {A = A} (done b) whole s log at z = rw (sym (reached_done at)) (refl, refl, refl, (refl, z))
+unfolding run keeping
+recorded {A = A} (done b) whole s log at z = rw (sym (reached_done at)) (refl, refl, refl, (refl, refl, z))
 recorded {A = A} (read p f) whole s log at z =
-    elim s.short as (λ y. s.short ≡ y → TellsRan (play whole s.script.now log) (run recording (f (cond y 0 (get_or s.script.now s.used 0))) (cond y s (cond (ltb s.used (length s.script.now)) (record s { used = s.used + 1 }) (record s { short = true; asked = number p }))))) [
+    elim s.short as (λ y. s.short ≡ y → TellsRan (play whole s.script.now log) (run recording (f (cond y 0 (get_or s.script.now s.used 0))) (cond y s (cond (ltb s.used (length s.script.now)) (record s { used = s.used + 1; thrown = noted added_thrown p s.thrown (get_or s.script.now s.used 0) }) (record s { short = true; asked = number p }))))) [
       | true ↦ λ e. absurd (true_false (sym e ∙ z))
       | false ↦ λ e.
-          elim (ltb s.used (length s.script.now)) as (λ x. ltb s.used (length s.script.now) ≡ x → TellsRan (play whole s.script.now log) (run recording (f (get_or s.script.now s.used 0)) (cond x (record s { used = s.used + 1 }) (record s { short = true; asked = number p })))) [
-            | true ↦ λ q. recorded (f (get_or s.script.now s.used 0)) whole (record s { used = s.used + 1 }) log (reached_read at (ltb-true _ _ q)) z
+          elim (ltb s.used (length s.script.now)) as (λ x. ltb s.used (length s.script.now) ≡ x → TellsRan (play whole s.script.now log) (run recording (f (get_or s.script.now s.used 0)) (cond x (record s { used = s.used + 1; thrown = noted added_thrown p s.thrown (get_or s.script.now s.used 0) }) (record s { short = true; asked = number p })))) [
+            | true ↦ λ q. recorded (f (get_or s.script.now s.used 0)) whole (record s { used = s.used + 1; thrown = noted added_thrown p s.thrown (get_or s.script.now s.used 0) }) log (reached_read at (ltb-true _ _ q)) z
             | false ↦ λ q. lacking (no_script p) (f (get_or s.script.now s.used 0)) (play whole s.script.now log) s (reached_no_byte at (ltb-false _ _ q))
           ] refl
     ] refl

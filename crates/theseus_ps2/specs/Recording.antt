@@ -2,11 +2,13 @@
 -- Assumes nothing.
 use Rattle.std.specs.Prelude.{cond, true, ℕ, ◌+◌, ◌*◌, ◌/◌, ltb, length, get_or, set}
 use Rattle.exchange.specs.Exchange.{Port, number}
+use Rattle.exchange.specs.Keeping.{noted}
+use Rattle.ps2_kept.specs.Added.{added_thrown}
 use Rattle.theseus_ps2.specs.Hardware.{Device}
 use Rattle.theseus_ps2.specs.declared.recording.Recording.{Recording}
 
 abbrev pub next_byte : Recording → Port → Recording
-next_byte s p = cond s.short s (cond (ltb s.used (length s.script.now)) (record s { used = s.used + 1 }) (record s { short = true; asked = number p }))
+next_byte s p = cond s.short s (cond (ltb s.used (length s.script.now)) (record s { used = s.used + 1; thrown = noted added_thrown p s.thrown (get_or s.script.now s.used 0) }) (record s { short = true; asked = number p }))
 
 abbrev pub with_pair : Recording → Port → ℕ → Recording
 with_pair s p v =

@@ -70,6 +70,10 @@ macro_rules! map_err {
     }};
 }
 
+pub mod both_controller;
+pub mod both_keyboard;
+pub mod both_mouse;
+mod comparison;
 mod hardware;
 mod recording;
 
@@ -77,6 +81,7 @@ use DeviceToHostResponse::*;
 use HostToControllerCommand::*;
 use HostToKeyboardCommand::*;
 use HostToMouseCommand::*;
+pub use comparison::{Both, start};
 pub use hardware::{Hardware, IoPort};
 pub use recording::Recording;
 
