@@ -11,3 +11,5 @@ pub mod Detect
 pub mod PortTest
 pub mod MouseIdentity
 pub mod SetIdentity
+pub mod SetUp
+pub mod Packet

@@ -5,3 +5,5 @@ pub mod Controller
 pub mod Messages
 pub mod Recording
 pub mod Comparison
+pub mod Initialized
+pub mod ScancodeSets

@@ -1,20 +1,25 @@
 // The Rust's functions once more, as near to its lines as the language allows, over any hardware.
 #![tactic(auto)]
 
-ghost use Rattle.std.specs.Prelude.{◌≡◌};
-ghost use Rattle.exchange.specs.Answer.{gives};
+ghost use Rattle.std.specs.Prelude.{◌≡◌, true, false, ◌||◌};
+ghost use Rattle.exchange.specs.Answer.{gives, refuses};
+ghost use Rattle.exchange.specs.Refuses.{given};
 ghost use Rattle.ps2_ports.specs.Ports.{read_status, read_config, write_config, read_data as read_data_rule, flush_output_buffer as flush_rule, write_data as write_data_rule, write_command as write_command_rule};
 ghost use Rattle.ps2_answers.specs.Refusals.{success};
 ghost use Rattle.ps2_polling.specs.Polling.{test_controller, test_port, port_test_result, controller_test_result, polling_send, polling_receive, polling_send_receive};
 ghost use Rattle.ps2_command.specs.Command.{command as command_rule};
 ghost use Rattle.ps2_bytes.specs.declared.writable.HostToDevice.TheVariants.{Keyboard};
-ghost use Rattle.ps2_keyboard.specs.Keyboard.{reset_keyboard, set_keyboard_led, keyboard_output_buffer_full, read_scancode};
+ghost use Rattle.ps2_keyboard.specs.Keyboard.{reset_keyboard, set_keyboard_led, keyboard_output_buffer_full, read_scancode, set_scancode_set, get_scancode_set};
 ghost use Rattle.ps2_detect.specs.Detection.{keyboard_detect};
-ghost use Rattle.ps2_mouse.specs.Mouse.{reset_mouse, command_to_mouse, set_sampling_rate, mouse_id, enable_packet_streaming, disable_packet_streaming, mouse_output_buffer_full};
+ghost use Rattle.ps2_mouse.specs.Mouse.{reset_mouse, command_to_mouse, set_sampling_rate, set_resolution, mouse_id, enable_packet_streaming, disable_packet_streaming, mouse_output_buffer_full};
 ghost use Rattle.ps2_bytes.specs.declared.command.HostToControllerCommand.TheVariants as Command;
 ghost use Rattle.ps2_bytes.specs.declared.response.MouseId.TheVariants.{Zero};
 ghost use Rattle.exchange.specs.Left.{left};
 ghost use Rattle.ps2_mouse_identity.specs.Identity.{set_mouse_id};
+ghost use Rattle.ps2_packet_reading.specs.Reading.{read_mouse_packet};
+ghost use Rattle.ps2_init.specs.Init.{set_up};
+ghost use Rattle.theseus_ps2.specs.Initialized.{present, ready};
+ghost use Rattle.theseus_ps2.specs.ScancodeSets.{scancode_set_polls, scancode_set_compared};
 ghost use Rattle.theseus_ps2.specs.Messages.{said};
 ghost use Rattle.theseus_ps2.specs.Hardware.{ran, run};
 ghost use Rattle.theseus_ps2.specs.Controller.{on_controller};
@@ -22,8 +27,9 @@ ghost use Rattle.theseus_ps2.specs.Controller.{on_controller};
 use ps2_bytes::{
     DeviceToHostResponse, HostToControllerCommand, HostToDevice, HostToKeyboardCommand,
     HostToKeyboardCommandOrData, HostToMouseCommand, HostToMouseCommandOrData, KeyboardType,
-    MouseId, MouseSampleRate, PortTestResult, WritableData,
+    MouseId, MouseResolution, MouseSampleRate, PortTestResult, ScancodeSet, WritableData,
 };
+use ps2_packet::{MousePacket, MousePacket3, MousePacket4, MousePacketGeneric};
 use ps2_layouts::{ControllerConfigurationByte, ControllerToHostStatus, LEDState};
 
 macro_rules! warn {
@@ -85,6 +91,101 @@ pub use comparison::{Both, start};
 pub use hardware::{Hardware, IoPort};
 pub use recording::Recording;
 
+/// Initializes the PS/2 controller, and the first and second PS/2 ports (if they exist).
+///
+/// We roughly follow the procedure from the [OS dev wiki].
+///
+/// [OS dev wiki]: https://wiki.osdev.org/%228042%22_PS/2_Controller#Initialising_the_PS.2F2_Controller
+pub fn init<H: Hardware + Drop>(
+    is_completed: &mut bool,
+    controller: &mut PS2Controller<H>,
+) -> Result<(), &'static str>
+    ensures already { is_completed.old ≡ true → (said result ≡ refuses 1) × (controller.new ≡ controller.old) }
+    ensures ran { is_completed.old ≡ false → ran (ready (said result) controller.new) controller.new.hardware ≡ run H.device set_up controller.old.hardware }
+    ensures completed { is_completed.new ≡ is_completed.old || given (said result) }
+{
+    if *is_completed {
+        return Err("The PS/2 Controller has already been initialized once.");
+    }
+
+    // Step 1: Initialise USB Controllers
+    // no USB support yet
+
+    // Here: the PS/2 Controller exists, so create the object representing it.
+    controller.keyboard_attached = false;
+    controller.mouse_attached = false;
+
+    // Step 3: Disable Devices
+    controller.write_command(DisablePort1);
+    controller.write_command(DisablePort2);
+
+    // Step 4: Flush The Output Buffer
+    controller.flush_output_buffer();
+
+    // Step 5: Set the Controller Configuration Byte
+    let mut config = controller.read_config();
+    config = config.set_port1_interrupt_enabled(false);
+    config = config.set_port2_interrupt_enabled(false);
+    config = config.set_port1_scancode_translation_enabled(false);
+    let has_mouse = config.port2_clock_disabled();
+    controller.write_config(config);
+
+    // Step 6: Perform Controller Self Test
+    controller.test()?;
+    debug!("passed PS/2 controller test");
+    // as this can reset the controller on some hardware, we restore the config
+    controller.write_config(config);
+
+    // Step 7: Determine If There Are 2 Channels
+    // not needed, already done above
+
+    // Step 8: Perform Interface Tests
+    let port_1_works = controller.test_port1().is_ok();
+    let port_2_works = if has_mouse {
+        controller.test_port2().is_ok()
+    } else {
+        warn!("PS/2 controller is not dual channel, so no mouse available");
+        false
+    };
+    if !port_1_works && !port_2_works {
+        return Err("failed both PS/2 port tests, terminating PS/2 controller driver");
+    }
+
+    // Step 9: Enable Devices
+    if port_1_works {
+        debug!("passed PS/2 port 1 test");
+        controller.write_command(EnablePort1);
+        config = config.set_port1_clock_disabled(false);
+        config = config.set_port1_interrupt_enabled(true);
+    }
+    if port_2_works {
+        debug!("passed PS/2 port 2 test");
+        controller.write_command(EnablePort2);
+        config = config.set_port2_clock_disabled(false);
+        config = config.set_port2_interrupt_enabled(true);
+    }
+    controller.write_config(config);
+
+    // Step 10: Reset Devices
+    let mut keyboard_ref = PS2Keyboard::new(controller);
+    if let Err(e) = keyboard_ref.reset() {
+        warn!("couldn't reset the keyboard; assuming there is none: {e}");
+    } else {
+        controller.keyboard_attached = true;
+    }
+    let mut mouse_ref = PS2Mouse::new(controller);
+    if let Err(e) = mouse_ref.reset() {
+        warn!("couldn't reset the mouse; assuming there is none: {e}");
+    } else {
+        controller.mouse_attached = true;
+    }
+
+    controller.read_config();
+
+    *is_completed = true;
+    Ok(())
+}
+
 // The controller, over some hardware.
 #[derive(Drop)]
 pub struct PS2Controller<H: Drop> {
@@ -94,6 +195,24 @@ pub struct PS2Controller<H: Drop> {
 }
 
 impl<H: Hardware + Drop> PS2Controller<H> {
+    /// Returns a reference to the keyboard attached to this PS/2 controller.
+    ///
+    /// The keyboard only uses the data port.
+    pub fn keyboard_ref(&mut self) -> Option<PS2Keyboard<'_, H>>
+        ensures { present result ≡ self.old.keyboard_attached }
+    {
+        self.keyboard_attached.then_some(PS2Keyboard::new(self))
+    }
+
+    /// Returns a reference to the mouse attached to this PS/2 controller.
+    ///
+    /// The mouse uses both the data port and the command/status port.
+    pub fn mouse_ref(&mut self) -> Option<PS2Mouse<'_, H>>
+        ensures { present result ≡ self.old.mouse_attached }
+    {
+        self.mouse_attached.then_some(PS2Mouse::new(self))
+    }
+
     pub fn write_command(&mut self, value: HostToControllerCommand)
         ensures { ran (gives success) self.new ≡ run (on_controller H.device) (write_command_rule value) self.old }
     {
@@ -406,6 +525,47 @@ impl<'c, H: Hardware + Drop> PS2Mouse<'c, H> {
         )
     }
 
+    /// set the resolution of the mouse
+    fn mouse_resolution(&mut self, value: MouseResolution) -> Result<(), &'static str>
+        ensures same { self.new.controller.ghost_name ≡ self.old.controller.ghost_name }
+        ensures id { self.new.id ≡ self.old.id }
+        ensures ran { ran (said result) self.new.controller.now ≡ run (on_controller H.device) (set_resolution value) self.old.controller.now }
+    {
+        map_err!(
+            and_then!(
+                self.command_to_mouse(HostToMouseCommandOrData::MouseCommand(SetResolution)),
+                |_| self.command_to_mouse(HostToMouseCommandOrData::MouseResolution(value))
+            ),
+            |_| "failed to set the mouse resolution"
+        )
+    }
+
+    /// read the correct [MousePacket] according to [MouseId]
+    pub fn read_mouse_packet(&mut self) -> MousePacket
+        ensures same { self.new.controller.ghost_name ≡ self.old.controller.ghost_name }
+        ensures id { self.new.id ≡ self.old.id }
+        ensures ran { ran (gives result) self.new.controller.now ≡ run (on_controller H.device) (read_mouse_packet self.old.id) self.old.controller.now }
+    {
+        let mut read_data = || self.controller.read_data();
+        match self.id {
+            MouseId::Zero => MousePacket::Zero(
+                MousePacketGeneric::from_bytes(
+                    read_data(), read_data(), read_data()
+                )
+            ),
+            MouseId::Three => MousePacket::Three(
+                MousePacket3::from_bytes(
+                    read_data(), read_data(), read_data(), read_data()
+                )
+            ),
+            MouseId::Four => MousePacket::Four(
+                MousePacket4::from_bytes(
+                    read_data(), read_data(), read_data(), read_data()
+                )
+            ),
+        }
+    }
+
     pub fn is_output_buffer_full(&mut self) -> bool
         ensures same { self.new.controller.ghost_name ≡ self.old.controller.ghost_name }
         ensures id { self.new.id ≡ self.old.id }
@@ -490,6 +650,76 @@ impl<'c, H: Hardware + Drop> PS2Keyboard<'c, H> {
             ),
             |_| "failed to set the keyboard led"
         )
+    }
+
+    /// Set the active scancode set currently used by the keyboard.
+    pub fn set_keyboard_scancode_set(&mut self, value: ScancodeSet) -> Result<(), &'static str>
+        ensures same { self.new.controller.ghost_name ≡ self.old.controller.ghost_name }
+        ensures ran { ran (said result) self.new.controller.now ≡ run (on_controller H.device) (set_scancode_set value) self.old.controller.now }
+    {
+        map_err!(
+            and_then!(
+                and_then!(
+                    self.command_to_keyboard(HostToKeyboardCommandOrData::KeyboardCommand(HostToKeyboardCommand::ScancodeSet)),
+                    |_| self.command_to_keyboard(HostToKeyboardCommandOrData::ScancodeSet(value))
+                ),
+                |_| self.compare_scancode_set(value)
+            ),
+            |e| {
+                warn!("{e}");
+                e
+            }
+        )
+    }
+
+    // The body of the closure that ends `set_keyboard_scancode_set`.
+    fn compare_scancode_set(&mut self, value: ScancodeSet) -> Result<(), &'static str>
+        ensures same { self.new.controller.ghost_name ≡ self.old.controller.ghost_name }
+        ensures ran { ran (said result) self.new.controller.now ≡ run (on_controller H.device) scancode_set_compared self.old.controller.now }
+    {
+        if self.get_keyboard_scancode_set()? == value {
+            //Note: this does not mean it supports the scancode set,
+            //      it will not interrupt if the set is unsupported
+            debug!("hardware returned the scancode set we've set");
+        } else {
+            debug!("failed: hardware didn't return the scancode set we've set");
+        }
+        Ok(())
+    }
+
+    fn get_keyboard_scancode_set(&mut self) -> Result<ScancodeSet, &'static str>
+        ensures same { self.new.controller.ghost_name ≡ self.old.controller.ghost_name }
+        ensures ran { ran (said result) self.new.controller.now ≡ run (on_controller H.device) get_scancode_set self.old.controller.now }
+    {
+        map_err!(
+            and_then!(
+                and_then!(
+                    self.command_to_keyboard(HostToKeyboardCommandOrData::KeyboardCommand(HostToKeyboardCommand::ScancodeSet)),
+                    |_| self.command_to_keyboard(HostToKeyboardCommandOrData::ScancodeSet(ScancodeSet::Get))
+                ),
+                |_| self.poll_scancode_set()
+            ),
+            |e| {
+                warn!("{e}");
+                e
+            }
+        )
+    }
+
+    // The body of the closure that ends `get_keyboard_scancode_set`.
+    fn poll_scancode_set(&mut self) -> Result<ScancodeSet, &'static str>
+        ensures same { self.new.controller.ghost_name ≡ self.old.controller.ghost_name }
+        ensures ran { ran (said result) self.new.controller.now ≡ run (on_controller H.device) scancode_set_polls self.old.controller.now }
+    {
+        const VERY_ARBITRARY_TIMEOUT_VALUE: u16 = u16::MAX;
+        for _ in 0..VERY_ARBITRARY_TIMEOUT_VALUE {
+            if self.is_output_buffer_full() {
+                if let Ok(id) = self.controller.read_data().try_into() {
+                    return Ok(id)
+                }
+            }
+        }
+        Err("failed to get scancode set: timeout exceeded")
     }
 
     /// Detect the [KeyboardType].
