@@ -6,6 +6,7 @@ use mathlib.Core.Path.{◌≡◌, refl, sym, subst, ap, ◌∙◌}
 use Rattle.std.specs.Prelude.{Result, Ok, Err}
 use Rattle.exchange.specs.Exchange.{Exchange, End, yields, lacks, told_end, Played, played, play, Reads, Writes}
 use Rattle.exchange.specs.Answer.{Answer, gives, refuses}
+use Rattle.exchange.specs.Left.{Left, left, record_after}
 use Rattle.exchange.specs.Bounds.{Within}
 use Rattle.exchange.specs.Keeping.{Kept, kept_end}
 use Rattle.exchange.proofs.Keeping.{keeping_forgets}
@@ -15,7 +16,7 @@ use Rattle.ps2_answers.specs.declared.Counted.{Counted}
 use Rattle.ps2_answers.specs.declared.Refusal.{Refusal}
 use Rattle.ps2_answers.specs.declared.Refusal.TheVariants.{Lacking, Failed}
 use Rattle.ps2_answers.specs.Refusals.{refused}
-use Rattle.ps2_answers.specs.Answers.{ended, used_of, pairs_of, told, ReadsTold, WritesTold}
+use Rattle.ps2_answers.specs.Answers.{ended, used_of, pairs_of, told, ReadsTold, WritesTold, PlaysLeftTold}
 use Rattle.ps2_kept.specs.declared.KeptBytes.{KeptBytes}
 use Rattle.ps2_kept.specs.Kept.{nothing_kept, keeping_thrown, kept_at}
 use Rattle.ps2_kept.specs.Added.{others_limit, added_thrown, keeping_onto}
@@ -24,21 +25,24 @@ use Rattle.ps2_kept.proofs.Thrown.{keeping_thrown_lem}
 use Rattle.theseus_ps2.specs.Hardware.{Ran, ran, run}
 use Rattle.theseus_ps2.specs.Recording.{recording}
 use Rattle.theseus_ps2.specs.Controller.{on_controller}
-use Rattle.theseus_ps2.specs.Comparison.{Begins, Starts, Tells, TellsEnd, TellsPlay, TellsEndKept, TellsKept, AgreeRefused, Agree, AgreeKept}
+use Rattle.theseus_ps2.specs.Comparison.{Begins, Starts, Tells, TellsEnd, TellsPlay, TellsEndKept, TellsKept, AgreeRefused, Agree, AgreeKept, AgreeLeft}
 use Rattle.theseus_ps2.specs.declared.PS2Controller.{PS2Controller}
 use Rattle.theseus_ps2.specs.declared.recording.Recording.{Recording}
 use Rattle.theseus_ps2.proofs.Recorded.{recorded, run_hardware}
 
 -- ---- what a run of the controller over a script and a log tells
 
+pub tells_noted : {T : Type 0} (t : Exchange T) (s : Recording) (answer : T) (s' : Recording) → ran answer s' ≡ run recording t s → Begins s
+    → TellsKept (play (keeping_onto nothing_kept t) s.script.now s.log.now) answer s'
+tells_noted t s answer s' r b =
+    rw (ap (λ (x : Ran Recording _). x.value) r, ap (λ (x : Ran Recording _). x.now) r)
+    (recorded t (keeping_onto nothing_kept t) s s.log.now (rw (b.0, b.1, b.3) (reached_start (keeping_onto nothing_kept t) s.script.now s.log.now)) b.2)
+
 pub tells_kept : {T : Type 0} (t : Exchange T) (c : PS2Controller Recording) (answer : T) (c' : PS2Controller Recording)
     → ran answer c' ≡ run (on_controller recording) t c → Begins c.hardware
     → TellsKept (play (keeping_onto nothing_kept t) c.hardware.script.now c.hardware.log.now) answer c'.hardware
 tells_kept t c answer c' p b =
-    let r = p ∙ run_hardware recording t c in
-    rw (ap (λ (x : Ran (PS2Controller Recording) _). x.value) r, ap (λ (x : Ran (PS2Controller Recording) _). x.now.hardware) r)
-    (recorded t (keeping_onto nothing_kept t) c.hardware c.hardware.log.now
-    (rw (b.0, b.1, b.3) (reached_start (keeping_onto nothing_kept t) c.hardware.script.now c.hardware.log.now)) b.2)
+    tells_noted t c.hardware answer c'.hardware (ap (λ (r : Ran (PS2Controller Recording) _). ran r.value r.now.hardware) (p ∙ run_hardware recording t c)) b
 
 forget_end : {A : Type 0} (e : End (Kept KeptBytes A)) (a : A) (k : KeptBytes) (short : Bool) (asked : ℕ)
     → TellsEndKept e a k short asked → TellsEnd (told_end (λ (x : Kept KeptBytes A). x.value) e) a short asked
@@ -54,11 +58,15 @@ without : {A : Type 0} (t : Exchange A) (script log : List ℕ) (o : Played (Kep
 without t script log o p =
     rw (keeping_forgets added_thrown nothing_kept t) at (bind_told (keeping_onto nothing_kept t) (λ x. x.value) script log p refl)
 
+pub tells_run : {T : Type 0} (t : Exchange T) (s : Recording) (answer : T) (s' : Recording) → ran answer s' ≡ run recording t s → Begins s → Tells t s answer s'
+tells_run {T = T} t s answer s' p b =
+    subst (λ (x : Played T). TellsPlay x answer s') (without t s.script.now s.log.now _ refl)
+    (forget (play (keeping_onto nothing_kept t) s.script.now s.log.now) answer s' (tells_noted t s answer s' p b))
+
 pub tells : {T : Type 0} (t : Exchange T) (c : PS2Controller Recording) (answer : T) (c' : PS2Controller Recording)
     → ran answer c' ≡ run (on_controller recording) t c → Begins c.hardware → Tells t c.hardware answer c'.hardware
-tells {T = T} t c answer c' p b =
-    subst (λ (x : Played T). TellsPlay x answer c'.hardware) (without t c.hardware.script.now c.hardware.log.now _ refl)
-    (forget (play (keeping_onto nothing_kept t) c.hardware.script.now c.hardware.log.now) answer c'.hardware (tells_kept t c answer c' p b))
+tells t c answer c' p b =
+    tells_run t c.hardware answer c'.hardware (ap (λ (r : Ran (PS2Controller Recording) _). ran r.value r.now.hardware) (p ∙ run_hardware recording t c)) b
 
 -- ---- that ours tells the same
 
@@ -114,3 +122,32 @@ module _ {T : Type 0} (t : Exchange (Answer T)) (ours : Result (Counted T) (Coun
     agree_reads_kept r =
         agree_kept {log = rusts_log} {log' = rusts_log}
         (record { plays = ap (λ n. played (kept_end (ended ours) kept) (used_of ours) n rusts_log) r.reads.no_pairs ∙ r.reads.with_any rusts_log; ended = r.ended }) refl
+
+-- ---- of an operation that leaves a record
+
+module _ {R T : Type 0} (passed now : R) (answer : Answer T) (rusts_now : R) (left_by : Recording) where
+  abbrev said_left : Result (Counted T) (Counted Refusal) → End (Left R T)
+  said_left r = told_end (λ a. left a now) (ended r)
+
+  left_err : (x : Refusal) (used pairs : ℕ) (log : List ℕ)
+      → TellsPlay (played (told_end (λ a. left a now) (refused {A = T} x)) used pairs log) (left answer rusts_now) left_by
+      → now ≡ record_after passed (told_end (λ a. left a now) (refused {A = T} x))
+      → AgreeRefused x used pairs log answer left_by × (now ≡ cond left_by.short passed rusts_now)
+  left_err (Lacking l) used pairs log h e = ((h.0, h.1, h.2, h.3.0, h.3.1), rw h.3.0 e)
+  left_err (Failed f) used pairs log h e =
+      ((ap (λ (x : Left R T). x.answer) h.3.0, h.0, h.1, h.2, h.3.1), rw h.3.1 (sym (ap (λ (x : Left R T). x.now) h.3.0)))
+
+  pub left_told : (o : Result (Counted T) (Counted Refusal)) (log : List ℕ)
+      → TellsPlay (played (said_left o) (used_of o) (pairs_of o) log) (left answer rusts_now) left_by → now ≡ record_after passed (said_left o)
+      → AgreeLeft passed o now log answer rusts_now left_by
+  left_told (Ok a) log h e =
+      ((ap (λ (x : Left R T). x.answer) h.3.0, h.0, h.1, h.2, h.3.1), rw h.3.1 (sym (ap (λ (x : Left R T). x.now) h.3.0)))
+  left_told (Err x) log h e = left_err x.value x.used x.pairs log h e
+
+  pub agree_left : (t : Exchange (Left R T)) (s : Recording) {script rusts_log log log' : List ℕ} (ours : Result (Counted T) (Counted Refusal))
+      → Starts script rusts_log s → ran (left answer rusts_now) left_by ≡ run recording t s
+      → PlaysLeftTold (λ r n. told_end (λ a. left a n) (ended r)) t passed script log ours log' now → log ≡ rusts_log → AgreeLeft passed ours now log' answer rusts_now left_by
+  agree_left t s {log' = log'} ours b q p same =
+      let e : played (said_left ours) (used_of ours) (pairs_of ours) log' ≡ play t s.script.now s.log.now = rw (b.1, b.2, sym same) p.0 in
+      let f : now ≡ record_after passed (said_left ours) = rw (sym (ap (λ (o : Played (Left R T)). o.end) p.0)) at p.1 in
+      left_told ours log' (subst (λ (x : Played (Left R T)). TellsPlay x (left answer rusts_now) left_by) (sym e) (tells_run t s (left answer rusts_now) left_by q b.0)) f

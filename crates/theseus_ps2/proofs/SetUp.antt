@@ -10,6 +10,7 @@ use Rattle.bits.specs.Bits.{put_bit}
 use Rattle.bits.proofs.Bits.{bit_put_other}
 use Rattle.exchange.specs.Exchange.{Exchange, done, bind}
 use Rattle.exchange.specs.Answer.{Answer, gives, refuses, and_then}
+use Rattle.exchange.specs.Left.{Left, left}
 use Rattle.exchange.specs.Refuses.{given, succeeds}
 use Rattle.ps2_bytes.specs.declared.command.HostToControllerCommand.{HostToControllerCommand}
 use Rattle.ps2_bytes.specs.declared.command.HostToControllerCommand.TheVariants.{DisablePort1, DisablePort2, EnablePort1, EnablePort2, TestPort1, TestPort2}
@@ -23,8 +24,10 @@ use Rattle.ps2_mouse.specs.Mouse.{reset_mouse}
 use Rattle.ps2_setup.specs.declared.WorkingPorts.{WorkingPorts}
 use Rattle.ps2_setup.specs.SetUp.{quieted, running, disable_devices, test_with, test_second, at_least_one, test_ports, enable_port, enable_ports}
 use Rattle.ps2_init.specs.declared.PS2Controller.{PS2Controller}
-use Rattle.ps2_init.specs.Init.{has_mouse, with_devices, reset_devices, read_last, enabled, ports_tested, tested, set_up}
+use Rattle.ps2_init.specs.Init.{has_mouse, with_devices, reset_devices, read_last, enabled, ports_tested, tested, set_up, or_passed, initialize}
 use Rattle.theseus_ps2.specs.Hardware.{Device, Ran, ran, run}
+use Rattle.theseus_ps2.specs.Initialized.{ready}
+use Rattle.theseus_ps2.specs.Record.{record_of}
 use Rattle.theseus_ps2.specs.Controller.{on_controller}
 use Rattle.theseus_ps2.specs.Messages.{said}
 use Rattle.theseus_ps2.specs.declared.PS2Controller.{PS2Controller as Rusts}
@@ -166,3 +169,42 @@ module _ {H : Type 0} (d : Device H) where
           u
           ∙ sym (from_ports ∙ steps d (test_ports (has_mouse as_read)) (enabled (quieted as_read)) s2 s3 r
           ∙ steps d (enable_ports ports (quieted as_read)) (λ (_ : Success). bind reset_devices read_last) s3 s4 t)
+
+-- ---- on the record
+
+module _ {H : Type 0} (d : Device H) (passed : PS2Controller) (c c' : Rusts H) where
+  pub init_left : (answer : Answer Success) (is : Bool) → c.keyboard_attached ≡ passed.keyboard_attached → c.mouse_attached ≡ passed.mouse_attached
+      → (passed.initialized ≡ true → (answer ≡ refuses 1) × (c' ≡ c))
+      → (passed.initialized ≡ false → ran (ready answer c') c'.hardware ≡ run d set_up c.hardware) → is ≡ passed.initialized || given answer
+      → ran (left answer (record_of is c'.keyboard_attached c'.mouse_attached passed)) c'.hardware ≡ run d (initialize passed) c.hardware
+  unfolding initialize
+  init_left answer is k m already fresh completed = by passed.initialized refl
+    where
+      done_with : (a : Answer Success) → left a (record_of (given a) c'.keyboard_attached c'.mouse_attached passed) ≡ or_passed passed (ready a c')
+      done_with (gives x) = refl
+      done_with (refuses n) = refl
+
+      whole : Bool → Exchange (Left PS2Controller Success)
+      whole y = cond y (done (left (refuses 1) passed)) (bind set_up (λ a. done (or_passed passed a)))
+
+      by : (x : Bool) → passed.initialized ≡ x
+          → ran (left answer (record_of is c'.keyboard_attached c'.mouse_attached passed)) c'.hardware
+          ≡ run d (whole passed.initialized) c.hardware
+      by true q =
+          let a = already q in
+          let same : record_of true c.keyboard_attached c.mouse_attached passed ≡ passed =
+          ap (λ (x : Bool). record_of true x c.mouse_attached passed) k
+          ∙ ap (λ (x : Bool). record_of true passed.keyboard_attached x passed) m
+          ∙ ap (λ (x : Bool). record passed { initialized = x }) (sym q) in
+          let now : is ≡ true = rw q at completed in
+          ap (λ y. ran (left answer (record_of y c'.keyboard_attached c'.mouse_attached passed)) c'.hardware) now
+          ∙ ap (λ y. ran (left y (record_of true c'.keyboard_attached c'.mouse_attached passed)) c'.hardware) a.0
+          ∙ ap (λ (y : Rusts H). ran (left (refuses 1) (record_of true y.keyboard_attached y.mouse_attached passed)) y.hardware) a.1
+          ∙ ap (λ (y : PS2Controller). ran (left (refuses 1) y) c.hardware) same ∙ run_done d (left (refuses 1) passed) c.hardware
+          ∙ ap (λ y. run d (whole y) c.hardware) (sym q)
+      by false q =
+          let now : is ≡ given answer = rw q at completed in
+          ap (λ y. ran (left answer (record_of y c'.keyboard_attached c'.mouse_attached passed)) c'.hardware) now
+          ∙ ap (λ l. ran l c'.hardware) (done_with answer) ∙ run_done d (or_passed passed (ready answer c')) c'.hardware
+          ∙ sym (bind_steps d set_up (λ a. done (or_passed passed a)) c.hardware c'.hardware (fresh q))
+          ∙ ap (λ y. run d (whole y) c.hardware) (sym q)

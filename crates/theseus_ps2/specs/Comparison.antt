@@ -62,3 +62,7 @@ Agree (Err e) log rusts left = AgreeRefused e.value e.used e.pairs log rusts lef
 -- The bytes that ours hands back are those that the Rust's run threw away; none after a lack.
 abbrev pub AgreeKept : {T : Type 0} → Result (Counted T) (Counted Refusal) → KeptBytes → List ℕ → Answer T → Recording → Type 0
 AgreeKept ours kept log rusts left = Agree ours log rusts left × (kept ≡ cond left.short nothing_kept left.thrown)
+
+-- Of an operation that leaves a record: it is left as the Rust leaves it; after a lack it is as passed in.
+abbrev pub AgreeLeft : {R T : Type 0} → R → Result (Counted T) (Counted Refusal) → R → List ℕ → Answer T → R → Recording → Type 0
+AgreeLeft passed ours now log rusts rusts_now left = Agree ours log rusts left × (now ≡ cond left.short passed rusts_now)

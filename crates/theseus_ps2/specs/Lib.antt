@@ -7,3 +7,4 @@ pub mod Recording
 pub mod Comparison
 pub mod Initialized
 pub mod ScancodeSets
+pub mod Record

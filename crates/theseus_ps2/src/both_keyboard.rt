@@ -4,7 +4,7 @@ ghost use Rattle.exchange.specs.Answer.{gives};
 ghost use Rattle.ps2_command.specs.Command.{command as command_rule};
 ghost use Rattle.ps2_bytes.specs.declared.writable.HostToDevice.TheVariants.{Keyboard};
 ghost use Rattle.ps2_detect.specs.Detection.{keyboard_detect};
-ghost use Rattle.ps2_keyboard.specs.Keyboard.{keyboard_output_buffer_full, read_scancode, reset_keyboard, set_keyboard_led};
+ghost use Rattle.ps2_keyboard.specs.Keyboard.{get_scancode_set, keyboard_output_buffer_full, read_scancode, reset_keyboard, set_keyboard_led, set_scancode_set};
 ghost use Rattle.theseus_ps2.specs.Hardware.{ran, run};
 ghost use Rattle.theseus_ps2.specs.Controller.{on_controller};
 ghost use Rattle.theseus_ps2.specs.Messages.{said};
@@ -13,11 +13,12 @@ ghost use Rattle.theseus_ps2.specs.Comparison.{Agree, AgreeKept};
 use crate::comparison::{Both, start};
 use crate::{Hardware, PS2Controller, PS2Keyboard};
 use ps2_answers::Answer;
-use ps2_bytes::{HostToKeyboardCommandOrData, KeyboardType};
+use ps2_bytes::{HostToKeyboardCommandOrData, KeyboardType, ScancodeSet};
 use ps2_command::Commanded;
 use ps2_detect::keyboard_detect;
 use ps2_keyboard::{
-    command_to_keyboard, is_output_buffer_full, read_scancode, reset_keyboard, set_keyboard_led,
+    command_to_keyboard, get_keyboard_scancode_set, is_output_buffer_full, read_scancode,
+    reset_keyboard, set_keyboard_led, set_keyboard_scancode_set,
 };
 use ps2_layouts::LEDState;
 
@@ -93,6 +94,58 @@ pub fn both_set_keyboard_led<'a>(
     let mut controller = start(script, rusts_log);
     let rusts = rusts_set_keyboard_led(&mut controller, value);
     let ours = set_keyboard_led(script, log, value);
+    Both {
+        ours,
+        rusts,
+        left: controller.hardware,
+    }
+}
+
+fn rusts_set_keyboard_scancode_set<H: Hardware + Drop>(
+    controller: &mut PS2Controller<H>,
+    value: ScancodeSet,
+) -> Result<(), &'static str>
+    ensures { ran (said result) controller.new ≡ run (on_controller H.device) (set_scancode_set value) controller.old }
+{
+    PS2Keyboard::new(controller).set_keyboard_scancode_set(value)
+}
+
+pub fn both_set_keyboard_scancode_set<'a>(
+    script: &'a [u8],
+    log: &mut [u8],
+    rusts_log: &'a mut [u8],
+    value: ScancodeSet,
+) -> Both<'a, Answer<()>, Result<(), &'static str>>
+    ensures { log.old ≡ rusts_log.old → Agree result.ours log.new (said result.rusts) result.left }
+{
+    let mut controller = start(script, rusts_log);
+    let rusts = rusts_set_keyboard_scancode_set(&mut controller, value);
+    let ours = set_keyboard_scancode_set(script, log, value);
+    Both {
+        ours,
+        rusts,
+        left: controller.hardware,
+    }
+}
+
+fn rusts_get_keyboard_scancode_set<H: Hardware + Drop>(
+    controller: &mut PS2Controller<H>,
+) -> Result<ScancodeSet, &'static str>
+    ensures { ran (said result) controller.new ≡ run (on_controller H.device) get_scancode_set controller.old }
+{
+    PS2Keyboard::new(controller).get_keyboard_scancode_set()
+}
+
+pub fn both_get_keyboard_scancode_set<'a>(
+    script: &'a [u8],
+    log: &mut [u8],
+    rusts_log: &'a mut [u8],
+) -> Both<'a, Answer<ScancodeSet>, Result<ScancodeSet, &'static str>>
+    ensures { log.old ≡ rusts_log.old → Agree result.ours log.new (said result.rusts) result.left }
+{
+    let mut controller = start(script, rusts_log);
+    let rusts = rusts_get_keyboard_scancode_set(&mut controller);
+    let ours = get_keyboard_scancode_set(script, log);
     Both {
         ours,
         rusts,

@@ -1,7 +1,7 @@
 // The mouse's operations: the Rust's and ours on one script and on two logs that begin alike.
 ghost use Rattle.std.specs.Prelude.{◌≡◌};
 ghost use Rattle.exchange.specs.Answer.{gives};
-ghost use Rattle.ps2_mouse.specs.Mouse.{command_to_mouse, disable_packet_streaming, enable_packet_streaming, mouse_id, mouse_output_buffer_full, reset_mouse, set_sampling_rate};
+ghost use Rattle.ps2_mouse.specs.Mouse.{command_to_mouse, disable_packet_streaming, enable_packet_streaming, mouse_id, mouse_output_buffer_full, reset_mouse, set_resolution, set_sampling_rate};
 ghost use Rattle.theseus_ps2.specs.Hardware.{ran, run};
 ghost use Rattle.theseus_ps2.specs.Controller.{on_controller};
 ghost use Rattle.theseus_ps2.specs.Messages.{said};
@@ -10,7 +10,7 @@ ghost use Rattle.theseus_ps2.specs.Comparison.{Agree, AgreeKept};
 use crate::comparison::{Both, start};
 use crate::{Hardware, PS2Controller, PS2Mouse};
 use ps2_answers::Answer;
-use ps2_bytes::{HostToMouseCommandOrData, MouseId, MouseSampleRate};
+use ps2_bytes::{HostToMouseCommandOrData, MouseId, MouseResolution, MouseSampleRate};
 use ps2_command::Commanded;
 use ps2_mouse::PS2Mouse as Mouse;
 
@@ -161,6 +161,33 @@ pub fn both_disable_mouse_packet_streaming<'a>(
     let mut controller = start(script, rusts_log);
     let rusts = rusts_disable_mouse_packet_streaming(&mut controller);
     let ours = Mouse::disable_mouse_packet_streaming(script, log);
+    Both {
+        ours,
+        rusts,
+        left: controller.hardware,
+    }
+}
+
+fn rusts_mouse_resolution<H: Hardware + Drop>(
+    controller: &mut PS2Controller<H>,
+    value: MouseResolution,
+) -> Result<(), &'static str>
+    ensures { ran (said result) controller.new ≡ run (on_controller H.device) (set_resolution value) controller.old }
+{
+    PS2Mouse::new(controller).mouse_resolution(value)
+}
+
+pub fn both_mouse_resolution<'a>(
+    script: &'a [u8],
+    log: &mut [u8],
+    rusts_log: &'a mut [u8],
+    value: MouseResolution,
+) -> Both<'a, Answer<()>, Result<(), &'static str>>
+    ensures { log.old ≡ rusts_log.old → Agree result.ours log.new (said result.rusts) result.left }
+{
+    let mut controller = start(script, rusts_log);
+    let rusts = rusts_mouse_resolution(&mut controller, value);
+    let ours = Mouse::mouse_resolution(script, log, value);
     Both {
         ours,
         rusts,

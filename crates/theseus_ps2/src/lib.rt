@@ -18,7 +18,7 @@ ghost use Rattle.exchange.specs.Left.{left};
 ghost use Rattle.ps2_mouse_identity.specs.Identity.{set_mouse_id};
 ghost use Rattle.ps2_packet_reading.specs.Reading.{read_mouse_packet};
 ghost use Rattle.ps2_init.specs.Init.{set_up};
-ghost use Rattle.theseus_ps2.specs.Initialized.{present, ready};
+ghost use Rattle.theseus_ps2.specs.Initialized.{present, identity_lent, lent_fresh, ready};
 ghost use Rattle.theseus_ps2.specs.ScancodeSets.{scancode_set_polls, scancode_set_compared};
 ghost use Rattle.theseus_ps2.specs.Messages.{said};
 ghost use Rattle.theseus_ps2.specs.Hardware.{ran, run};
@@ -29,8 +29,8 @@ use ps2_bytes::{
     HostToKeyboardCommandOrData, HostToMouseCommand, HostToMouseCommandOrData, KeyboardType,
     MouseId, MouseResolution, MouseSampleRate, PortTestResult, ScancodeSet, WritableData,
 };
-use ps2_packet::{MousePacket, MousePacket3, MousePacket4, MousePacketGeneric};
 use ps2_layouts::{ControllerConfigurationByte, ControllerToHostStatus, LEDState};
+use ps2_packet::{MousePacket, MousePacket3, MousePacket4, MousePacketGeneric};
 
 macro_rules! warn {
     ($($t:tt)*) => { () };
@@ -77,6 +77,8 @@ macro_rules! map_err {
 }
 
 pub mod both_controller;
+pub mod both_identity;
+pub mod both_init;
 pub mod both_keyboard;
 pub mod both_mouse;
 mod comparison;
@@ -208,7 +210,7 @@ impl<H: Hardware + Drop> PS2Controller<H> {
     ///
     /// The mouse uses both the data port and the command/status port.
     pub fn mouse_ref(&mut self) -> Option<PS2Mouse<'_, H>>
-        ensures { present result ≡ self.old.mouse_attached }
+        ensures { identity_lent result ≡ lent_fresh self.old.mouse_attached }
     {
         self.mouse_attached.then_some(PS2Mouse::new(self))
     }
@@ -548,21 +550,23 @@ impl<'c, H: Hardware + Drop> PS2Mouse<'c, H> {
     {
         let mut read_data = || self.controller.read_data();
         match self.id {
-            MouseId::Zero => MousePacket::Zero(
-                MousePacketGeneric::from_bytes(
-                    read_data(), read_data(), read_data()
-                )
-            ),
-            MouseId::Three => MousePacket::Three(
-                MousePacket3::from_bytes(
-                    read_data(), read_data(), read_data(), read_data()
-                )
-            ),
-            MouseId::Four => MousePacket::Four(
-                MousePacket4::from_bytes(
-                    read_data(), read_data(), read_data(), read_data()
-                )
-            ),
+            MouseId::Zero => MousePacket::Zero(MousePacketGeneric::from_bytes(
+                read_data(),
+                read_data(),
+                read_data(),
+            )),
+            MouseId::Three => MousePacket::Three(MousePacket3::from_bytes(
+                read_data(),
+                read_data(),
+                read_data(),
+                read_data(),
+            )),
+            MouseId::Four => MousePacket::Four(MousePacket4::from_bytes(
+                read_data(),
+                read_data(),
+                read_data(),
+                read_data(),
+            )),
         }
     }
 
@@ -660,7 +664,9 @@ impl<'c, H: Hardware + Drop> PS2Keyboard<'c, H> {
         map_err!(
             and_then!(
                 and_then!(
-                    self.command_to_keyboard(HostToKeyboardCommandOrData::KeyboardCommand(HostToKeyboardCommand::ScancodeSet)),
+                    self.command_to_keyboard(HostToKeyboardCommandOrData::KeyboardCommand(
+                        HostToKeyboardCommand::ScancodeSet
+                    )),
                     |_| self.command_to_keyboard(HostToKeyboardCommandOrData::ScancodeSet(value))
                 ),
                 |_| self.compare_scancode_set(value)
@@ -694,8 +700,12 @@ impl<'c, H: Hardware + Drop> PS2Keyboard<'c, H> {
         map_err!(
             and_then!(
                 and_then!(
-                    self.command_to_keyboard(HostToKeyboardCommandOrData::KeyboardCommand(HostToKeyboardCommand::ScancodeSet)),
-                    |_| self.command_to_keyboard(HostToKeyboardCommandOrData::ScancodeSet(ScancodeSet::Get))
+                    self.command_to_keyboard(HostToKeyboardCommandOrData::KeyboardCommand(
+                        HostToKeyboardCommand::ScancodeSet
+                    )),
+                    |_| self.command_to_keyboard(HostToKeyboardCommandOrData::ScancodeSet(
+                        ScancodeSet::Get
+                    ))
                 ),
                 |_| self.poll_scancode_set()
             ),

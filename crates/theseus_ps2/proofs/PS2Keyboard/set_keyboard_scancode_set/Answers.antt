@@ -18,19 +18,19 @@ unfolding set_scancode_set command_scancode_set command_to_keyboard
 returns-in-Ok-outcome-clause-ran g c =
     let d = on_controller g.H.Hardware.device in
     let one : ran (said c.match-command_to_keyboard.t-20) c.match-command_to_keyboard.self.controller.now ≡ run d (command_scancode_set c.args.value) c.args.self.now.controller.now =
-        elim c.match-command_to_keyboard.branch [
-          | in-Ok w ↦
-              let e : ran (said w.f+m.result) c.match-command_to_keyboard.self.controller.now ≡ run d (command_to_keyboard (Byte.ScancodeSet c.args.value)) c.command_to_keyboard.new.self.controller.now = search rules in
-              rw w.t-20-is (e ∙ sym (steps d (keyboard_command Command.ScancodeSet) (λ (_ : Success). command_to_keyboard (Byte.ScancodeSet c.args.value)) _ _ w.in-Ok.ensures.ran))
-          | in-Err w ↦ rw (w.t-20-is, w.self-is) (stops d (keyboard_command Command.ScancodeSet) (λ (_ : Success). command_to_keyboard (Byte.ScancodeSet c.args.value)) _ _ w.in-Err.ensures.ran)
-        ] in
+    elim c.match-command_to_keyboard.branch [
+      | in-Ok w ↦
+          let e : ran (said w.f+m.result) c.match-command_to_keyboard.self.controller.now ≡ run d (command_to_keyboard (Byte.ScancodeSet c.args.value)) c.command_to_keyboard.new.self.controller.now = search rules in
+          rw w.t-20-is (e ∙ sym (steps d (keyboard_command Command.ScancodeSet) (λ (_ : Success). command_to_keyboard (Byte.ScancodeSet c.args.value)) _ _ w.in-Ok.ensures.ran))
+      | in-Err w ↦ rw (w.t-20-is, w.self-is) (stops d (keyboard_command Command.ScancodeSet) (λ (_ : Success). command_to_keyboard (Byte.ScancodeSet c.args.value)) _ _ w.in-Err.ensures.ran)
+    ] in
     let two : ran (said c.match-this.outcome) c.match-this.self.controller.now ≡ run d (set_scancode_set c.args.value) c.args.self.now.controller.now =
-        elim c.match-this.branch [
-          | in-Ok-2 w ↦
-              let e : ran (said w.f+m2-outcome.result) c.match-this.self.controller.now ≡ run d scancode_set_compared c.match-command_to_keyboard.self.controller.now = search rules in
-              rw w.outcome-is (e ∙ sym (steps d (command_scancode_set c.args.value) (λ (_ : Success). scancode_set_compared) _ _ (rw w.in-Ok-2.is at one)))
-          | in-Err-2 w ↦ rw (w.outcome-is, w.self-is) (stops d (command_scancode_set c.args.value) (λ (_ : Success). scancode_set_compared) _ _ (rw w.in-Err-2.is at one))
-        ] in
+    elim c.match-this.branch [
+      | in-Ok-2 w ↦
+          let e : ran (said w.f+m2-outcome.result) c.match-this.self.controller.now ≡ run d scancode_set_compared c.match-command_to_keyboard.self.controller.now = search rules in
+          rw w.outcome-is (e ∙ sym (steps d (command_scancode_set c.args.value) (λ (_ : Success). scancode_set_compared) _ _ (rw w.in-Ok-2.is at one)))
+      | in-Err-2 w ↦ rw (w.outcome-is, w.self-is) (stops d (command_scancode_set c.args.value) (λ (_ : Success). scancode_set_compared) _ _ (rw w.in-Err-2.is at one))
+    ] in
     rw c.in-Ok-outcome.is at two
 
 pub returns-in-Err-outcome-clause-ran : goal.returns-in-Err-outcome-clause-ran
@@ -39,17 +39,17 @@ returns-in-Err-outcome-clause-ran g c =
     let d = on_controller g.H.Hardware.device in
     let t : c.f+m3.result ≡ c.in-Err-outcome.e = search rules in
     let one : ran (said c.match-command_to_keyboard.t-20) c.match-command_to_keyboard.self.controller.now ≡ run d (command_scancode_set c.args.value) c.args.self.now.controller.now =
-        elim c.match-command_to_keyboard.branch [
-          | in-Ok w ↦
-              let e : ran (said w.f+m.result) c.match-command_to_keyboard.self.controller.now ≡ run d (command_to_keyboard (Byte.ScancodeSet c.args.value)) c.command_to_keyboard.new.self.controller.now = search rules in
-              rw w.t-20-is (e ∙ sym (steps d (keyboard_command Command.ScancodeSet) (λ (_ : Success). command_to_keyboard (Byte.ScancodeSet c.args.value)) _ _ w.in-Ok.ensures.ran))
-          | in-Err w ↦ rw (w.t-20-is, w.self-is) (stops d (keyboard_command Command.ScancodeSet) (λ (_ : Success). command_to_keyboard (Byte.ScancodeSet c.args.value)) _ _ w.in-Err.ensures.ran)
-        ] in
+    elim c.match-command_to_keyboard.branch [
+      | in-Ok w ↦
+          let e : ran (said w.f+m.result) c.match-command_to_keyboard.self.controller.now ≡ run d (command_to_keyboard (Byte.ScancodeSet c.args.value)) c.command_to_keyboard.new.self.controller.now = search rules in
+          rw w.t-20-is (e ∙ sym (steps d (keyboard_command Command.ScancodeSet) (λ (_ : Success). command_to_keyboard (Byte.ScancodeSet c.args.value)) _ _ w.in-Ok.ensures.ran))
+      | in-Err w ↦ rw (w.t-20-is, w.self-is) (stops d (keyboard_command Command.ScancodeSet) (λ (_ : Success). command_to_keyboard (Byte.ScancodeSet c.args.value)) _ _ w.in-Err.ensures.ran)
+    ] in
     let two : ran (said c.match-this.outcome) c.match-this.self.controller.now ≡ run d (set_scancode_set c.args.value) c.args.self.now.controller.now =
-        elim c.match-this.branch [
-          | in-Ok-2 w ↦
-              let e : ran (said w.f+m2-outcome.result) c.match-this.self.controller.now ≡ run d scancode_set_compared c.match-command_to_keyboard.self.controller.now = search rules in
-              rw w.outcome-is (e ∙ sym (steps d (command_scancode_set c.args.value) (λ (_ : Success). scancode_set_compared) _ _ (rw w.in-Ok-2.is at one)))
-          | in-Err-2 w ↦ rw (w.outcome-is, w.self-is) (stops d (command_scancode_set c.args.value) (λ (_ : Success). scancode_set_compared) _ _ (rw w.in-Err-2.is at one))
-        ] in
+    elim c.match-this.branch [
+      | in-Ok-2 w ↦
+          let e : ran (said w.f+m2-outcome.result) c.match-this.self.controller.now ≡ run d scancode_set_compared c.match-command_to_keyboard.self.controller.now = search rules in
+          rw w.outcome-is (e ∙ sym (steps d (command_scancode_set c.args.value) (λ (_ : Success). scancode_set_compared) _ _ (rw w.in-Ok-2.is at one)))
+      | in-Err-2 w ↦ rw (w.outcome-is, w.self-is) (stops d (command_scancode_set c.args.value) (λ (_ : Success). scancode_set_compared) _ _ (rw w.in-Err-2.is at one))
+    ] in
     rw t (rw c.in-Err-outcome.is at two)

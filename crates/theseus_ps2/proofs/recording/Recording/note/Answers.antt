@@ -1,6 +1,5 @@
 -- `note` meets its contract: the byte is thrown away just where it is no response. Assumes nothing.
 use mathlib.Core.Path.{sym, ap, ◌∙◌}
-use Rattle.theseus_ps2.specs.declared.recording.Recording.{Recording}
 use Rattle.theseus_ps2.proofs.Noted.{added_heard}
 use Rattle.theseus_ps2.proofs.recording.Recording.note.Goals as goal
 
