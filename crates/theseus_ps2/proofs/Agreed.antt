@@ -1,11 +1,11 @@
 -- Where ours tells a play and the Rust tells it too, the two agree. Assumes nothing.
 use Prim.Native.Nat.{ℕ, ◌≤◌}
-use mathlib.Core.Bool.{Bool, true, false, cond}
+use mathlib.Core.Bool.{Bool, cond}
 use mathlib.Core.List.{List}
 use mathlib.Core.Path.{◌≡◌, refl, sym, subst, ap, ◌∙◌}
 use Rattle.std.specs.Prelude.{Result, Ok, Err}
-use Rattle.exchange.specs.Exchange.{Exchange, End, yields, lacks, told_end, Played, played, play, Reads, Writes}
-use Rattle.exchange.specs.Answer.{Answer, gives, refuses}
+use Rattle.exchange.specs.Exchange.{Exchange, End, yields, lacks, told_end, Played, played, play}
+use Rattle.exchange.specs.Answer.{Answer}
 use Rattle.exchange.specs.Left.{Left, left, record_after}
 use Rattle.exchange.specs.Bounds.{Within}
 use Rattle.exchange.specs.Keeping.{Kept, kept_end}
