@@ -44,6 +44,7 @@ pub fn both_read_mouse_packet<'a>(
 }
 
 // What the Rust's `set_mouse_id` answers, and the identity that it leaves.
+#[derive(Drop)]
 pub struct Identified {
     pub answer: Result<(), &'static str>,
     pub id: MouseId,

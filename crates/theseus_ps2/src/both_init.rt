@@ -11,6 +11,7 @@ use ps2_init::{Initialized, KeyboardRef, PS2Controller as Ours, init as our_init
 use ps2_mouse::PS2Mouse as Mouse;
 
 // What the Rust's `init` answers, and how it leaves its static: whether that is completed, and the flags of the controller on these ports.
+#[derive(Drop)]
 pub struct Completed {
     pub answer: Result<(), &'static str>,
     pub is_completed: bool,

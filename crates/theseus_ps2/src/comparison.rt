@@ -4,7 +4,8 @@ ghost use Rattle.theseus_ps2.specs.Comparison.{Starts};
 use crate::{PS2Controller, Recording};
 
 // What the two answered, and how the Rust's hardware was left.
-pub struct Both<'a, O, R> {
+#[derive(Drop)]
+pub struct Both<'a, O: Drop, R: Drop> {
     pub ours: O,
     pub rusts: R,
     pub left: Recording<'a>,

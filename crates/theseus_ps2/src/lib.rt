@@ -19,7 +19,8 @@ ghost use Rattle.ps2_mouse_identity.specs.Identity.{set_mouse_id};
 ghost use Rattle.ps2_packet_reading.specs.Reading.{read_mouse_packet};
 ghost use Rattle.ps2_init.specs.Init.{set_up};
 ghost use Rattle.theseus_ps2.specs.Initialized.{present, identity_lent, lent_fresh, ready};
-ghost use Rattle.theseus_ps2.specs.ScancodeSets.{scancode_set_polls, scancode_set_compared};
+ghost use Rattle.ps2_keyboard.specs.Parts.{set_search};
+ghost use Rattle.theseus_ps2.specs.ScancodeSets.{scancode_set_compared};
 ghost use Rattle.theseus_ps2.specs.Messages.{said};
 ghost use Rattle.theseus_ps2.specs.Hardware.{ran, run};
 ghost use Rattle.theseus_ps2.specs.Controller.{on_controller};
@@ -719,7 +720,7 @@ impl<'c, H: Hardware + Drop> PS2Keyboard<'c, H> {
     // The body of the closure that ends `get_keyboard_scancode_set`.
     fn poll_scancode_set(&mut self) -> Result<ScancodeSet, &'static str>
         ensures same { self.new.controller.ghost_name ≡ self.old.controller.ghost_name }
-        ensures ran { ran (said result) self.new.controller.now ≡ run (on_controller H.device) scancode_set_polls self.old.controller.now }
+        ensures ran { ran (said result) self.new.controller.now ≡ run (on_controller H.device) set_search self.old.controller.now }
     {
         const VERY_ARBITRARY_TIMEOUT_VALUE: u16 = u16::MAX;
         for _ in 0..VERY_ARBITRARY_TIMEOUT_VALUE {

@@ -9,7 +9,7 @@ use Rattle.ps2_keyboard.specs.Keyboard.{keyboard_command, command_to_keyboard, c
 use Rattle.theseus_ps2.specs.Hardware.{ran, run}
 use Rattle.theseus_ps2.specs.Messages.{said}
 use Rattle.theseus_ps2.specs.Controller.{on_controller}
-use Rattle.theseus_ps2.specs.ScancodeSets.{scancode_set_polls}
+use Rattle.ps2_keyboard.specs.Parts.{set_search}
 use Rattle.theseus_ps2.proofs.Run.{steps, stops}
 use Rattle.theseus_ps2.proofs.PS2Keyboard.get_keyboard_scancode_set.Goals as goal
 use Rattle.theseus_ps2.proofs.PS2Keyboard.get_keyboard_scancode_set.Goals.{in-Ok, in-Err, in-Ok-2, in-Err-2}
@@ -28,9 +28,9 @@ returns-in-Ok-outcome-clause-ran g c =
     let two : ran (said c.match-this.outcome) c.match-this.self.controller.now ≡ run d get_scancode_set c.args.self.now.controller.now =
     elim c.match-this.branch [
       | in-Ok-2 w ↦
-          let e : ran (said w.f+m2-outcome.result) c.match-this.self.controller.now ≡ run d scancode_set_polls c.match-command_to_keyboard.self.controller.now = search rules in
-          rw w.outcome-is (e ∙ sym (steps d (command_scancode_set Set.Get) (λ (_ : Success). scancode_set_polls) _ _ (rw w.in-Ok-2.is at one)))
-      | in-Err-2 w ↦ rw (w.outcome-is, w.self-is) (stops d (command_scancode_set Set.Get) (λ (_ : Success). scancode_set_polls) _ _ (rw w.in-Err-2.is at one))
+          let e : ran (said w.f+m2-outcome.result) c.match-this.self.controller.now ≡ run d set_search c.match-command_to_keyboard.self.controller.now = search rules in
+          rw w.outcome-is (e ∙ sym (steps d (command_scancode_set Set.Get) (λ (_ : Success). set_search) _ _ (rw w.in-Ok-2.is at one)))
+      | in-Err-2 w ↦ rw (w.outcome-is, w.self-is) (stops d (command_scancode_set Set.Get) (λ (_ : Success). set_search) _ _ (rw w.in-Err-2.is at one))
     ] in
     rw c.in-Ok-outcome.is at two
 
@@ -49,8 +49,8 @@ returns-in-Err-outcome-clause-ran g c =
     let two : ran (said c.match-this.outcome) c.match-this.self.controller.now ≡ run d get_scancode_set c.args.self.now.controller.now =
     elim c.match-this.branch [
       | in-Ok-2 w ↦
-          let e : ran (said w.f+m2-outcome.result) c.match-this.self.controller.now ≡ run d scancode_set_polls c.match-command_to_keyboard.self.controller.now = search rules in
-          rw w.outcome-is (e ∙ sym (steps d (command_scancode_set Set.Get) (λ (_ : Success). scancode_set_polls) _ _ (rw w.in-Ok-2.is at one)))
-      | in-Err-2 w ↦ rw (w.outcome-is, w.self-is) (stops d (command_scancode_set Set.Get) (λ (_ : Success). scancode_set_polls) _ _ (rw w.in-Err-2.is at one))
+          let e : ran (said w.f+m2-outcome.result) c.match-this.self.controller.now ≡ run d set_search c.match-command_to_keyboard.self.controller.now = search rules in
+          rw w.outcome-is (e ∙ sym (steps d (command_scancode_set Set.Get) (λ (_ : Success). set_search) _ _ (rw w.in-Ok-2.is at one)))
+      | in-Err-2 w ↦ rw (w.outcome-is, w.self-is) (stops d (command_scancode_set Set.Get) (λ (_ : Success). set_search) _ _ (rw w.in-Err-2.is at one))
     ] in
     rw t (rw c.in-Err-outcome.is at two)
