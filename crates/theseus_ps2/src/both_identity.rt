@@ -1,4 +1,5 @@
-// The mouse's operations that go by its identity: the Rust's and ours on one script and on two logs that begin alike.
+// The mouse's operations that go by its identity: the Rust's and ours on one script and on two logs
+// that begin alike.
 ghost use Rattle.std.specs.Prelude.{◌≡◌};
 ghost use Rattle.exchange.specs.Answer.{gives};
 ghost use Rattle.exchange.specs.Left.{left};

@@ -1,4 +1,5 @@
-// Initialisation, and the devices that it found: the Rust's and ours on one script and on two logs that begin alike.
+// Initialisation, and the devices that it found: the Rust's and ours on one script and on two logs
+// that begin alike.
 ghost use Rattle.std.specs.Prelude.{◌≡◌};
 ghost use Rattle.theseus_ps2.specs.Messages.{said};
 ghost use Rattle.theseus_ps2.specs.Comparison.{AgreeLeft};
@@ -10,7 +11,8 @@ use crate::{Hardware, PS2Controller, PS2Keyboard, PS2Mouse, Recording, init};
 use ps2_init::{Initialized, KeyboardRef, PS2Controller as Ours, init as our_init};
 use ps2_mouse::PS2Mouse as Mouse;
 
-// What the Rust's `init` answers, and how it leaves its static: whether that is completed, and the flags of the controller on these ports.
+// What the Rust's `init` answers, and how it leaves its static: whether that is completed, and the
+// flags of the controller on these ports.
 #[derive(Drop)]
 pub struct Completed {
     pub answer: Result<(), &'static str>,

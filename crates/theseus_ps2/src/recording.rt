@@ -1,4 +1,5 @@
-// Hardware that is a script and a log: each read brings the next byte of the script, and each write puts its pair into the log.
+// Hardware that is a script and a log: each read brings the next byte of the script, and each write
+// puts its pair into the log.
 ghost use Rattle.std.specs.Prelude.{◌≡◌};
 ghost use Rattle.exchange.specs.Keeping.{noted};
 ghost use Rattle.ps2_kept.specs.Added.{added_thrown};
@@ -10,7 +11,8 @@ use crate::{Hardware, IoPort};
 use ps2_bytes::DeviceToHostResponse;
 use ps2_kept::{KeptBytes, none_kept};
 
-// Where the script or the log is at its end, a read brings 0 and a write is lost, and neither is counted.
+// Where the script or the log is at its end, it has fallen short, and of which port, or of no port,
+// something was asked: from then on nothing is read or written. It notes the bytes thrown away.
 #[derive(Drop)]
 pub struct Recording<'a> {
     pub script: &'a [u8],
