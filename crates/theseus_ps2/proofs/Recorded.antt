@@ -1,4 +1,4 @@
--- What an operation comes to on hardware that is a script and a log, where it lacks neither: what its play comes to. Assumes nothing.
+-- What an operation comes to on hardware that is a script and a log: what its play comes to, also where it lacks a byte or room. Assumes nothing.
 use Prim.Native.Nat.{ℕ, ◌+◌, ◌*◌, ◌/◌}
 use native.Mathlib.Omega.{arith}
 use mathlib.Core.Bool.{true, false, cond}
@@ -20,12 +20,14 @@ use Rattle.theseus_ps2.specs.Controller.{on_controller}
 use Rattle.theseus_ps2.specs.declared.PS2Controller.{PS2Controller}
 use Rattle.theseus_ps2.specs.declared.recording.Recording.{Recording}
 
+-- what a run on a recording tells of a play whose bytes are kept
 abbrev pub TellsRan : {A : Type 0} → Played (Kept KeptBytes A) → Ran Recording A → Type 0
 TellsRan o r = TellsKept o r.value r.now
 
 pub true_false : true ≡ false → ⊥
 true_false h = cc
 
+-- once it fell short, a recording stays as it is
 stuck : {A : Type 0} (t : Exchange A) (s : Recording) → s.short ≡ true → (run recording t s).now ≡ s
 unfolding run
 stuck (done a) s q = refl
@@ -44,6 +46,7 @@ lacking : {A : Type 0} (l : Lack) (t : Exchange A) (o : Played (Kept KeptBytes A
     → TellsRan o (run recording t (record s { short = true; asked = number_lacked l }))
 lacking l t o s p = rw (sym p, stuck t (record s { short = true; asked = number_lacked l }) refl) (refl, refl, refl, (refl, refl))
 
+-- from a position of a play on
 pub recorded : {A : Type 0} (rest : Exchange A) (whole : Exchange (Kept KeptBytes A)) (s : Recording) (log : List ℕ)
     → Reached whole s.script.now log (keeping_onto s.thrown rest) s.used s.pairs s.log.now → s.short ≡ false
     → TellsRan (play whole s.script.now log) (run recording rest s)

@@ -21,9 +21,35 @@ Begins s = (s.used ≡ 0) × (s.pairs ≡ 0) × (s.short ≡ false) × (s.thrown
 abbrev pub Starts : List ℕ → List ℕ → Recording → Type 0
 Starts script log s = Begins s × (s.script.now ≡ script) × (s.log.now ≡ log)
 
+-- What was asked last where the run fell short: the port of a read that found no script byte, 0 of a write that found no room.
 abbrev pub number_lacked : exchange.Lack → ℕ
 number_lacked (exchange.no_script p) = exchange.number p
 number_lacked exchange.no_log = 0
+
+-- ---- that the two agree: ours by its answer and its log, the Rust by its answer and its recording as it is left
+
+-- The same answer, bytes used, pairs and log, and the Rust's run did not fall short.
+abbrev pub Same : {T : Type 0} → Answer T → ℕ → ℕ → List ℕ → Answer T → Recording → Type 0
+Same answer used pairs log rusts left = (rusts ≡ answer) × (left.used ≡ used) × (left.pairs ≡ pairs) × (left.log.now ≡ log) × (left.short ≡ false)
+
+-- Of a refusal. Where ours lacked something, the Rust's run fell short there, and asked the same: whatever it answered then is no answer. Any other refusal is the Rust's.
+abbrev pub AgreeRefused : {T : Type 0} → Refusal → ℕ → ℕ → List ℕ → Answer T → Recording → Type 0
+AgreeRefused (Lacking l) used pairs log rusts left = (left.used ≡ used) × (left.pairs ≡ pairs) × (left.log.now ≡ log) × (left.short ≡ true) × (left.asked ≡ number_lacked (lack_of l))
+AgreeRefused (Failed f) used pairs log rusts left = Same (refuses (number_of f)) used pairs log rusts left
+
+abbrev pub Agree : {T : Type 0} → Result (Counted T) (Counted Refusal) → List ℕ → Answer T → Recording → Type 0
+Agree (Ok a) log rusts left = Same (gives a.value) a.used a.pairs log rusts left
+Agree (Err e) log rusts left = AgreeRefused e.value e.used e.pairs log rusts left
+
+-- The bytes that ours hands back are those that the Rust's run threw away; none after a lack.
+abbrev pub AgreeKept : {T : Type 0} → Result (Counted T) (Counted Refusal) → KeptBytes → List ℕ → Answer T → Recording → Type 0
+AgreeKept ours kept log rusts left = Agree ours log rusts left × (kept ≡ cond left.short nothing_kept left.thrown)
+
+-- Of an operation that leaves a record: it is left as the Rust leaves it; after a lack it is as passed in.
+abbrev pub AgreeLeft : {R T : Type 0} → R → Result (Counted T) (Counted Refusal) → R → List ℕ → Answer T → R → Recording → Type 0
+AgreeLeft passed ours now log rusts rusts_now left = Agree ours log rusts left × (now ≡ cond left.short passed rusts_now)
+
+-- ---- what a recording tells of a play, of which the proofs speak
 
 abbrev pub TellsEnd : {A : Type 0} → End A → A → Bool → ℕ → Type 0
 TellsEnd (yields a) answer short asked = (answer ≡ a) × (short ≡ false)
@@ -41,28 +67,6 @@ abbrev pub TellsKept : {A : Type 0} → Played (Kept KeptBytes A) → A → Reco
 TellsKept o answer left =
     (left.used ≡ o.used) × (left.pairs ≡ o.pairs) × (left.log.now ≡ o.log) × TellsEndKept o.end answer left.thrown left.short left.asked
 
--- Where an operation's play lacks neither a script byte nor room, this is what it comes to.
+-- Of an operation on the recording as it was.
 abbrev pub Tells : {T : Type 0} → Exchange T → Recording → T → Recording → Type 0
 Tells {T} t s answer left = TellsPlay (play t s.script.now s.log.now) answer left
-
--- The same answer, bytes used, pairs and log.
-abbrev pub Same : {T : Type 0} → Answer T → ℕ → ℕ → List ℕ → Answer T → Recording → Type 0
-Same answer used pairs log rusts left = (rusts ≡ answer) × (left.used ≡ used) × (left.pairs ≡ pairs) × (left.log.now ≡ log) × (left.short ≡ false)
-
--- Of a refusal: a lack is no answer of the Rust's; any other is the Rust's, with the same counts.
-abbrev pub AgreeRefused : {T : Type 0} → Refusal → ℕ → ℕ → List ℕ → Answer T → Recording → Type 0
-AgreeRefused (Lacking l) used pairs log rusts left = (left.used ≡ used) × (left.pairs ≡ pairs) × (left.log.now ≡ log) × (left.short ≡ true) × (left.asked ≡ number_lacked (lack_of l))
-AgreeRefused (Failed f) used pairs log rusts left = Same (refuses (number_of f)) used pairs log rusts left
-
--- Unless ours lacked a script byte or room in the log, the two come to the same.
-abbrev pub Agree : {T : Type 0} → Result (Counted T) (Counted Refusal) → List ℕ → Answer T → Recording → Type 0
-Agree (Ok a) log rusts left = Same (gives a.value) a.used a.pairs log rusts left
-Agree (Err e) log rusts left = AgreeRefused e.value e.used e.pairs log rusts left
-
--- The bytes that ours hands back are those that the Rust's run threw away; none after a lack.
-abbrev pub AgreeKept : {T : Type 0} → Result (Counted T) (Counted Refusal) → KeptBytes → List ℕ → Answer T → Recording → Type 0
-AgreeKept ours kept log rusts left = Agree ours log rusts left × (kept ≡ cond left.short nothing_kept left.thrown)
-
--- Of an operation that leaves a record: it is left as the Rust leaves it; after a lack it is as passed in.
-abbrev pub AgreeLeft : {R T : Type 0} → R → Result (Counted T) (Counted Refusal) → R → List ℕ → Answer T → R → Recording → Type 0
-AgreeLeft passed ours now log rusts rusts_now left = Agree ours log rusts left × (now ≡ cond left.short passed rusts_now)
