@@ -7,8 +7,6 @@ use Rattle.ps2_bytes.specs.declared.response.MouseId.{MouseId}
 use Rattle.ps2_bytes.specs.declared.response.MouseId.TheVariants.{Zero}
 use Rattle.ps2_mouse.specs.declared.PS2Mouse.{PS2Mouse as Mouse}
 use Rattle.ps2_init.specs.declared.PS2Controller.{PS2Controller}
-use Rattle.ps2_init.specs.declared.KeyboardRef.{KeyboardRef}
-use Rattle.ps2_init.specs.declared.KeyboardRef.TheVariants as KeyboardIs
 use Rattle.ps2_init.specs.Init.{with_devices}
 use Rattle.theseus_ps2.specs.declared.PS2Controller.{PS2Controller as Rusts}
 use Rattle.theseus_ps2.specs.declared.PS2Mouse.{PS2Mouse}
@@ -17,11 +15,6 @@ use Rattle.theseus_ps2.specs.declared.PS2Mouse.{PS2Mouse}
 abbrev pub present : {A : Type 0} → Option A → Bool
 present (Some a) = true
 present None = false
-
--- Whether ours lends a keyboard.
-abbrev pub attached : KeyboardRef → Bool
-attached KeyboardIs.Attached = true
-attached KeyboardIs.NotAttached = false
 
 -- The identity of the mouse that is lent, if one is: ours, and the Rust's.
 abbrev pub identity : Option Mouse → Option MouseId

@@ -8,6 +8,7 @@ ghost use Rattle.theseus_ps2.specs.Comparison.{Agree, AgreeKept};
 use crate::comparison::{Both, start};
 use ps2_answers::Answer;
 use ps2_bytes::{DeviceToHostResponse, HostToControllerCommand, HostToDevice, WritableData};
+use ps2_kept::none_kept;
 use ps2_layouts::{ControllerConfigurationByte, ControllerToHostStatus};
 use ps2_polling::{
     Received, match_port_test_result, polling_receive, polling_send, polling_send_receive,
@@ -196,9 +197,10 @@ pub fn both_polling_send_receive<'a>(
 {
     let mut controller = start(script, rusts_log);
     let rusts = controller.polling_send_receive(value);
-    let ours = polling_send_receive(script, log, value);
+    let mut kept = none_kept();
+    let answer = polling_send_receive(script, log, value, &mut kept);
     Both {
-        ours,
+        ours: Received { answer, kept },
         rusts,
         left: controller.hardware,
     }

@@ -3,12 +3,12 @@
 ghost use Rattle.std.specs.Prelude.{◌≡◌};
 ghost use Rattle.theseus_ps2.specs.Messages.{said};
 ghost use Rattle.theseus_ps2.specs.Comparison.{AgreeLeft};
-ghost use Rattle.theseus_ps2.specs.Initialized.{present, attached, identity, identity_lent};
+ghost use Rattle.theseus_ps2.specs.Initialized.{present, identity, identity_lent};
 ghost use Rattle.theseus_ps2.specs.Record.{record_left};
 
 use crate::comparison::Both;
 use crate::{Hardware, PS2Controller, PS2Keyboard, PS2Mouse, Recording, init};
-use ps2_init::{Initialized, KeyboardRef, PS2Controller as Ours, init as our_init};
+use ps2_init::{Initialized, PS2Controller as Ours, PS2Keyboard as Keyboard, init as our_init};
 use ps2_mouse::PS2Mouse as Mouse;
 
 // What the Rust's `init` answers, and how it leaves its static: whether that is completed, and the
@@ -54,8 +54,8 @@ pub fn both_init<'a>(
 pub fn both_keyboard_ref<'c, H: Hardware + Drop>(
     ours: Ours,
     rusts: &'c mut PS2Controller<H>,
-) -> (KeyboardRef, Option<PS2Keyboard<'c, H>>)
-    ensures { ours.keyboard_attached ≡ rusts.old.keyboard_attached → attached result.0 ≡ present result.1 }
+) -> (Option<Keyboard>, Option<PS2Keyboard<'c, H>>)
+    ensures { ours.keyboard_attached ≡ rusts.old.keyboard_attached → present result.0 ≡ present result.1 }
 {
     (ours.keyboard_ref(), rusts.keyboard_ref())
 }

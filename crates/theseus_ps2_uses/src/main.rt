@@ -8,7 +8,7 @@ use ps2_bytes::{
     HostToMouseCommand, HostToMouseCommandOrData, MouseId, MouseResolution, MouseSampleRate,
     ScancodeSet, WritableData,
 };
-use ps2_init::{KeyboardRef, PS2Controller as Ours};
+use ps2_init::PS2Controller as Ours;
 use ps2_layouts::{ControllerConfigurationByte, LEDState};
 use ps2_mouse::PS2Mouse as Mouse;
 use std::io::Result;
@@ -223,7 +223,7 @@ fn use_init(rt: &impl Print) -> Result<()> {
     let mut other_log = [0u8; ROOM];
     let mut controller = start(&script, &mut other_log);
     let (ours, rusts) = both_keyboard_ref(record, &mut controller);
-    let lent = matches!(ours, KeyboardRef::Attached);
+    let lent = ours.is_some();
     let rusts_lent = rusts.is_some();
     println!(rt; "both_keyboard_ref: ours lends one: {lent}; the Rust lends one: {rusts_lent}")?;
     let (ours, rusts) = both_mouse_ref(record, &mut controller);
