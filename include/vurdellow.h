@@ -253,15 +253,15 @@ typedef struct vd_packet {
     int32_t wheel;
 } vd_packet;
 
-/* The controller's record: whether it is initialised, and which devices are attached. As an argument any number but 0 is "yes"; what is
-   given back is 0 or 1. A new one is all 0. */
+/* The controller's record: whether it is initialised, and which devices are attached. As an argument any number but 0 is "yes"; what an
+   initialisation gives back that is done is 0 or 1. A new one is all 0. */
 typedef struct vd_controller {
     uint32_t initialized;
     uint32_t keyboard;
     uint32_t mouse;
 } vd_controller;
 
-/* What initialisation answers, with the record that it leaves: as it was passed where it is refused. */
+/* What initialisation answers, with the record that it leaves: as it was passed, number by number, where it is refused. */
 typedef struct vd_initialized {
     uint32_t refusal;
     uint32_t port;

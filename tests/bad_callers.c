@@ -378,8 +378,8 @@ static void port_operation(int which, size_t script_bytes, size_t log_bytes)
         called("vd_controller_init");
         a = vd_controller_init(c, script, script_length, log_, log_length);
         ports_asked(a.refusal, a.port, a.used, a.pairs);
-        ask(a.controller.initialized < 2 && a.controller.keyboard < 2 && a.controller.mouse < 2, "the record that comes back is 0 or 1");
-        ask(!a.refusal || (a.controller.initialized == !!c.initialized && a.controller.keyboard == !!c.keyboard && a.controller.mouse == !!c.mouse), "a refusal leaves the record");
+        ask(a.refusal || (a.controller.initialized == 1 && a.controller.keyboard < 2 && a.controller.mouse < 2), "a record that was made is of 0 and 1");
+        ask(!a.refusal || memcmp(&a.controller, &c, sizeof c) == 0, "a refusal gives the record back as it was");
     } else if (which == 20) {
         vd_preferences p;
         p.version = below(4) ? 1 + (uint32_t)below(2) : (uint32_t)number();

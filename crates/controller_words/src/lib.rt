@@ -2,6 +2,8 @@
 #![tactic(auto)]
 
 ghost use Rattle.std.specs.Prelude.{not, ◌≡◌, eqb};
+ghost use Rattle.ps2_answers.specs.Answers.{used_of, pairs_of};
+ghost use Rattle.ps2_init.specs.Answers.{said_init};
 ghost use Rattle.ps2_init.specs.Init.{initialize};
 ghost use Rattle.port_words.specs.Tells.{Tells};
 ghost use Rattle.controller_words.specs.Controller.{controller_of, told_init};
@@ -67,21 +69,22 @@ impl From<PS2Controller> for ControllerWords {
     }
 }
 
-impl From<Initialized> for InitializedWords {
-    ghost use Rattle.ps2_answers.specs.Answers.{ended, used_of, pairs_of};
-    ghost use Rattle.controller_words.specs.Controller.{init_numbers};
-
-    ghost from_gives = { λ initialized words. words ≡ init_numbers (ended initialized.answer) (used_of initialized.answer) (pairs_of initialized.answer) initialized.controller };
-
-    fn from(initialized: Initialized) -> InitializedWords {
-        let told = answer_words(initialized.answer);
-        InitializedWords {
-            refusal: told.refusal,
-            port: told.port,
-            used: told.used,
-            pairs: told.pairs,
-            controller: ControllerWords::from(initialized.controller),
-        }
+// The answer of an initialisation that began with these numbers. Where it is refused, they come back
+// as they were lent.
+#[tactic(auto, using(crate::proofs::Controller::refused_left))]
+fn initialized_words(initialized: Initialized, passed: ControllerWords) -> InitializedWords
+    ensures { result ≡ told_init passed (said_init initialized.answer initialized.controller) (used_of initialized.answer) (pairs_of initialized.answer) }
+{
+    let told = answer_words(initialized.answer);
+    InitializedWords {
+        refusal: told.refusal,
+        port: told.port,
+        used: told.used,
+        pairs: told.pairs,
+        controller: match initialized.answer {
+            Ok(_) => ControllerWords::from(initialized.controller),
+            Err(_) => passed,
+        },
     }
 }
 
@@ -92,7 +95,10 @@ pub fn controller_init(
     script: &[u8],
     log: &mut [u8],
 ) -> InitializedWords
-    ensures { Tells (told_init (controller_of controller)) (initialize (controller_of controller)) script.now log.old result log.new }
+    ensures { Tells (told_init controller) (initialize (controller_of controller)) script.now log.old result log.new }
 {
-    InitializedWords::from(init(PS2Controller::from(controller), script, log))
+    initialized_words(
+        init(PS2Controller::from(controller), script, log),
+        controller,
+    )
 }

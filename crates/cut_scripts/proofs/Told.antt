@@ -6,11 +6,11 @@ use mathlib.Core.Option.{Option, none, some}
 use mathlib.Core.Path.{◌≡◌, refl}
 use lib.ListN.{take}
 use Rattle.exchange.specs.Exchange.{Exchange, End, play}
-use Rattle.ps2_init.specs.declared.PS2Controller.{PS2Controller}
 use Rattle.port_words.specs.Told.{told}
 use Rattle.port_words.specs.ToldKept.{told_kept}
 use Rattle.port_words.specs.ToldPacket.{told_packet}
 use Rattle.port_words.specs.Tells.{Tells, TellsReading, TellsAt, TellsReadingAt}
+use Rattle.controller_words.specs.declared.ControllerWords.{ControllerWords}
 use Rattle.controller_words.specs.Controller.{told_init}
 use Rattle.cut_scripts.specs.CutShort.{next_port, CutShort}
 use Rattle.cut_scripts.specs.Forms.{lack}
@@ -28,7 +28,7 @@ kept_counts = record { used = record { used_is = λ e u w. refl; others_are = λ
 pub packet_counts : UsedTold packet_parts told_packet
 packet_counts = record { used_is = λ e u w. refl; others_are = λ e u w. refl }
 
-pub init_counts : (passed : PS2Controller) → CountsTold init_parts (told_init passed)
+pub init_counts : (passed : ControllerWords) → CountsTold init_parts (told_init passed)
 init_counts passed = record { used = record { used_is = λ e u w. refl; others_are = λ e u w. refl }; pairs_are = λ e u w. refl }
 
 -- ---- a script and a log
