@@ -557,7 +557,8 @@ vd_mean vd_long_report_mean_y(vd_long_report report);
 uint32_t vd_dispatcher_fresh(uint64_t *words, size_t words_length, uint32_t keyboards, uint32_t profile, uint32_t identity);
 
 /* Serves one source that waits, by turns: side 1, side 2, the mouse. Their scripts are passed whole: the state knows how far each is used.
-   Refused as the call that was made; the turn is used then too. 21 where the numbers are not 149. vd_take(words, 144) takes the events. */
+   Refused as the call that was made; the turn is used then too. 21 without a source, and nothing changed, where the numbers are not 149,
+   the mouse's identity is not 0, 3 or 4, or who was served last is above 3. vd_take(words, 144) takes the events. */
 vd_step vd_dispatcher_step(uint64_t *words, size_t words_length, const uint8_t *first, size_t first_length, const uint8_t *second, size_t second_length, const uint8_t *third, size_t third_length, uint8_t *log, size_t log_length);
 
 #ifdef __cplusplus

@@ -160,7 +160,7 @@ static uint64_t *going_on(size_t whole)
     return going[whole == VD_DISPATCHER_WORDS];
 }
 
-/* A record: fresh, one that was used for long, the same with some numbers changed, or random numbers all through. */
+/* A record: fresh, one that was used for long, the same with a number changed, often in one of its 64 bits, or random numbers all through. */
 static uint64_t *put_words(int i, size_t length, size_t whole)
 {
     uint64_t *words = (uint64_t *)lend(i, 8 * length), *kept = going_on(whole);
@@ -175,10 +175,33 @@ static uint64_t *put_words(int i, size_t length, size_t whole)
     }
     for (k = 0; k < length; k++)
         words[k] = mode == 0 ? number() : k < whole ? kept[k] : chance();
-    if (mode == 1 && length)
-        words[below(length)] = number();
+    if (mode == 1 && length) {
+        k = below(4) ? below(length) : below(length < 16 ? length : 16);
+        words[k] = below(2) ? number() : words[k] ^ (uint64_t)1 << below(64);
+    }
     remember(i);
     return words;
+}
+
+/* Whether 144 numbers are such as no record that is well formed has: of a side at the table a prefix but 0 and 1, a flag above bit 10, more
+   than 16 bytes that wait; other than one keyboard or two, and with two more than 96 events of a side; another profile, start or count. */
+static int is_malformed(const uint64_t *words)
+{
+    uint64_t side, k, second = 0;
+    if ((words[10] != 1 && words[10] != 2) || words[11] > 1 || words[12] > 127 || words[13] > 128)
+        return 1;
+    for (side = 0; side < words[10]; side++)
+        if (words[5 * side] > 1 || words[5 * side + 1] > 0x7FF || words[5 * side + 2] > 16)
+            return 1;
+    for (k = 0; k < words[13]; k++)
+        second += words[14 + k / 64] >> k % 64 & 1;
+    return words[10] == 2 && (second > 96 || words[13] - second > 96);
+}
+
+/* The numbers of a slot as they were lent. */
+static const uint64_t *lent(int i)
+{
+    return (const uint64_t *)(const void *)slots[i].was;
 }
 
 /* The record goes on from what a call left. */
@@ -273,7 +296,7 @@ static void kept_asked(vd_kept a, int means)
     ask((a.refusal != VD_SCRIPT_ENDS && a.refusal != VD_LOG_FULL && means) || (a.count == 0 && a.others == 0), "a lack keeps nothing");
 }
 
-static int is_identity(uint32_t n)
+static int is_identity(uint64_t n)
 {
     return n == 0 || n == 3 || n == 4;
 }
@@ -412,6 +435,7 @@ static void port_operation(int which, size_t script_bytes, size_t log_bytes)
         handled_asked(a);
         ask((a.refusal == 255) == (side != 1 && side != 2), "255 is answered where there is no such side, and only there");
         ask(length == VD_HANDLER_WORDS || a.refusal == 21 || a.refusal == 255, "21 is answered to another length");
+        ask(length != VD_HANDLER_WORDS || a.refusal == 255 || (a.refusal == 21) == (is_malformed(lent(2)) || side > lent(2)[10]), "21 is answered to a malformed record, and to a side that isn't at the table, and only there");
         ask((a.refusal != 2 && a.refusal != 3 && a.refusal != 21 && a.refusal != 255) || unchanged_from(2, 0), "2, 3, 21 and 255 leave the record");
         marks_stand(2);
         go_on(2, VD_HANDLER_WORDS);
@@ -419,6 +443,7 @@ static void port_operation(int which, size_t script_bytes, size_t log_bytes)
         size_t length = words_of(VD_DISPATCHER_WORDS), second_length = below(40), third_length = below(40), used;
         uint64_t *words = put_words(2, length, VD_DISPATCHER_WORDS);
         uint8_t *second = lend(3, second_length), *third = lend(4, third_length);
+        int whole;
         vd_step a;
         put_script(3);
         put_script(4);
@@ -427,7 +452,9 @@ static void port_operation(int which, size_t script_bytes, size_t log_bytes)
         answered(a.refusal);
         used = a.call.used + a.packet.used;
         ask(a.source <= 3 && a.refusal != 255, "there is no such source");
-        ask(a.source == 0 ? a.refusal == (length == VD_DISPATCHER_WORDS ? 0u : 21u) && is_zero(&a.call, sizeof a.call) && is_zero(&a.packet, sizeof a.packet) && unchanged_from(2, 0) : length == VD_DISPATCHER_WORDS, "an idle step changes nothing");
+        whole = length == VD_DISPATCHER_WORDS && is_identity(lent(2)[144]) && lent(2)[148] < 4;
+        ask(whole ? a.source != 0 || a.refusal == 0 : a.source == 0 && a.refusal == 21, "21 is answered to numbers that no dispatcher has, and then no source is served");
+        ask(a.source == 0 ? is_zero(&a.call, sizeof a.call) && is_zero(&a.packet, sizeof a.packet) && unchanged_from(2, 0) : length == VD_DISPATCHER_WORDS, "an idle step changes nothing");
         ask(a.source == 1 || a.source == 2 ? a.refusal == a.call.refusal && a.packet.refusal == 0 && a.packet.used == 0 : is_zero(&a.call.used, sizeof a.call.used), "a step makes one call");
         ask(a.source != 3 || a.refusal == a.packet.refusal, "a step makes one call");
         ask(used <= (a.source == 1 ? script_length : a.source == 2 ? second_length : third_length), "no more is used than there is");
@@ -481,7 +508,7 @@ static void other(int which)
         t = vd_take(words, length);
         answered(t.refusal);
         ask(t.refusal == 0 || (t.refusal == 21 && unchanged_from(2, 0)), "21 leaves the record");
-        ask(length == VD_HANDLER_WORDS || t.refusal == 21, "21 is answered to another length");
+        ask((t.refusal == 21) == (length != VD_HANDLER_WORDS || is_malformed(lent(2))), "21 is answered to another length and to a malformed record, and only there");
         ask(t.side <= 2 && is_keycode(t.keycode) && t.action <= 1 && t.flags <= 65535, "an event's numbers are in range");
         go_on(2, VD_HANDLER_WORDS);
         ask(t.side != 0 || (t.keycode == 0 && t.action == 0 && t.flags == 0 && unchanged_from(2, 0)), "no event is 0, and leaves the record");

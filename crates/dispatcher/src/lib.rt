@@ -153,7 +153,7 @@ pub fn start(place: usize, bytes: &[u8]) -> usize
 }
 
 // Whether a keyboard waits, by its place in its script and the number of its waiting bytes: it has an unused script byte or a waiting byte.
-pub fn keyboard_waits(place: usize, bytes: &[u8], waiting: u8) -> bool
+pub fn keyboard_waits(place: usize, bytes: &[u8], waiting: usize) -> bool
     ensures { result ≡ keyboard_waits (unused place bytes.now) waiting }
 {
     place < bytes.len() || 0 < waiting
@@ -260,12 +260,12 @@ impl Dispatcher {
             first: keyboard_waits(
                 self.places.first,
                 first,
-                self.handler.state.first.waiting.count,
+                usize::from(self.handler.state.first.waiting.count),
             ),
             second: keyboard_waits(
                 self.places.second,
                 second,
-                self.handler.state.second.waiting.count,
+                usize::from(self.handler.state.second.waiting.count),
             ),
             mouse: mouse_waits(self.places.mouse, third, self.mouse.id),
         }

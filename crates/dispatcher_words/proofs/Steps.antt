@@ -1,11 +1,12 @@
 -- A step on a dispatcher's numbers is the step on the state that they stand for.
 -- Assumes nothing.
-use mathlib.Core.Path.{◌≡◌, refl}
+use mathlib.Core.Path.{◌≡◌, refl, sym, ap, ◌∙◌}
+use mathlib.Core.Bool.{true, false, true≢false}
 use mathlib.Core.List.{List}
 use Rattle.std.specs.Prelude.{Bool, Option, None, Some}
 use Rattle.std.specs.Array.{IsWholeChunk}
 use Prim.Native.Nat.{ℕ}
-use lib.ListN.{get_or}
+use lib.ListN.{length, get_or}
 use Rattle.keyboard_sides.specs.declared.Side.{Side}
 use Rattle.keyboard.specs.KeyboardLamps.{keyboard_lamps}
 use Rattle.dispatcher.specs.declared.Source.{Source}
@@ -18,7 +19,7 @@ use Rattle.dispatcher.specs.Runs.{service_of}
 use Rattle.dispatcher.proofs.Serving.{step_served}
 use Rattle.dispatcher_words.specs.declared.StepWords.{StepWords}
 use Rattle.dispatcher_words.specs.Layout.{last_at, dispatcher_length}
-use Rattle.dispatcher_words.specs.Words.{last_of, dispatcher_of}
+use Rattle.dispatcher_words.specs.Words.{last_of, names_all, dispatcher_of}
 use Rattle.dispatcher_words.specs.Steps.{no_call, words_stepped, Made, StepOn, StepMade}
 use Rattle.dispatcher_words.specs.Parts.{SideServed, MouseServed}
 
@@ -56,6 +57,15 @@ module _ (ws : List ℕ) (s : Scripts) (log : List ℕ) (w : Each Bool) (is : (s
   idle_step e a = made_by e (record { answered = a; leaves = refl; writes = refl; logged = refl })
 
 -- a step on the numbers as they were lent at their length, is the one on the numbers that were passed
-pub step_made : {ws us first second third log : List ℕ} {answer : StepWords} {ws' log' : List ℕ} → IsWholeChunk ws us dispatcher_length
-    → StepOn us (scripts first second third) log answer ws' log' → StepMade ws first second third log answer ws' log'
-step_made w x = record { long = λ _. rw w.same at x; other = λ n. absurd (n w.long) }
+module _ {ws us first second third log : List ℕ} {answer : StepWords} (w : IsWholeChunk ws us dispatcher_length) where
+  pub step_made : names_all us ≡ true → {ws' log' : List ℕ} → StepOn us (scripts first second third) log answer ws' log' → StepMade ws first second third log answer ws' log'
+  step_made n x =
+      record { long = λ _ _. rw w.same at x; unnamed = λ e. absurd (true≢false (sym n ∙ ap names_all w.same ∙ e)); other = λ n. absurd (n w.long) }
+
+  pub step_unnamed : names_all us ≡ false → answer ≡ no_call 21 → StepMade ws first second third log answer us log
+  step_unnamed n a =
+      record { long = λ _ e. absurd (true≢false (sym e ∙ ap names_all (sym w.same) ∙ n)); unnamed = λ _. (a, w.same, refl); other = λ n. absurd (n w.long) }
+
+-- at another length
+pub step_other : {ws first second third log : List ℕ} {answer : StepWords} → (length ws ≡ dispatcher_length → ⊥) → answer ≡ no_call 21 → StepMade ws first second third log answer ws log
+step_other n a = record { long = λ l _. absurd (n l); unnamed = λ _. (a, refl, refl); other = λ _. (a, refl, refl) }

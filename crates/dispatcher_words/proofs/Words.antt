@@ -45,7 +45,7 @@ same_dispatcher h i p l = cc
 -- ---- the numbers behind a record's
 
 module _ (us : List ℕ) (h : length us ≡ words_length) (rest : List ℕ) where
-  word_at : (n : ℕ) → get_or (us ++ rest) (words_length + n) 0 ≡ get_or rest n 0
+  pub word_at : (n : ℕ) → get_or (us ++ rest) (words_length + n) 0 ≡ get_or rest n 0
   word_at n = ap (λ (k : ℕ). get_or (us ++ rest) (k + n) 0) (sym h) ∙ get_or-append-add us rest n 0
 
   -- a record's numbers and those behind it stand for this state

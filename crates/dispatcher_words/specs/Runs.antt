@@ -1,6 +1,6 @@
 -- Steps and takings on lent numbers, one after another: each on the numbers that the last one left.
 -- Assumes nothing.
-use Rattle.std.specs.Prelude.{List, ◌++◌, ◌≡◌, ℕ, length, drop}
+use Rattle.std.specs.Prelude.{true, List, ◌++◌, ◌≡◌, ℕ, length, drop}
 use Rattle.std.proofs.Math.Option.{some}
 use Rattle.ps2_bytes.specs.declared.response.MouseId.{MouseId}
 use Rattle.argument_words.specs.Arguments.{identity_at}
@@ -19,7 +19,7 @@ use Rattle.dispatcher.specs.Runs.{Move, stepping, taking}
 use Rattle.dispatcher_history.specs.Through.{dispatched, HistoryThrough}
 use Rattle.dispatcher_words.specs.declared.StepWords.{StepWords}
 use Rattle.dispatcher_words.specs.Layout.{dispatcher_length}
-use Rattle.dispatcher_words.specs.Words.{handler_in, dispatcher_of}
+use Rattle.dispatcher_words.specs.Words.{handler_in, names_all, dispatcher_of}
 use Rattle.dispatcher_words.specs.Steps.{step_numbers, StepMade}
 use Rattle.dispatcher_words.specs.Fresh.{MadeFresh}
 
@@ -39,6 +39,7 @@ by_value table id moves = dispatched table keyboard_lamps (record { id = id }) m
 -- What holds after them: the numbers stand for the dispatcher after this list of steps and takings, through which the history rule holds, and the answer of the next step or taking is the by-value one's on it.
 pub record AsDispatched (table : Table) (id : MouseId) (moves : Past Move) (ws : List ℕ) : Type 0 where
   pub long : length ws ≡ dispatcher_length
+  pub named : names_all ws ≡ true
   pub stands : dispatcher_of ws ≡ by_value table id moves
   pub follows : HistoryThrough table keyboard_lamps (record { id = id }) moves
   pub answers : (first second third log : List ℕ) (answer : StepWords) (ws' log' : List ℕ) → StepMade ws first second third log answer ws' log'

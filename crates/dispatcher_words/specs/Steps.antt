@@ -1,6 +1,6 @@
 -- What a step of a lent dispatcher means: the answer as numbers, the numbers left, and the state that they stand for.
 -- Assumes nothing.
-use Rattle.std.specs.Prelude.{List, ◌++◌, ◌≡◌, ℕ, length, drop, set, Option, None, Some}
+use Rattle.std.specs.Prelude.{true, false, List, ◌++◌, ◌≡◌, ℕ, length, drop, set, Option, None, Some}
 use Rattle.exchange.specs.Answer.{number_answered, number_ended}
 use Rattle.port_words.specs.Told.{port_lacked}
 use Rattle.port_words.specs.ToldPacket.{told_packet, refusing_packet}
@@ -17,7 +17,7 @@ use Rattle.dispatcher.specs.Step.{CallAnswered, Service, keyed, packet, idle, St
 use Rattle.dispatcher.specs.Runs.{service_of}
 use Rattle.dispatcher_words.specs.declared.StepWords.{StepWords}
 use Rattle.dispatcher_words.specs.Layout.{place_at, last_at, dispatcher_length}
-use Rattle.dispatcher_words.specs.Words.{source_number, handler_in, dispatcher_of}
+use Rattle.dispatcher_words.specs.Words.{source_number, handler_in, names_all, dispatcher_of}
 
 -- ---- the answer
 
@@ -76,7 +76,8 @@ StepOn ws s log answer ws' log' =
     let x = step_of keyboard_lamps (dispatcher_of ws) s log in
     Made x (words_stepped (service_of x.answer) x s log ws) answer ws' log'
 
--- With any numbers: at another length it is refused with 21, and leaves everything as it was.
+-- With any numbers: at another length, and where some name nothing, it is refused with 21, and leaves everything as it was. "As passed in" holds of the turn and the places too, since no source was served.
 pub record StepMade (ws first second third log : List ℕ) (answer : StepWords) (ws' log' : List ℕ) : Type 0 where
-  pub long : length ws ≡ dispatcher_length → StepOn ws (scripts first second third) log answer ws' log'
+  pub long : length ws ≡ dispatcher_length → names_all ws ≡ true → StepOn ws (scripts first second third) log answer ws' log'
+  pub unnamed : names_all ws ≡ false → Untouched (no_call 21) ws log answer ws' log'
   pub other : (length ws ≡ dispatcher_length → ⊥) → Untouched (no_call 21) ws log answer ws' log'

@@ -1,6 +1,6 @@
 -- The dispatcher as 149 numbers of 64 bits: the state that they stand for, and the numbers of a state.
 -- Assumes nothing.
-use Rattle.std.specs.Prelude.{cond, List, [], ◌∷◌, ◌++◌, ◌≡◌, ℕ, eqb, length, get_or, take, Option, Some, None}
+use Rattle.std.specs.Prelude.{Bool, cond, ◌&&◌, ◌||◌, List, [], ◌∷◌, ◌++◌, ◌≡◌, ℕ, eqb, ltb, length, get_or, take, Option, Some, None}
 use Rattle.ps2_bytes.specs.Responses.{mouse_id_byte}
 use Rattle.ps2_bytes.specs.declared.response.MouseId.{MouseId}
 use Rattle.keyboard_sides.specs.declared.Side.{Side}
@@ -12,9 +12,8 @@ use Rattle.dispatcher.specs.declared.Dispatcher.{Dispatcher}
 use Rattle.dispatcher.specs.declared.Source.{Source}
 use Rattle.dispatcher_words.specs.Layout.{mouse_at, place_at, last_at}
 
--- ---- the mouse's identity, by the byte that the mouse names itself with
+-- ---- the mouse's identity, by the byte that the mouse names itself with: 0, 3 or 4
 
--- Any number but 3 and 4 stands for identity 0.
 abbrev pub identity_of : ℕ → MouseId
 identity_of n = cond (eqb n 3) MouseId.Three (cond (eqb n 4) MouseId.Four MouseId.Zero)
 
@@ -24,7 +23,7 @@ abbrev pub source_number : Source → ℕ
 source_number (Source.Keyboard side) = side_number side
 source_number Source.Mouse = 3
 
--- Who was served last: 0, and any number that is no source's, stands for nobody.
+-- Who was served last; 0 stands for nobody.
 abbrev pub last_of : ℕ → Option Source
 last_of n =
     cond (eqb n 1) (Some (Source.Keyboard Side.First))
@@ -35,6 +34,12 @@ last_number None = 0
 last_number (Some source) = source_number source
 
 -- ---- the state that the numbers stand for
+
+-- Whether the numbers that name something name what a dispatcher can hold: the mouse's identity, and who was served last. Those of the handler's record are asked by its calls.
+unfoldable pub names_all : List ℕ → Bool
+names_all ws =
+    let identity = get_or ws mouse_at 0 in
+    (eqb identity 0 || (eqb identity 3 || eqb identity 4)) && ltb (get_or ws last_at 0) 4
 
 -- The numbers of the handler's record.
 abbrev pub handler_in : List ℕ → List ℕ

@@ -6,14 +6,16 @@ ghost use Rattle.dispatcher.specs.Sources.{scripts, script_of, keyboard_waits, m
 ghost use Rattle.dispatcher.specs.Said.{wait_in};
 ghost use Rattle.dispatcher.specs.declared.Source.{Source};
 ghost use Rattle.dispatcher_words.specs.Layout.{place_at, dispatcher_length};
-ghost use Rattle.dispatcher_words.specs.Words.{identity_of, source_number, last_of, handler_in, place_in, dispatcher_of};
+ghost use Rattle.dispatcher_words.specs.Words.{identity_of, source_number, last_of, handler_in, place_in, names_all, dispatcher_of};
 ghost use Rattle.dispatcher_words.specs.Steps.{no_call, with_turn, StepMade};
 ghost use Rattle.dispatcher_words.specs.Fresh.{MadeFresh};
 ghost use Rattle.dispatcher_words.specs.Parts.{unserved, SideServed, MouseServed};
 
 use argument_words::{MEANS_NOTHING, identity_of};
 use dispatcher::{Source, Waits, keyboard_waits, mouse_waits, start};
-use handler_words::{HANDLER_WORDS, HandledWords, fresh_words, handle_at, refusing_words};
+use handler_words::{
+    HANDLER_WORDS, HandledWords, KEYBOARDS_AT, fresh_words, handle_at, refusing_words,
+};
 use keyboard_sides::Side;
 use port_words::{PacketWords, packet_words, refusing_packet_words};
 use ps2_bytes::MouseId;
@@ -129,6 +131,26 @@ fn place_in(words: &[u64; DISPATCHER_WORDS], source: Source) -> usize
     words[place_at(source)] as usize
 }
 
+// Whether the numbers behind the handler's are such as a dispatcher can hold: a mouse's identity of
+// 0, 3 or 4, and who was served last, 0 to 3. Every number is a place.
+#[tactic(auto, unfolding(crate::specs::Words::names_all))]
+fn is_dispatcher(words: &[u64; DISPATCHER_WORDS]) -> bool
+    ensures { result ≡ names_all words.now }
+{
+    matches!(words[MOUSE_AT], 0 | 3 | 4) && words[LAST_AT] < 4
+}
+
+// How many bytes of the second side wait: none, where it isn't at the table.
+fn second_waiting(words: &[u64; DISPATCHER_WORDS]) -> usize
+    ensures { result ≡ (dispatcher_of words.now).handler.state.second.waiting.count }
+{
+    if words[KEYBOARDS_AT] == 2 {
+        words[SECOND_WAITING_AT] as usize
+    } else {
+        0
+    }
+}
+
 // Which sources wait.
 fn waits_in(words: &[u64; DISPATCHER_WORDS], first: &[u8], second: &[u8], third: &[u8]) -> Waits
     ensures { (source : Source) → wait_in result source ≡ waits_now (dispatcher_of words.now) (scripts first.now second.now third.now) source }
@@ -138,8 +160,8 @@ fn waits_in(words: &[u64; DISPATCHER_WORDS], first: &[u8], second: &[u8], third:
     let three = place_in(words, Source::Mouse);
     let id = identity_in(words[MOUSE_AT]);
     Waits {
-        first: keyboard_waits(one, first, (words[FIRST_WAITING_AT] % 256) as u8),
-        second: keyboard_waits(two, second, (words[SECOND_WAITING_AT] % 256) as u8),
+        first: keyboard_waits(one, first, words[FIRST_WAITING_AT] as usize),
+        second: keyboard_waits(two, second, second_waiting(words)),
         mouse: mouse_waits(three, third, id),
     }
 }
@@ -229,6 +251,9 @@ pub fn dispatcher_step(
     let Some(lent) = words.as_mut_array::<DISPATCHER_WORDS>() else {
         return no_call(21);
     };
+    if !is_dispatcher(lent) {
+        return no_call(21);
+    }
     let waits = waits_in(lent, first, second, third);
     match waits.serves(last_in(lent[LAST_AT])) {
         Some(Source::Keyboard(side)) => {

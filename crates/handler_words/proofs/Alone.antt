@@ -23,6 +23,7 @@ use Rattle.keyboard_scancodes.specs.Events.{last_keycode, is_known, event_of}
 use Rattle.keyboard_scancodes.specs.FlagsAfter.{flags_after, flags_then}
 use Rattle.keyboard_scancodes.specs.Profile.{allows, followed, presses_followed}
 use Rattle.keyboard_scancodes.specs.Strokes.{low_part, is_press, stroke, is_silent}
+use Rattle.keyboard_scancodes.specs.Remembered.{fresh_keyboard}
 use Rattle.keyboard_scancodes.specs.Waiting.{bytes_from}
 use Rattle.keyboard_scancodes.proofs.Tests.{which}
 use Rattle.keyboard_sides.specs.declared.Side.{Side}
@@ -80,18 +81,35 @@ effects_alone side s b flags =
     let o = outcome_alone side s b flags in
     record { end = yields o.answer; lamps = gives success; used = 1; pairs = 0; state = o.state; event = o.event; dropped = 0 }
 
+-- none of the side's bytes waits where its number says so, and any key is allowed
+none_waiting : (side : Side) (ws : List ℕ) → get_or ws (keyboard_from side + 2) 0 ≡ 0 → (keyboard_at side (state_of ws)).waiting.count ≡ 0
+unfolding state_of keyboard_in
+none_waiting Side.First ws e = e
+none_waiting Side.Second ws e = by_two (eqb (get_or ws 10 0) 2)
+  where
+    by_two : (two : Bool) → (cond two (keyboard_in ws 5) fresh_keyboard).waiting.count ≡ 0
+    by_two true = e
+    by_two false = refl
+
+pub any_key_in : (ws : List ℕ) → get_or ws 11 0 ≡ 0 → (state_of ws).table.profile ≡ Profile.Any
+unfolding state_of
+any_key_in ws e = rw e
+
 first_byte : (l : List ℕ) → 0 < length l → l ≡ get_or l 0 0 ∷ drop 1 l
 first_byte [] h = absurd (omega (arith, h))
 first_byte (b ∷ l) h = refl
 
-module _ (side : Side) (s : HandlerState) (script : List ℕ) (w : call_formed side s ≡ true) (a : KeyAlone side s script) {flags : ℕ}
-    (f : flags ≡ flags_after (followed Profile.Any) (stroke (get_or script 0 0) (keyboard_at side s).prefix) (keyboard_at side s).modifiers.bits) (log : List ℕ) where
+module _ (side : Side) (ws script : List ℕ) (w : call_formed side (state_of ws) ≡ true) (a : KeyAlone side ws script) {flags : ℕ}
+    (f : flags ≡ flags_after (followed Profile.Any) (stroke (get_or script 0 0) (keyboard_at side (state_of ws)).prefix) (keyboard_at side (state_of ws)).modifiers.bits) (log : List ℕ) where
+  abbrev s : HandlerState
+  s = state_of ws
+
   begun : (effects_alone side s (get_or script 0 0) flags ≡ effects keyboard_lamps side s (get_or script 0 0 ∷ drop 1 script) log) × (log ≡ log_left keyboard_lamps side s (get_or script 0 0 ∷ drop 1 script) log)
   begun =
       let b = get_or script 0 0 in
       let t = with_keyboard side (followed_by flags) s in
-      formed_call side s (b ∷ drop 1 script) log w (sym a.taken.any_key) refl refl
-      (key_alone (port_of side) (keyboard_at side s) b a.taken.none_waits a.sounds a.no_lamps f (drop 1 script) log)
+      formed_call side s (b ∷ drop 1 script) log w (sym (any_key_in ws a.taken.any_key)) refl refl
+      (key_alone (port_of side) (keyboard_at side s) b (none_waiting side ws a.taken.none_waits) a.sounds a.no_lamps f (drop 1 script) log)
       (rw (queued_lamps side t (key_event b flags) (gives success) 0, queued_dropped side t (key_event b flags) (gives success) 0))
 
   pub alone_effects : (effects_alone side s (get_or script 0 0) flags ≡ effects keyboard_lamps side s script log) × (log ≡ log_left keyboard_lamps side s script log)
@@ -137,23 +155,6 @@ module _ (side : Side) (s : HandlerState) (b flags place : ℕ) (ws : List ℕ) 
 pub says_no : {P : Type 0} → (P → ⊥) → Says P false
 says_no n = record { is_so = λ e. absurd (true≢false (sym e)); is_not = λ _. n }
 
-pub waits_in : (side : Side) (ws : List ℕ) → (keyboard_at side (state_of ws)).waiting.count ≡ get_or ws (keyboard_from side + 2) 0 % 256
-unfolding state_of keyboard_in
-waits_in Side.First ws = refl
-waits_in Side.Second ws = refl
-
-pub profile_in : (ws : List ℕ) → get_or ws 11 0 ≡ 0 → (state_of ws).table.profile ≡ Profile.Any
-unfolding state_of
-profile_in ws e = rw e
-
-pub profile_not_in : (ws : List ℕ) → (get_or ws 11 0 ≡ 0 → ⊥) → (state_of ws).table.profile ≡ Profile.Any → ⊥
-unfolding state_of
-profile_not_in ws n e = true≢false (ap is_tournament (rw (ne_eqb (get_or ws 11 0) 0 n) at e))
-  where
-    is_tournament : Profile → Bool
-    is_tournament Profile.Any = false
-    is_tournament Profile.Tournament = true
-
 -- ---- such a call
 
 keyboard_left : (side : Side) (t : HandlerState) (g : Answer (Option KeyEvent)) → keyboard_at side (queued side t g (gives success) 0).state ≡ keyboard_at side t
@@ -178,7 +179,7 @@ module _ (side : Side) (ws script : List ℕ) where
             (sym (malformed_effects keyboard_lamps side (state_of ws) script log f), sym (malformed_log keyboard_lamps side (state_of ws) script log f)) refl refl refl refl;
       })
 
-  module _ (h : length ws ≡ words_length) (w : call_formed side (state_of ws) ≡ true) (a : KeyAlone side (state_of ws) script) {flags : ℕ}
+  module _ (h : length ws ≡ words_length) (w : call_formed side (state_of ws) ≡ true) (a : KeyAlone side ws script) {flags : ℕ}
       (f : flags ≡ flags_after (followed Profile.Any) (stroke (get_or script 0 0) (keyboard_at side (state_of ws)).prefix) (keyboard_at side (state_of ws)).modifiers.bits) where
     pub handled_alone : {k : KeyboardState} → k ≡ followed_by flags → {us : List ℕ} → (us ≡ with_keyboard_at (keyboard_from side) k ws) × Narrow k
         → {left : HandlerState} → left ≡ with_keyboard side (followed_by flags) (state_of ws)
@@ -190,6 +191,6 @@ module _ (side : Side) (ws script : List ℕ) where
         let y : KeyQueued (outcome_alone side s b flags) (free_place s) _ n ws' = rw (l, free_place_with side (followed_by flags) s) at x in
         record {
           with_any = λ log.
-              moved_on side ws script log (effects_alone side s b flags) (alone_effects side s script w a f log) y.answers refl refl h (rw y.answers at y.moves)
+              moved_on side ws script log (effects_alone side s b flags) (alone_effects side ws script w a f log) y.answers refl refl h (rw y.answers at y.moves)
               (q ∙ sym (keyboard_left side (with_keyboard side (followed_by flags) s) (key_event b flags) ∙ keyboard_at_with side (followed_by flags) s)) u (y.writes, y.reads);
         }

@@ -1,6 +1,7 @@
 -- The laws of a lent record's numbers.
 pub mod Bytes
 pub mod Events
+pub mod Passing
 pub mod Words
 pub mod Left
 pub mod Calls

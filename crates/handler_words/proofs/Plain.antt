@@ -25,7 +25,7 @@ use Rattle.handler_words.specs.Layout.{keyboard_from, count_at, places_from, wor
 use Rattle.handler_words.specs.Words.{event_at, word_of, state_of}
 use Rattle.handler_words.specs.Calls.{with_keyboard_at, with_sides, AtSide}
 use Rattle.handler_words.specs.Parts.{Narrow, followed_by, byte_used, PlainKey, KeyQueued, KeyHandled}
-use Rattle.handler_words.proofs.Alone.{joins, handled_alone}
+use Rattle.handler_words.proofs.Alone.{any_key_in, joins, handled_alone}
 
 -- the event finds its place whatever is remembered of its keyboard
 module _ (s : HandlerState) (k : KeyboardState) (b flags : ℕ) (us : List ℕ) where
@@ -49,7 +49,7 @@ module _ (side : Side) (ws script : List ℕ) (h : length ws ≡ words_length) (
       let b = get_or script 0 0 in
       let r = ready_says side s p.ready in
       handled_alone side ws script h r.0 p.alone (sym (plain_flags b p.plain (keyboard_at side s).prefix flags_now)) q u refl
-      (joined s (followed_by flags_now) b flags_now us side (plain_known b p.plain) p.alone.taken.any_key (sym r.1) w e)
+      (joined s (followed_by flags_now) b flags_now us side (plain_known b p.plain) (any_key_in ws p.alone.taken.any_key) (sym r.1) w e)
 
 -- it is the call with any log, which it leaves as it is
 pub plain_at : {side : Side} {ws script log : List ℕ} {answer : HandledWords} {ws' : List ℕ} → length ws ≡ words_length → KeyHandled side ws script answer ws'

@@ -22,11 +22,14 @@ use Rattle.keyboard_record.specs.Queue.{empty_event}
 use Rattle.keyboard_record.specs.Record.{well_formed}
 use Rattle.keyboard_record.specs.Taking.{taken}
 use Rattle.keyboard_record.proofs.Taking.{taken_malformed, taken_none, taken_one}
+use Rattle.keyboard_record.proofs.WellFormed.{well_is}
 use Rattle.handler_words.specs.declared.TakenWords.{TakenWords}
 use Rattle.handler_words.specs.Layout.{words_length}
-use Rattle.handler_words.specs.Words.{event_at, word_of, keyboard_in, state_of, record_of}
+use Rattle.handler_words.specs.Words.{event_at, word_of, keyboard_in, names_all, state_of, record_of}
+use Rattle.handler_words.specs.Parts.{sides_pass}
 use Rattle.handler_words.specs.Calls.{taken_numbers, with_queue_at, after_taking, WordsTaken}
 use Rattle.handler_words.proofs.Events.{event_at_lem}
+use Rattle.handler_words.proofs.Passing.{well_names, not_passing}
 use Rattle.handler_words.proofs.Words.{by_numbers}
 
 -- what a place's number stands for, and the number of an empty place
@@ -41,7 +44,8 @@ place_at ws i =
 -- start, count and sides stored
 abbrev Moved : ℕ → ℕ → Sides → List ℕ → Type 0
 Moved start count sides ws =
-    record_of (with_queue_at start count sides ws)
+    names_all ws ≡ true
+    → record_of (with_queue_at start count sides ws)
     ≡ record {
       state = record { first = (state_of ws).first; second = (state_of ws).second; table = (state_of ws).table; start = start; count = count; sides = sides };
       places = (record_of ws).places;
@@ -49,8 +53,8 @@ Moved start count sides ws =
 
 moved : (start count : ℕ) (sides : Sides) (a b c d e f g i j k l m n o p q : ℕ) (rest : List ℕ)
     → Moved start count sides (a ∷ b ∷ c ∷ d ∷ e ∷ f ∷ g ∷ i ∷ j ∷ k ∷ l ∷ m ∷ n ∷ o ∷ p ∷ q ∷ rest)
-unfolding state_of keyboard_in
-moved start count sides a b c d e f g i j k l m n o p q rest = refl
+unfolding state_of keyboard_in names_all
+moved start count sides a b c d e f g i j k l m n o p q rest v = rw v
 
 queue_stored : (start count : ℕ) (sides : Sides) (ws : List ℕ) → length ws ≡ words_length → Moved start count sides ws
 queue_stored start count sides = by_numbers (Moved start count sides) (moved start count sides)
@@ -60,6 +64,9 @@ module _ (ws : List ℕ) (h : length ws ≡ words_length) where
       → {ws' : List ℕ} → record_of ws' ≡ g → ws' ≡ after_taking a g.state ws → WordsTaken ws answer ws'
   by_taking t e r w =
       record { long = λ _. record { answered = rw t e; leaves = rw t r; writes = rw t w }; other = λ n. absurd (n h) }
+
+  pub take_unread : sides_pass ws ≡ false → {answer : TakenWords} → answer ≡ taken_numbers (refuses 21) → WordsTaken ws answer ws
+  take_unread w e = by_taking (taken_malformed (record_of ws) (not_passing ws w)) e refl refl
 
   module _ {state : HandlerState} (is : state ≡ state_of ws) where
     pub take_malformed : well_formed state ≡ false → {answer : TakenWords} → answer ≡ taken_numbers (refuses 21) → WordsTaken ws answer ws
@@ -77,4 +84,4 @@ module _ (ws : List ℕ) (h : length ws ≡ words_length) where
           let others = without_oldest_side s.sides in
           let v : ws' ≡ with_queue_at ((s.start + 1) % 128) (s.count - 1) others ws = rw (q, is) at u in
           by_taking (taken_one (record_of ws) (rw is at w) (rw is at z)) (rw (p, is, ← place_at ws s.start) at e)
-          (ap record_of v ∙ queue_stored ((s.start + 1) % 128) (s.count - 1) others ws h) v
+          (ap record_of v ∙ queue_stored ((s.start + 1) % 128) (s.count - 1) others ws h (well_names ws (well_is s (rw is at w)))) v

@@ -1,7 +1,7 @@
 -- What the parts of the code that have contracts of their own promise.
 -- Assumes nothing.
 use Rattle.std.proofs.Math.Option.{Option, none, some}
-use Rattle.std.specs.Prelude.{◌≡◌, ℕ, ◌<◌, ◌≤◌, Bool, true, false, ◌||◌, List, [], eqb, length, get_or, Option as Maybe, Some, None}
+use Rattle.std.specs.Prelude.{◌≡◌, ℕ, ◌+◌, ◌<◌, ◌≤◌, Bool, true, false, ◌&&◌, ◌||◌, List, [], eqb, ltb, length, get_or, Option as Maybe, Some, None}
 use Rattle.exchange.specs.Answer.{number_answered}
 use Rattle.keycodes_ascii.specs.declared.KeyEvent.{KeyEvent}
 use Rattle.keyboard_scancodes.specs.declared.KeyboardState.{KeyboardState}
@@ -15,11 +15,12 @@ use Rattle.keyboard_sides.specs.declared.Side.{Side}
 use Rattle.keyboard_record.specs.declared.Table.{Table}
 use Rattle.keyboard_record.specs.declared.HandlerState.{HandlerState}
 use Rattle.keyboard_record.specs.Limits.{queue_length}
-use Rattle.keyboard_record.specs.Record.{keyboard_at, is_ready}
+use Rattle.keyboard_record.specs.Record.{keyboard_formed, is_ready}
 use Rattle.keyboard.specs.Handler.{Outcome}
 use Rattle.handler_words.specs.declared.HandledWords.{HandledWords}
 use Rattle.handler_words.specs.Calls.{with_event, SideHandled}
-use Rattle.handler_words.specs.Words.{byte_limit, flags_limit, bytes_in, number_of_bytes, event_at, word_of, low_bytes, high_bytes, state_of}
+use Rattle.handler_words.specs.Layout.{keyboard_from, first_at, second_at, keyboards_at, profile_at}
+use Rattle.handler_words.specs.Words.{byte_limit, flags_limit, bytes_in, number_of_bytes, event_at, word_of, low_bytes, high_bytes, keyboard_in, state_of}
 
 -- The table that two numbers stand for, if any.
 abbrev pub said_table : Maybe Table → Option Table
@@ -54,15 +55,29 @@ pub record Says (P : Type 0) (answer : Bool) : Type 0 where
   pub is_so : answer ≡ true → P
   pub is_not : answer ≡ false → P → ⊥
 
+-- ---- what 21 asks of the numbers themselves
+
+-- Whether the numbers of a side's keyboard pass it: a prefix that is off or on, and what the record is asked.
+abbrev pub keyboard_passes : ℕ → List ℕ → Bool
+keyboard_passes at ws = ltb (get_or ws at 0) 2 && keyboard_formed (keyboard_in ws at)
+
+-- Whether those of every side at the table do, and those of the table.
+unfoldable pub sides_pass : List ℕ → Bool
+sides_pass ws =
+    let keyboards = get_or ws keyboards_at 0 in
+    (keyboard_passes first_at ws && ltb (get_or ws profile_at 0) 2) && (eqb keyboards 1 || (eqb keyboards 2 && keyboard_passes second_at ws))
+
+-- ---- the quick ways
+
 -- A call that takes the script's first byte, since none waits, at a table without the profile.
-pub record FromScript (side : Side) (s : HandlerState) (script : List ℕ) : Type 0 where
-  pub none_waits : (keyboard_at side s).waiting.count ≡ 0
+pub record FromScript (side : Side) (ws script : List ℕ) : Type 0 where
+  pub none_waits : get_or ws (keyboard_from side + 2) 0 ≡ 0
   pub some_byte : 0 < length script
-  pub any_key : s.table.profile ≡ Profile.Any
+  pub any_key : get_or ws profile_at 0 ≡ 0
 
 -- Such a call, whose byte is a key's, and no lock's whose lamps would be set.
-pub record KeyAlone (side : Side) (s : HandlerState) (script : List ℕ) : Type 0 where
-  pub taken : FromScript side s script
+pub record KeyAlone (side : Side) (ws script : List ℕ) : Type 0 where
+  pub taken : FromScript side ws script
   pub sounds : is_silent (get_or script 0 0) ≡ false
   pub no_lamps : presses_followed Profile.Any (get_or script 0 0) ≡ false
 
@@ -75,7 +90,7 @@ byte_used n = record { refusal = n; lamps = 0; used = 1; pairs = 0; dropped = 0;
 
 -- Such a call, whose byte is of a key that has no flag, where the record is ready for its event.
 pub record PlainKey (side : Side) (ws script : List ℕ) : Type 0 where
-  pub alone : KeyAlone side (state_of ws) script
+  pub alone : KeyAlone side ws script
   pub plain : is_plain (get_or script 0 0) ≡ true
   pub ready : is_ready side (state_of ws) ≡ true
 

@@ -1,7 +1,7 @@
 // The keyboard handler's record lent as numbers, and changed where it lies: a call reads the state's numbers and writes those that change, and of the places one at most.
 #![tactic(auto)]
 
-ghost use Rattle.std.specs.Prelude.{true, ◌≡◌, ◌++◌, set, ◌+◌, ◌*◌, ◌%◌, ◌/◌, ◌<◌, ◌≤◌};
+ghost use Rattle.std.specs.Prelude.{true, ◌≡◌, ◌++◌, set, ◌+◌, ◌*◌, ◌/◌, ◌%◌, ◌<◌, ◌≤◌};
 ghost use Rattle.std.proofs.Math.Option.{some};
 ghost use Rattle.keyboard_scancodes.specs.declared.Profile.{Profile};
 ghost use Rattle.keyboard_scancodes.specs.Events.{is_known, event_of};
@@ -13,18 +13,18 @@ ghost use Rattle.exchange.specs.Answer.{gives, number_answered};
 ghost use Rattle.ps2_answers.specs.Refusals.{success};
 ghost use Rattle.keycodes_ascii.specs.Keycode.{number_of};
 ghost use Rattle.keyboard_record.specs.Queue.{free_place};
-ghost use Rattle.keyboard_record.specs.Record.{fresh};
+ghost use Rattle.keyboard_record.specs.Record.{fresh, is_ready};
 ghost use Rattle.port_words.specs.Told.{port_lacked};
 ghost use Rattle.handler_words.specs.Layout.{keyboard_from, count_at, places_from};
-ghost use Rattle.handler_words.specs.Words.{bytes_in, action_number, event_at, word_of, keyboards_of, keyboards_number, profile_of, profile_number, keyboard_in, state_of, words_of};
+ghost use Rattle.handler_words.specs.Words.{bytes_in, action_number, event_at, word_of, keyboards_of, keyboards_number, profile_of, profile_number, keyboard_in, second_in, state_of, words_of};
 ghost use Rattle.handler_words.specs.Arguments.{side_number, laid_with, table_at};
 ghost use Rattle.handler_words.specs.Calls.{refusing, with_keyboard_at, with_sides, with_event, SideHandled, AtSide, WordsHandled, taken_numbers, with_queue_at, WordsTaken, WordsFresh};
-ghost use Rattle.handler_words.specs.Parts.{said_table, InTwo, Narrow, Placed, reread, Says, FromScript, KeyAlone, followed_by, byte_used, PlainKey, KeyQueued, KeyHandled};
+ghost use Rattle.handler_words.specs.Parts.{said_table, InTwo, Narrow, Placed, reread, Says, keyboard_passes, sides_pass, FromScript, KeyAlone, followed_by, byte_used, PlainKey, KeyQueued, KeyHandled};
 
 use argument_words::MEANS_NOTHING;
 use keyboard::{HandlerAnswer, HandlerRefusal, effect_of, leaves_as_passed, number_of};
 use keyboard_modifiers::KeyboardModifiers;
-use keyboard_record::{HandlerState, Keyboards, NoRoom, QUEUE_LENGTH, Table};
+use keyboard_record::{FLAG_LIMIT, HandlerState, Keyboards, NoRoom, QUEUE_LENGTH, Table};
 use keyboard_scancodes::{
     KeyboardState, Profile, WaitingBytes, is_lock_press, is_plain, is_silent, modifiers_after,
 };
@@ -41,7 +41,7 @@ const FIRST_AT: usize = 0;
 const SECOND_AT: usize = 5;
 
 // How many keyboards the table has, and the profile.
-const KEYBOARDS_AT: usize = 10;
+pub const KEYBOARDS_AT: usize = 10;
 
 const PROFILE_AT: usize = 11;
 
@@ -64,7 +64,7 @@ const LAST_KEYCODE: u8 = 0x5D;
 pub const HANDLER_WORDS: usize = PLACES_FROM + QUEUE_LENGTH;
 
 // A lent slice is asked for its length once, in the public functions; from there on its type says it.
-type Words = [u64; HANDLER_WORDS];
+pub type Words = [u64; HANDLER_WORDS];
 
 // What a handler call answers, as numbers: the refusal and that of the lamp exchange, 0 where there is none; script bytes used, pairs written and bytes dropped; and the port of the read that the script was too short for, or 0.
 #[repr(C)]
@@ -90,12 +90,12 @@ pub struct TakenWords {
 }
 
 // The 16 bytes in two numbers, with how many of them wait.
-fn waiting_in(low: u64, high: u64, count: u64) -> WaitingBytes
-    ensures { result ≡ record { bytes = bytes_in 8 low ++ bytes_in 8 high; count = count % 256 } }
+fn waiting_in(low: u64, high: u64, count: u8) -> WaitingBytes
+    ensures { result ≡ record { bytes = bytes_in 8 low ++ bytes_in 8 high; count = count } }
 {
     WaitingBytes {
         bytes: (u128::from(low) + u128::from(high) * (1 << 64)).to_le_bytes(),
-        count: (count % 256) as u8,
+        count,
     }
 }
 
@@ -107,7 +107,7 @@ fn waiting_words(bytes: &[u8; KEPT_LIMIT]) -> (u64, u64)
     ((number % (1 << 64)) as u64, (number >> 64) as u64)
 }
 
-// How many keyboards a record's number says: 2 is two, and any other one.
+// How many keyboards a record's number says, which is 1 or 2 where it passes.
 fn keyboards_of(word: u64) -> Keyboards
     ensures { result ≡ keyboards_of word }
 {
@@ -117,7 +117,7 @@ fn keyboards_of(word: u64) -> Keyboards
     }
 }
 
-// The profile that a record's number says: 0 is none, and any other the tournament's.
+// The profile that a record's number says, which is 0, none, or 1, the tournament's, where it passes.
 fn profile_of(word: u64) -> Profile
     ensures { result ≡ profile_of word }
 {
@@ -137,22 +137,59 @@ fn keyboard_at(side: Side) -> usize
     }
 }
 
+// Whether 21 lets the numbers of a side's keyboard pass: a prefix of 0 or 1, no flag above bit 10, and no more than 16 bytes that wait.
+#[tactic(auto, unfolding(crate::specs::Words::keyboard_in, keyboard_record::specs::Record::keyboard_formed, keyboard_scancodes::specs::FlagTable::flag_limit, keyboard_scancodes::specs::FlagTable::flag_table))]
+fn keyboard_passes(words: &Words, side: Side) -> bool
+    ensures { result ≡ keyboard_passes (keyboard_from side) words.now }
+{
+    let at = keyboard_at(side);
+    words[at] < 2 && words[at + 1] < u64::from(FLAG_LIMIT) && words[at + 2] <= KEPT_LIMIT as u64
+}
+
+// Whether 21 lets those of the table pass, and of every side at it; those of a side that isn't at it are unasked.
+// It is asked of the numbers, whichever of their 64 bits are set, before they are read as a state.
+#[tactic(auto, unfolding(crate::specs::Parts::sides_pass))]
+fn sides_pass(words: &Words) -> bool
+    ensures { result ≡ sides_pass words.now }
+{
+    keyboard_passes(words, Side::First)
+        && words[PROFILE_AT] < 2
+        && match words[KEYBOARDS_AT] {
+            1 => true,
+            2 => keyboard_passes(words, Side::Second),
+            _ => false,
+        }
+}
+
 // What is remembered of a side's keyboard.
 fn keyboard_in(words: &Words, side: Side) -> KeyboardState
+    requires { keyboard_passes (keyboard_from side) words.now ≡ true }
     ensures { result ≡ keyboard_in words.now (keyboard_from side) }
 {
     let at = keyboard_at(side);
     KeyboardState {
-        waiting: waiting_in(words[at + 3], words[at + 4], words[at + 2]),
+        waiting: waiting_in(words[at + 3], words[at + 4], words[at + 2] as u8),
         prefix: words[at] != 0,
         modifiers: KeyboardModifiers {
-            bits: (words[at + 1] % 65536) as u16,
+            bits: words[at + 1] as u16,
         },
     }
 }
 
-// The state that a record's numbers stand for.
+// What is remembered of the second side's: nothing, where it isn't at the table.
+fn second_in(words: &Words) -> KeyboardState
+    requires { sides_pass words.now ≡ true }
+    ensures { result ≡ second_in words.now }
+{
+    match keyboards_of(words[KEYBOARDS_AT]) {
+        Keyboards::One => followed(KeyboardModifiers { bits: 0 }),
+        Keyboards::Two => keyboard_in(words, Side::Second),
+    }
+}
+
+// The state that a record's numbers stand for, where they pass.
 fn state_in(words: &Words) -> HandlerState
+    requires { sides_pass words.now ≡ true }
     ensures { result ≡ state_of words.now }
 {
     HandlerState {
@@ -162,7 +199,7 @@ fn state_in(words: &Words) -> HandlerState
             profile: profile_of(words[PROFILE_AT]),
         },
         start: words[START_AT] as usize,
-        second: keyboard_in(words, Side::Second),
+        second: second_in(words),
         count: words[COUNT_AT] as usize,
         sides: Sides {
             low: words[LOW_SIDES_AT],
@@ -298,12 +335,12 @@ fn queue_key(
 
 // Whether a call takes the script's first byte, since none waits, at a table without the profile.
 fn is_from_script(words: &Words, side: Side, script: &[u8]) -> bool
-    ensures { Says (FromScript side (state_of words.now) script.now) result }
+    ensures { Says (FromScript side words.now script.now) result }
 {
-    !script.is_empty() && words[PROFILE_AT] == 0 && words[keyboard_at(side) + 2] % 256 == 0
+    !script.is_empty() && words[PROFILE_AT] == 0 && words[keyboard_at(side) + 2] == 0
 }
 
-// A keyboard just after a key's byte that left these flags, where no byte waits.
+// A keyboard with these flags, without prefix or waiting bytes: as it is just after a key's byte where none waits.
 fn followed(modifiers: KeyboardModifiers) -> KeyboardState
     ensures { result ≡ followed_by modifiers.bits }
 {
@@ -343,7 +380,7 @@ fn byte_used(refusal: u32) -> HandledWords
 
 // A call in which none waits, and the script's first byte is a key's and asks for no lamp exchange, at a table without the profile. It is followed, and its event is queued where there is room.
 fn handle_key(words: &mut Words, side: Side, script: &[u8]) -> HandledWords
-    requires { KeyAlone side (state_of words.old) script.now }
+    requires { KeyAlone side words.old script.now × (sides_pass words.old ≡ true) }
     ensures { KeyHandled side words.old script.now result words.new }
 {
     let state = state_in(words);
@@ -360,7 +397,7 @@ fn handle_key(words: &mut Words, side: Side, script: &[u8]) -> HandledWords
 
 // Whether a call is such a one.
 fn is_key_alone(words: &Words, side: Side, script: &[u8]) -> bool
-    ensures { Says (KeyAlone side (state_of words.now) script.now) result }
+    ensures { Says (KeyAlone side words.now script.now) result }
 {
     is_from_script(words, side, script)
         && !is_silent(script[0])
@@ -371,6 +408,9 @@ fn is_key_alone(words: &Words, side: Side, script: &[u8]) -> bool
 fn handle_side(words: &mut Words, side: Side, script: &[u8], log: &mut [u8]) -> HandledWords
     ensures { SideHandled side words.old script.now log.old result words.new log.new }
 {
+    if !sides_pass(words) {
+        return refusing_words(21);
+    }
     if is_key_alone(words, side, script) {
         return handle_key(words, side, script);
     }
@@ -412,11 +452,19 @@ fn handle_plain(words: &mut Words, side: Side, script: &[u8]) -> HandledWords
     byte_used(0)
 }
 
+// Whether a record is ready for one more event of a side.
+#[tactic(auto, using(crate::proofs::Passing::unready))]
+fn is_ready(words: &Words, side: Side) -> bool
+    ensures { result ≡ is_ready side (state_of words.now) }
+{
+    sides_pass(words) && state_in(words).is_ready(side)
+}
+
 // Whether a call is such a one.
 fn is_plain_key(words: &Words, side: Side, script: &[u8]) -> bool
     ensures { Says (PlainKey side words.now script.now) result }
 {
-    is_from_script(words, side, script) && is_plain(script[0]) && state_in(words).is_ready(side)
+    is_from_script(words, side, script) && is_plain(script[0]) && is_ready(words, side)
 }
 
 // A handler call on a lent record, for a side: 21 where it has not 144 numbers. A function with two callers is compiled into neither, and a large answer copied from one to the other: so the dispatcher, which knows the side, calls this one and not the next.
@@ -523,6 +571,9 @@ pub fn take_words(words: &mut [u64]) -> TakenWords
     let Some(words) = words.as_mut_array() else {
         return no_event(21);
     };
+    if !sides_pass(words) {
+        return no_event(21);
+    }
     let state = state_in(words);
     if !state.well_formed() {
         return no_event(21);
@@ -558,7 +609,7 @@ fn laid_with(keyboards: Keyboards, profile: u32) -> Option<Table>
 }
 
 // The table that two numbers stand for, if any.
-fn table_of(keyboards: u32, profile: u32) -> Option<Table>
+pub fn table_of(keyboards: u32, profile: u32) -> Option<Table>
     ensures { said_table result ≡ table_at keyboards profile }
 {
     match keyboards {
@@ -587,7 +638,7 @@ fn profile_word(profile: Profile) -> u64
 }
 
 // Stores a fresh record for a table.
-fn put_fresh(words: &mut Words, table: Table)
+pub fn put_fresh(words: &mut Words, table: Table)
     ensures { words.new ≡ words_of (fresh table) }
 {
     words.fill(0);

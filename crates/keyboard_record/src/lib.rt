@@ -23,7 +23,7 @@ pub const QUEUE_LENGTH: usize = 128;
 pub const SHARE: usize = 96;
 
 // The flags are the bits below this one.
-const FLAG_LIMIT: u16 = 1 << 11;
+pub const FLAG_LIMIT: u16 = 1 << 11;
 
 // Whether a table has one keyboard or two. One keyboard is the first side's.
 #[derive(Clone, Copy, PartialEq, Eq)]

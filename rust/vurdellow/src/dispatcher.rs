@@ -116,7 +116,14 @@ impl Dispatcher {
     pub fn from_words(words: [u64; DISPATCHER_WORDS]) -> Result<Dispatcher, Refusal> {
         let mut record = [0; HANDLER_WORDS];
         record.copy_from_slice(&words[..HANDLER_WORDS]);
-        Handler::from_words(record).map(|_| Dispatcher { words })
+        Handler::from_words(record)?;
+        // Numbers that no dispatcher has are refused before a source is served; this step is one of a copy.
+        let mut tried = words;
+        let step = raw::vd_dispatcher_step(&mut tried, &[], &[], &[], &mut []);
+        match Refusal::answered(step.refusal, 0) {
+            Some(refusal) if step.source == 0 => Err(refusal),
+            _ => Ok(Dispatcher { words }),
+        }
     }
 
     /// The state's numbers, to be stored or sent.

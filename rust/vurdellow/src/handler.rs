@@ -195,8 +195,7 @@ pub(crate) fn waiting_bytes(words: &[u64], side: Side) -> usize {
         Side::First => FIRST_WAITING,
         Side::Second => SECOND_WAITING,
     };
-    // The record's number is the byte that is lowest in it.
-    usize::from(words[at] as u8)
+    words[at] as usize
 }
 
 /// Takes events from a handler or a dispatcher, as many as are asked for.

@@ -5,6 +5,7 @@ use Rattle.keyboard_scancodes.proofs.Plain.{plain_known}
 use Rattle.keyboard_record.proofs.Ready.{ready_says}
 use Rattle.keyboard_record.proofs.WellFormed.{WellFormed, call_is}
 use Rattle.handler_words.specs.Words.{state_of}
+use Rattle.handler_words.proofs.Passing.{ready_passes}
 use Rattle.handler_words.proofs.Plain.{plain_handled}
 use Rattle.handler_words.proofs.handle_plain.Goals as goal
 use Rattle.handler_words.proofs.handle_plain.Goals.{After-state_in-state}
@@ -13,6 +14,9 @@ well : (c : After-state_in-state) → WellFormed c.state_in-state.result
 well c =
     let s = state_of c.args.words.now in
     rw c.state_in-state.ensures (call_is c.args.side s (ready_says c.args.side s c.requires.ready).0).1
+
+pub state_in-state-requires : goal.state_in-state-requires
+state_in-state-requires c = ready_passes c.args.words.now c.args.side c.requires.ready
 
 pub overflow_add-state : goal.overflow_add-state
 overflow_add-state c =

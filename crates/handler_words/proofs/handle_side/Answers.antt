@@ -1,8 +1,15 @@
 -- `handler_words::handle_side` meets its contract.
 -- Assumes nothing.
 use mathlib.Core.Path.{sym, ◌∙◌}
+use Rattle.handler_words.proofs.Alone.{malformed_alone}
 use Rattle.handler_words.proofs.Calls.{placed, left_alone, written}
+use Rattle.handler_words.proofs.Passing.{uncalled}
 use Rattle.handler_words.proofs.handle_side.Goals as goal
+
+pub returns-then-not-sides_pass : goal.returns-then-not-sides_pass
+returns-then-not-sides_pass c =
+    let a = c.args in
+    (malformed_alone a.side a.words.now a.script.now (uncalled a.words.now a.side (sym c.sides_pass.ensures ∙ c.if-not-sides_pass.true)) c.refusing_words.ensures).with_any _
 
 -- none waited, and a key's byte was followed
 pub returns-then-is_key_alone : goal.returns-then-is_key_alone

@@ -2,21 +2,19 @@
 -- Assumes nothing.
 use mathlib.Core.Path.{sym, ap, ◌∙◌}
 use mathlib.Core.Bool.{not, true≢false}
-use Prim.Native.Nat.{ℕ, ◌+◌, ◌%◌}
+use Prim.Native.Nat.{ℕ, ◌+◌}
 use native.Mathlib.Omega.{arith}
 use lib.ListN.{get_or}
 use borrow.Author.Tests.{eqb-true, eqb-false}
-use Rattle.handler_words.specs.Words.{state_of}
 use Rattle.handler_words.specs.Parts.{FromScript}
-use Rattle.handler_words.proofs.Alone.{says_no, waits_in, profile_in, profile_not_in}
+use Rattle.handler_words.proofs.Alone.{says_no}
 use Rattle.handler_words.proofs.is_from_script.Goals as goal
 use Rattle.handler_words.proofs.is_from_script.Goals.{then-not-is_empty, else-not-is_empty}
 
 pub returns-then-words-eq0 : goal.returns-then-words-eq0
 returns-then-words-eq0 c =
     let a = c.args in
-    let ws = a.words.now in
-    let waits = waits_in a.side ws ∙ ap (λ (n : ℕ). get_or ws (n + 2) 0 % 256) (sym c.keyboard_at.ensures.0) in
+    let waits = ap (λ (n : ℕ). get_or a.words.now (n + 2) 0) (sym c.keyboard_at.ensures.0) in
     elim c.if-not-is_empty.branch [
       | then-not-is_empty w ↦
           record {
@@ -24,7 +22,7 @@ returns-then-words-eq0 c =
                 record {
                   none_waits = waits ∙ eqb-true _ 0 e;
                   some_byte = omega (arith, eqb-false _ 0 (sym c.is_empty.ensures ∙ w.if-not-is_empty.true));
-                  any_key = profile_in ws (eqb-true _ 0 (sym w.value-is ∙ c.if-words-eq0.true));
+                  any_key = eqb-true _ 0 (sym w.value-is ∙ c.if-words-eq0.true);
                 };
             is_not = λ e f. eqb-false _ 0 e (sym waits ∙ f.none_waits);
           }
@@ -34,9 +32,9 @@ returns-then-words-eq0 c =
 pub returns-else-words-eq0 : goal.returns-else-words-eq0
 returns-else-words-eq0 c =
     let a = c.args in
-    let asked : FromScript a.side (state_of a.words.now) a.script.now → ⊥ = λ p.
+    let asked : FromScript a.side a.words.now a.script.now → ⊥ = λ p.
     elim c.if-not-is_empty.branch [
-      | then-not-is_empty w ↦ profile_not_in a.words.now (eqb-false _ 0 (sym w.value-is ∙ c.if-words-eq0.false)) p.any_key
+      | then-not-is_empty w ↦ absurd (eqb-false _ 0 (sym w.value-is ∙ c.if-words-eq0.false) p.any_key)
       | else-not-is_empty w ↦ absurd (omega (arith, p.some_byte, eqb-true _ 0 (sym c.is_empty.ensures ∙ w.if-not-is_empty.false)))
     ]
     in

@@ -8,7 +8,7 @@ use Rattle.handler_words.proofs.is_plain_key.Goals.{then-is_from_script, else-is
 
 pub returns-then-is_plain : goal.returns-then-is_plain
 returns-then-is_plain c =
-    let ready = rw c.state_in.ensures at (sym c.is_ready.ensures) in
+    let ready = sym c.is_ready.ensures in
     elim c.if-is_from_script.branch [
       | then-is_from_script w ↦
           let plain = sym w.is_plain.ensures ∙ sym w.value-is ∙ c.if-is_plain.true in

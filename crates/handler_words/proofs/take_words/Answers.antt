@@ -7,7 +7,7 @@ use native.Mathlib.Omega.{arith}
 use borrow.Author.Tests.{eq-eqb, ne_eqb}
 use Rattle.keyboard_record.specs.Record.{well_formed}
 use Rattle.keyboard_record.proofs.WellFormed.{well_is}
-use Rattle.handler_words.proofs.Taken.{take_malformed, take_none, take_one}
+use Rattle.handler_words.proofs.Taken.{take_unread, take_malformed, take_none, take_one}
 use Rattle.handler_words.proofs.take_words.Goals as goal
 use Rattle.handler_words.proofs.take_words.Goals.{Else-state-eq0}
 
@@ -17,6 +17,11 @@ well c = sym c.well_formed-2.ensures ∙ c.if-not-well_formed.false
 
 started : (c : Else-state-eq0) → c.state_in-state.result.start < 128
 started c = (well_is _ (well c)).start_in
+
+pub returns-then-not-sides_pass : goal.returns-then-not-sides_pass
+returns-then-not-sides_pass c =
+    let whole = c.in-Some.ensures.cases in
+    rw whole.same (take_unread c.args.words.now whole.long (rw whole.same at (sym c.sides_pass.ensures ∙ c.if-not-sides_pass.true)) c.no_event-then-not-sides_pass.ensures)
 
 pub returns-then-not-well_formed : goal.returns-then-not-well_formed
 returns-then-not-well_formed c =
