@@ -388,7 +388,8 @@ vd_initialized vd_controller_init(vd_controller controller, const uint8_t *scrip
 /* ---- the keyboard */
 
 /* Makes the record fresh for a table (1 or 2 keyboards, profile 0 or 1), detects the first keyboard and asks it for scancode set 1.
-   255 and 21 (not 144 numbers) leave the record alone; otherwise it is fresh, also where the exchange is refused: 2 to 7, 11, 18. */
+   After 255, 21 (not 144 numbers), 2 and 3 the numbers are as they were; otherwise the record is fresh, also where the keyboard didn't
+   do what it was asked: 4 to 7, 11, 18. */
 vd_answer vd_keyboard_init(uint64_t *words, size_t words_length, uint32_t keyboards, uint32_t profile, const uint8_t *script, size_t script_length, uint8_t *log, size_t log_length);
 
 /* Resets the keyboard (FF) and waits for its self test.

@@ -422,7 +422,8 @@ static void port_operation(int which, size_t script_bytes, size_t log_bytes)
         a = vd_keyboard_init(words, length, keyboards, profile, script, script_length, log_, log_length);
         answer_asked(a, (keyboards == 1 || keyboards == 2) && profile < 2);
         ask(a.refusal == 255 || (a.refusal == 21) == (length != VD_HANDLER_WORDS), "21 is answered to another length, and only there");
-        ask((a.refusal != 255 && a.refusal != 21) || unchanged_from(2, 0), "255 and 21 leave the record");
+        ask((a.refusal != 2 && a.refusal != 3 && a.refusal != 21 && a.refusal != 255) || unchanged_from(2, 0), "2, 3, 21 and 255 leave the record");
+        ask(a.refusal == 2 || a.refusal == 3 || a.refusal == 21 || a.refusal == 255 || (words[10] == keyboards && words[11] == profile && is_zero(words, 80) && is_zero(words + 12, 8 * (VD_HANDLER_WORDS - 12))), "after any other answer the record is a fresh one");
         marks_stand(2);
     } else if (which == 22) {
         uint32_t side = below(16) == 0 ? (uint32_t)number() : 1 + (below(8) ? call_number >> 14 & 1 : (uint32_t)below(2));

@@ -1,7 +1,7 @@
 -- What the operations come to whose answers are numbers.
 -- Assumes nothing.
 use Rattle.std.specs.Prelude.{List, ◌≡◌, ℕ, length}
-use Rattle.exchange.specs.Exchange.{Exchange}
+use Rattle.exchange.specs.Exchange.{Exchange, End, yields, lacks, play}
 use Rattle.exchange.specs.Answer.{Answer}
 use Rattle.exchange.specs.Keeping.{Kept}
 use Rattle.ps2_layouts.specs.declared.leds.LEDState.{LEDState}
@@ -30,15 +30,20 @@ setting_lamps leds = keeping_thrown (set_keyboard_led leds)
 
 -- ---- initialisation on a lent record
 
--- On 144 numbers: answer and log are those of the exchange, and the numbers left are those of a fresh record, whatever it answers.
-pub record InitializedLong (table : Table) (script log : List ℕ) (answer : PortWords) (ws' log' : List ℕ) : Type 0 where
+-- What is left by an initialisation that ended so: "after 2, 3 or 21 records are as passed in", and after any other answer there is a new one.
+abbrev pub left_by : {A X : Type 0} → End A → X → X → X
+left_by (yields a) new passed = new
+left_by (lacks x) new passed = passed
+
+-- On 144 numbers: answer and log are those of the exchange, and the numbers left are those of a fresh record, or as they were; they stand for that record.
+pub record InitializedLong (table : Table) (ws script log : List ℕ) (answer : PortWords) (ws' log' : List ℕ) : Type 0 where
   pub tells : Tells (told no_value) keyboard_init script log answer log'
-  pub writes : ws' ≡ words_of (fresh table)
-  pub stands : record_of ws' ≡ fresh table
+  pub writes : ws' ≡ left_by (play keyboard_init script log).end (words_of (fresh table)) ws
+  pub stands : record_of ws' ≡ left_by (play keyboard_init script log).end (fresh table) (record_of ws)
 
 -- Another length is refused with 21, before anything is read.
 pub record InitializedAt (table : Table) (ws script log : List ℕ) (answer : PortWords) (ws' log' : List ℕ) : Type 0 where
-  pub long : length ws ≡ words_length → InitializedLong table script log answer ws' log'
+  pub long : length ws ≡ words_length → InitializedLong table ws script log answer ws' log'
   pub other : (length ws ≡ words_length → ⊥) → (answer ≡ refusing 21) × (ws' ≡ ws) × (log' ≡ log)
 
 -- Where the table stands for nothing, that is asked first, and nothing changes.

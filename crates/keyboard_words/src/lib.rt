@@ -12,16 +12,19 @@ ghost use Rattle.port_words.specs.Told.{refusing, no_value, byte_value, type_num
 ghost use Rattle.port_words.specs.ToldKept.{refusing_kept, told_kept};
 ghost use Rattle.port_words.specs.Tells.{Tells, TellsReading, TellsAt};
 ghost use Rattle.keyboard_words.specs.Arguments.{command_at, lamps_at, scancode_set_at, byte_at};
-ghost use Rattle.keyboard_words.specs.Operations.{sending_command, setting_lamps, KeyboardInitialized};
+ghost use Rattle.handler_words.specs.Words.{words_of};
+ghost use Rattle.keyboard_record.specs.Record.{fresh};
+ghost use Rattle.ps2_answers.specs.Answers.{ended};
+ghost use Rattle.keyboard_words.specs.Operations.{sending_command, setting_lamps, left_by, KeyboardInitialized};
 
 use argument_words::MEANS_NOTHING;
-use handler_words::fresh_words;
-use keyboard_record::{Keyboards, Table};
-use keyboard_scancodes::Profile;
+use handler_words::{Words, put_fresh, table_of};
+use keyboard_record::Table;
 use port_words::{
     KeptWords, PortWords, answer_words, commanded_words, refusing_kept_words, refusing_words,
 };
 use preferences_application::set_keyboard_repeat;
+use ps2_answers::{Answer, Refusal};
 use ps2_bytes::{HostToKeyboardCommand, HostToKeyboardCommandOrData, ScancodeSet};
 use ps2_keyboard::{
     command_to_keyboard, get_keyboard_scancode_set, is_output_buffer_full, read_scancode,
@@ -65,7 +68,20 @@ pub fn lamps_of(lamps: u32) -> Option<LEDState>
 
 // ---- the operations
 
-// Initialises the first keyboard. The lent record becomes a fresh one, whatever the keyboard answers, for a table with 1 keyboard or 2, under profile 0 (none) or 1 (the tournament's): 21 where it has not 144 numbers.
+// What an initialisation that was answered so makes of the record's numbers: those of a fresh one,
+// unless script or log ran out.
+fn put_initialized(words: &mut Words, table: Table, answer: Answer<()>)
+    ensures { words.new ≡ left_by (ended answer) (words_of (fresh table)) words.old }
+{
+    let lacks = matches!(answer, Err(refused) if matches!(refused.value, Refusal::Lacking(_)));
+    if !lacks {
+        put_fresh(words, table);
+    }
+}
+
+// Initialises the first keyboard. The lent record becomes a fresh one, for a table with 1 keyboard
+// or 2, under profile 0 (none) or 1 (the tournament's), whether the keyboard did what it was asked
+// or not. After 2 and 3 it is as it was, and after 21, where it has not 144 numbers.
 pub fn keyboard_init(
     words: &mut [u64],
     keyboards: u32,
@@ -75,16 +91,15 @@ pub fn keyboard_init(
 ) -> PortWords
     ensures { KeyboardInitialized words.old keyboards profile script.now log.old result words.new log.new }
 {
-    let refusal = fresh_words(words, keyboards, profile);
-    if refusal != 0 {
-        return refusing_words(refusal);
-    }
-    // What is sent and read is the same at every table, and the record that comes with it stays here.
-    let table = Table {
-        keyboards: Keyboards::One,
-        profile: Profile::Any,
+    let Some(table) = table_of(keyboards, profile) else {
+        return refusing_words(MEANS_NOTHING);
     };
-    answer_words(keyboard_init::keyboard_init(table, script, log).answer)
+    let Some(lent) = words.as_mut_array() else {
+        return refusing_words(21);
+    };
+    let answer = keyboard_init::keyboard_init(table, script, log).answer;
+    put_initialized(lent, table, answer);
+    answer_words(answer)
 }
 
 // Resets the keyboard.

@@ -141,7 +141,9 @@ impl Handler {
         &self.words
     }
 
-    /// Makes this handler a fresh one, whatever the exchange then answers; detects the first keyboard, and asks it for scancode set 1.
+    /// Detects the first keyboard, asks it for scancode set 1, and makes this handler a fresh one.
+    ///
+    /// After a lack (2, 3) the handler is as it was; after any other refusal it is a fresh one all the same.
     pub fn initialize(
         &mut self,
         keyboards: Keyboards,

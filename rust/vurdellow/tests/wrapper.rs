@@ -195,12 +195,58 @@ fn initialisation_goes_on_with_each_byte() {
 }
 
 #[test]
-fn the_handler_is_fresh_after_initialisation_whatever_it_answers() {
+fn a_handler_is_fresh_after_initialisation_unless_script_or_log_runs_out() {
     let mut handler = handler();
     handler.handle(Side::First, &[0x1E], &mut []).unwrap();
+    let before = handler.clone();
     let run = handler.initialize(Keyboards::Two, Profile::Any, &[], &mut [0; LOG_BYTES]);
     assert_eq!(run.lacks(), Some(Port::Status));
-    assert_eq!(handler, Handler::new(Keyboards::Two, Profile::Any));
+    assert_eq!(handler, before);
+    // A keyboard that answers FC is not detected.
+    let script = [0x00, 0x01, 0xFC];
+    for length in 0..script.len() {
+        handler.initialize(Keyboards::Two, Profile::Any, &script[..length], &mut [0; LOG_BYTES]).unwrap_err();
+        assert_eq!(handler, before);
+    }
+    let refused = handler.initialize(Keyboards::Two, Profile::Any, &script, &mut []).unwrap_err();
+    assert_eq!((refused.number(), &handler), (3, &before));
+    let refused = handler.initialize(Keyboards::Two, Profile::Any, &script, &mut [0; LOG_BYTES]).unwrap_err();
+    assert_eq!((refused.number(), handler), (18, Handler::new(Keyboards::Two, Profile::Any)));
+}
+
+#[test]
+fn numbers_that_no_record_can_hold_are_malformed() {
+    let one = *Handler::new(Keyboards::One, Profile::Any).words();
+    let two = *Handler::new(Keyboards::Two, Profile::Any).words();
+    // Prefix, flags and waiting bytes of a side, then keyboards, profile, start and count: the greatest that there can be.
+    let greatest = [(0, 1), (1, 0x7FF), (2, 16), (11, 1), (12, 127), (13, 128)];
+    for (place, number) in greatest {
+        let mut words = one;
+        words[place] = number;
+        assert!(Handler::from_words(words).is_ok(), "{place}: {number}");
+        for above in [number + 1, number + (1 << 8), number + (1 << 16), number + (1 << 32), u64::MAX] {
+            words[place] = above;
+            assert_eq!(Handler::from_words(words), Err(Refusal::MalformedRecord), "{place}: {above}");
+        }
+    }
+    for keyboards in [0, 3, 1 + (1 << 32), 2 + (1 << 32), u64::MAX] {
+        let mut words = two;
+        words[10] = keyboards;
+        assert_eq!(Handler::from_words(words), Err(Refusal::MalformedRecord));
+    }
+    // Of a side that is not at the table nothing is asked.
+    for place in 5..8 {
+        for (mut words, taken) in [(one, true), (two, false)] {
+            words[place] = u64::MAX;
+            assert_eq!(Handler::from_words(words).is_ok(), taken);
+        }
+    }
+    let dispatcher = *Dispatcher::new(Keyboards::Two, Profile::Any, Identity::Wheel).words();
+    for (place, number, taken) in [(144, 0, true), (144, 4, true), (144, 5, false), (144, 3 + (1 << 32), false), (148, 3, true), (148, 4, false), (145, u64::MAX, true)] {
+        let mut words = dispatcher;
+        words[place] = number;
+        assert_eq!(Dispatcher::from_words(words).is_ok(), taken, "{place}: {number}");
+    }
 }
 
 #[test]
