@@ -20,7 +20,7 @@ use Rattle.ps2_answers.specs.Refusals.{Success, refused}
 use Rattle.ps2_answers.specs.Answers.{ended, outcome_of}
 use Rattle.ps2_answers.proofs.Forgiving.{said, outcome, lacked}
 use Rattle.ps2_mouse.specs.Mouse.{mouse_id}
-use Rattle.ps2_mouse_identity.specs.Identity.{set_rates, identity_after, wheel_rates, button_rates, read_id, read_or, second_identity, after_first}
+use Rattle.ps2_mouse_identity.specs.Identity.{set_rates, identity_if_read, wheel_rates, button_rates, read_id, read_or, second_identity, after_first}
 use Rattle.ps2_mouse_identity.specs.Answers.{identity_brought}
 
 module _ (rates : List MouseSampleRate) (g : Option MouseId → Exchange (Answer MouseId)) (h : Answer MouseId → Exchange (Answer MouseId))
@@ -29,14 +29,14 @@ module _ (rates : List MouseSampleRate) (g : Option MouseId → Exchange (Answer
   unfolding bind
   asked_then = ap (λ (k : Answer MouseId → Exchange (Answer MouseId)). bind mouse_id k) (fun_ext same)
 
-  identity_then : and_then (identity_after rates) g ≡ and_then (set_rates rates) (λ _. bind mouse_id h)
-  unfolding identity_after and_then
+  identity_then : and_then (identity_if_read rates) g ≡ and_then (set_rates rates) (λ _. bind mouse_id h)
+  unfolding identity_if_read and_then
   identity_then =
       and_then_assoc (set_rates rates) (λ _. bind mouse_id (λ id. done (gives (read_id id)))) g
       ∙ ap (λ (k : Exchange (Answer MouseId)). and_then (set_rates rates) (λ (_ : Success). k))
       (bind_assoc mouse_id (λ id. done (gives (read_id id))) (on_given g) ∙ asked_then)
 
-  grouped : (s l : List ℕ) {o : Played (Answer MouseId)} → o ≡ play (and_then (identity_after rates) g) s l → o ≡ play (and_then (set_rates rates) (λ _. bind mouse_id h)) s l
+  grouped : (s l : List ℕ) {o : Played (Answer MouseId)} → o ≡ play (and_then (identity_if_read rates) g) s l → o ≡ play (and_then (set_rates rates) (λ _. bind mouse_id h)) s l
   grouped s l q = rw identity_then at q
 
 -- ---- what was read, by the outcome of asking
@@ -66,7 +66,7 @@ read_first old (gives Three) = refl
 read_first old (gives Four) = refl
 read_first old (refuses n) = refl
 
-pub first_grouped : (old : MouseId) (s l : List ℕ) {o : Played (Answer MouseId)} → o ≡ play (and_then (identity_after wheel_rates) (after_read old)) s l
+pub first_grouped : (old : MouseId) (s l : List ℕ) {o : Played (Answer MouseId)} → o ≡ play (and_then (identity_if_read wheel_rates) (after_read old)) s l
     → o ≡ play (and_then (set_rates wheel_rates) (λ _. bind mouse_id (λ first. after_first old first))) s l
 first_grouped old s l q = grouped wheel_rates (after_read old) (λ first. after_first old first) (read_first old) s l q
 
@@ -80,7 +80,7 @@ read_second old (gives id) = refl
 read_second old (refuses n) = refl
 
 pub second_grouped : (old : MouseId) (s l : List ℕ) {o : Played (Answer MouseId)}
-    → o ≡ play (and_then (identity_after button_rates) (given_or old)) s l → o ≡ play (and_then (set_rates button_rates) (λ _. second_identity old)) s l
+    → o ≡ play (and_then (identity_if_read button_rates) (given_or old)) s l → o ≡ play (and_then (set_rates button_rates) (λ _. second_identity old)) s l
 unfolding second_identity
 second_grouped old s l q =
     grouped button_rates (given_or old) (λ second. done (gives (read_or old second))) (read_second old) s l q

@@ -22,9 +22,9 @@ abbrev pub read_id : Answer MouseId → Option MouseId
 read_id (gives id) = Some id
 read_id (refuses n) = None
 
--- Rates, and then the identity: what was read of the mouse's answer to F2, unless a rate was refused.
-unfoldable pub identity_after : List MouseSampleRate → Exchange (Answer (Option MouseId))
-identity_after rates = and_then (set_rates rates) (λ _. bind mouse_id (λ id. done (gives (read_id id))))
+-- Rates, and then the identity, if it could be read: which refusal F2 gave is forgotten here, as "a failed first identity is forgiven".
+unfoldable pub identity_if_read : List MouseSampleRate → Exchange (Answer (Option MouseId))
+identity_if_read rates = and_then (set_rates rates) (λ _. bind mouse_id (λ id. done (gives (read_id id))))
 
 -- "rates 200, 100, 80", which ask for identity 3; "rates 200, 200, 80", which ask for 4.
 abbrev pub wheel_rates : List MouseSampleRate

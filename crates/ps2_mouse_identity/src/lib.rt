@@ -6,7 +6,7 @@ ghost use Rattle.exchange.specs.Exchange.{bind, play};
 ghost use Rattle.exchange.specs.Answer.{gives, and_then};
 ghost use Rattle.ps2_answers.specs.Answers.{ended, used_of, pairs_of, told, PlaysLeftTold};
 ghost use Rattle.ps2_mouse.specs.Mouse.{mouse_id as mouse_id_rule};
-ghost use Rattle.ps2_mouse_identity.specs.Identity.{set_rates, identity_after, wheel_rates, button_rates, second_identity, after_first, new_identity, start_packets, set_mouse_id};
+ghost use Rattle.ps2_mouse_identity.specs.Identity.{set_rates, identity_if_read, wheel_rates, button_rates, second_identity, after_first, new_identity, start_packets, set_mouse_id};
 ghost use Rattle.ps2_mouse_identity.specs.Answers.{said_mouse, identity_brought};
 
 use ps2_answers::{Answer, Counted, Failure, Refusal, outcome};
@@ -113,7 +113,7 @@ fn identity_after(
     log: &mut [u8],
     rates: [MouseSampleRate; 3],
 ) -> Answer<Option<MouseId>>
-    ensures { told result log.new ≡ play (identity_after rates) script.now log.old }
+    ensures { told result log.new ≡ play (identity_if_read rates) script.now log.old }
 {
     let set = set_rates(script, log, rates)?;
     let tail = 2 * set.pairs;

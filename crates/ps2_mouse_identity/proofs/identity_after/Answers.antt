@@ -10,18 +10,18 @@ use Rattle.ps2_bytes.specs.declared.response.MouseId.{MouseId}
 use Rattle.ps2_answers.specs.Refusals.{Success}
 use Rattle.ps2_answers.proofs.Then.{exit, first_steps, first_stops, then_ends}
 use Rattle.ps2_mouse.specs.Mouse.{mouse_id}
-use Rattle.ps2_mouse_identity.specs.Identity.{set_rates, identity_after, read_id}
+use Rattle.ps2_mouse_identity.specs.Identity.{set_rates, identity_if_read, read_id}
 use Rattle.ps2_mouse_identity.proofs.identity_after.Goals as goal
 
 abbrev asking : Success → Exchange (Answer (Option MouseId))
 asking _ = bind mouse_id (λ id. done (gives (read_id id)))
 
 pub returns-in_err-set : goal.returns-in_err-set
-unfolding identity_after
+unfolding identity_if_read
 returns-in_err-set c = rw (exit _ _ c.from_residual.ensures.1) (first_stops (set_rates c.args.rates) asking _ _ _ c.in_err-set.ensures)
 
 pub returns : goal.returns
-unfolding identity_after
+unfolding identity_if_read
 returns c =
     rw c.then.ensures
     (then_ends (omega (arith, c.well_formed)) (omega (arith, c.well_formed)) c.in_ok-set.set _
