@@ -9,6 +9,7 @@ pub mod History
 pub mod NothingLost
 pub mod KeyboardHistory
 pub mod Shares
+pub mod OwnEvents
 pub mod Laid
 pub mod Unrated
 pub mod Referees

@@ -1,8 +1,8 @@
--- What two keyboards are promised of the one queue, over every list of calls: a side with few events waiting is never refused for want of room, and its own events are all there but for those that were.
+-- What two keyboards are promised of the one queue, over every list of calls: a side with few events waiting is never refused for want of room.
 -- Assumes nothing.
-use mathlib.Core.Path.{◌≡◌, refl, ap, sym, ◌∙◌}
+use mathlib.Core.Path.{◌≡◌, refl, sym, ◌∙◌}
 use mathlib.Core.Bool.{Bool, true, false}
-use mathlib.Core.List.{List, ◌++◌}
+use mathlib.Core.List.{List}
 use mathlib.Core.Logic.{⊎_elim}
 use mathlib.Core.Option.{Option, none, some}
 use Prim.Native.Nat.{ℕ, ◌<◌, ◌≤◌}
@@ -28,11 +28,11 @@ use Rattle.keyboard_scancodes.specs.Events.{event_of, gives_event}
 use Rattle.keyboard_history.specs.Past.{Past, ◌▸◌}
 use Rattle.keyboard_history.specs.Said.{flags_said, event_given}
 use Rattle.keyboard_history.specs.Counted.{Call, counted_of, scancode_of}
-use Rattle.keyboard_history.specs.Row.{less_met, any_met, given_to, event_of_call, newly, row, given}
-use Rattle.keyboard_history.specs.Run.{after, takings, events_taken}
+use Rattle.keyboard_history.specs.Row.{any_met, given_to, event_of_call, newly, row}
+use Rattle.keyboard_history.specs.Run.{after}
 use Rattle.keyboard_history.proofs.Row.{given_none, given_one, met_none, met_one}
 use Rattle.keyboard_history.proofs.AsSaid.{as_meets}
-use Rattle.keyboard_history.proofs.History.{as_after, step_ends, history}
+use Rattle.keyboard_history.proofs.History.{as_after, step_ends}
 
 module _ {A : Type 0} (table : Table) (lamps : Side → ℕ → Exchange (Answer A)) (calls : Past Call) (side : Side) where
   -- "and below 32 never meets 20 or 31": a call for a side of which fewer than 32 events wait after a list of calls is answered neither
@@ -70,7 +70,3 @@ module _ {A : Type 0} (table : Table) (lamps : Side → ℕ → Exchange (Answer
     pub below_32 : (script log : List ℕ)
         → let end = (handled lamps side (after table lamps calls) script log).end in (ends_with 20 end ≡ false) × (ends_with 31 end ≡ false)
     below_32 script log = (never 20 (omega arith) (λ e. omega arith) (λ e. omega arith) script log, never 31 (omega arith) (λ e. omega arith) (λ e. omega arith) script log)
-
-  -- "its events lacking only those that met 31 or 20 or still wait": of each side, the events taken, then those waiting, are its events given less those that met 33, 31 or 20
-  pub side_taken_then_waiting : of_side side (events_taken (takings table lamps calls) ++ waiting (after table lamps calls)) ≡ of_side side (less_met (given table lamps calls))
-  side_taken_then_waiting = ap (of_side side) (history table lamps calls).taken_then_waiting

@@ -6,6 +6,7 @@ pub mod Waited
 pub mod Row
 pub mod Run
 pub mod History
+pub mod OwnEvents
 pub mod Referees
 pub mod NothingLost
 pub mod Bytes

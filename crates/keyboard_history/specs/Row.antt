@@ -1,6 +1,6 @@
 -- The row of waiting events, one for both sides, kept from the list of calls alone, and the events that joined it or met 33, 96 of their side or 128.
 -- Assumes nothing.
-use Rattle.std.specs.Prelude.{Bool, false, ◌||◌, List, [], ◌∷◌, ◌++◌, map, ℕ, eqb}
+use Rattle.std.specs.Prelude.{Bool, false, cond, ◌||◌, List, [], ◌∷◌, ◌++◌, map, ℕ, eqb}
 use Rattle.std.proofs.Math.Option.{Option, none, some}
 use Rattle.exchange.specs.Exchange.{Exchange}
 use Rattle.exchange.specs.Answer.{Answer, gives, number_answered}
@@ -8,6 +8,7 @@ use Rattle.ps2_answers.specs.Refusals.{Success}
 use Rattle.keycodes_ascii.specs.declared.KeyEvent.{KeyEvent}
 use Rattle.keyboard_scancodes.specs.declared.Profile.{Profile}
 use Rattle.keyboard_sides.specs.declared.Side.{Side}
+use Rattle.keyboard_sides.specs.Sides.{same_side}
 use Rattle.keyboard_sides.specs.Named.{Sided, sides_in}
 use Rattle.keyboard_record.specs.declared.Table.{Table}
 use Rattle.keyboard_record.specs.Queue.{admits, if_given}
@@ -28,6 +29,16 @@ events (g ∷ given) = g.event ∷ events given
 unfoldable pub less_met : List Given → List (Sided KeyEvent)
 less_met [] = []
 less_met (g ∷ given) = if_given g.met (g.event ∷ less_met given) (less_met given)
+
+-- What the events given of a side met, in order; and events less those that met 33, 31 or 20, where the first of them met the first of these, and so on.
+unfoldable pub met_by : Side → List Given → List (Answer Success)
+met_by side [] = []
+met_by side (g ∷ given) = cond (same_side side g.event.side) (g.met ∷ met_by side given) (met_by side given)
+
+unfoldable pub less_those : List (Answer Success) → List KeyEvent → List KeyEvent
+less_those [] es = []
+less_those (met ∷ more) [] = []
+less_those (met ∷ more) (e ∷ es) = if_given met (e ∷ less_those more es) (less_those more es)
 
 -- Whether one of them met what the number n refuses: 33, a key outside the profile; 31, 96 waiting of its side; or 20, 128 waiting.
 unfoldable pub any_met : ℕ → List Given → Bool
