@@ -74,6 +74,6 @@ worked_positions =
     & (refl & refl & all)
     & (refl & refl & all)
     & (whatever & whatever & all)
-    & (refl & refl & all)
+    & (refl & refl & refl & refl & all)
     & (refl & all)
     & all

@@ -3,7 +3,7 @@
 use Rattle.std.specs.Prelude.{List, [], ◌∷◌, pos, neg_ℤ}
 use Rattle.keycodes_ascii.specs.declared.KeyAction.TheVariants.{Pressed, Released}
 use Rattle.keycodes_ascii.specs.declared.Keycode.TheVariants.{A, Num1, Menu, OverflowError}
-use Rattle.keyboard_modifiers.specs.Flags.{shift_left, control_left, control_right, caps_lock, num_lock}
+use Rattle.keyboard_modifiers.specs.Flags.{shift_left, shift_right, control_left, control_right, caps_lock, num_lock}
 use Rattle.ps2_bytes.specs.declared.command.HostToMouseCommand.TheVariants.{GetDeviceID}
 use Rattle.ps2_bytes.specs.declared.response.MouseId.TheVariants.{Three, Four}
 use Rattle.worked.specs.Positions.{event, writes, no_event, flags, refused, used, log, scripts, scancodes, x_is, wheel_is, character, mouse_sends, Row, row}
@@ -32,8 +32,10 @@ table =
     ∷ row 10 (x_is (0x48 ∷ 0x00 ∷ 0x00 ∷ []) (pos 255) ∷ x_is (0x58 ∷ 0x00 ∷ 0x00 ∷ []) (neg_ℤ (pos 1)) ∷ [])
     -- Byte 4 0F at identity 4: wheel 15. FF at identity 3: -1.
     ∷ row 11 (wheel_is Four 0x0F (pos 15) ∷ wheel_is Three 0xFF (neg_ℤ (pos 1)) ∷ [])
-    -- Shift and caps: Num1 '!', A 'a'.
-    ∷ row 12 (character (shift_left ∷ caps_lock ∷ []) Num1 "!" ∷ character (shift_left ∷ caps_lock ∷ []) A "a" ∷ [])
+    -- Shift and caps: Num1 '!', A 'a'. Either Shift.
+    ∷ row 12
+    (character (shift_left ∷ caps_lock ∷ []) Num1 "!" ∷ character (shift_left ∷ caps_lock ∷ []) A "a"
+    ∷ character (shift_right ∷ caps_lock ∷ []) Num1 "!" ∷ character (shift_right ∷ caps_lock ∷ []) A "a" ∷ [])
     -- Mouse F2, script 00 01 FE 00 01 FA: log 64 D4 60 F2 60 F2.
     ∷ row 13 (mouse_sends GetDeviceID (0x00 ∷ 0x01 ∷ 0xFE ∷ 0x00 ∷ 0x01 ∷ 0xFA ∷ []) (0x64 ∷ 0xD4 ∷ 0x60 ∷ 0xF2 ∷ 0x60 ∷ 0xF2 ∷ []) ∷ [])
     ∷ []
