@@ -1,6 +1,6 @@
 -- A listing is what the history rule's words say byte by byte; 3, 20, 21, 31 and 33 never occur. So it has a line at most for each script byte, since a byte that waited was one, and 13 bytes for each hold it.
 -- Assumes nothing.
-use mathlib.Core.Path.{◌≡◌, refl, ap, ◌∙◌}
+use mathlib.Core.Path.{◌≡◌, refl, sym, ap, ◌∙◌}
 use mathlib.Core.Bool.{Bool, true, false, cond}
 use mathlib.Core.List.{List, [], ◌∷◌, ◌++◌, append-nil}
 use mathlib.Core.Option.{Option, none, some}
@@ -30,14 +30,14 @@ use Rattle.keyboard_scancodes.specs.Waiting.{waiting_bytes}
 use Rattle.keyboard_history.specs.Past.{Past, nothing, ◌▸◌}
 use Rattle.keyboard_history.specs.Said.{flags_said}
 use Rattle.keyboard_record.specs.Taking.{taken}
-use Rattle.keyboard_history.proofs.AsKeyboard.{as_bytes}
+use Rattle.keyboard_history.proofs.AsKeyboard.{as_bytes, as_then}
 use Rattle.keyboard_history.proofs.Row.{sided}
 use Rattle.key_listing.specs.Text.{ascii, digits, decimal}
 use Rattle.key_listing.specs.Lines.{action_text, character_text, event_line, taken_line, refusal_line}
-use Rattle.key_listing.specs.Listing.{script_limit, free_log, at_first, call_on, record_after, bytes_left, calls_text, listing}
-use Rattle.key_listing.specs.Listed.{waits_then, After, Listed, used_up, an_event, no_event, a_19, a_2}
+use Rattle.key_listing.specs.Listing.{script_limit, table, free_log, at_first, call_on, record_after, bytes_left, calls_text, listing}
+use Rattle.key_listing.specs.Listed.{waits_then, cut_short, lamps_read, After, Listed, used_up, an_event, no_event, a_19, a_2}
 use Rattle.key_listing.proofs.Calls.{took_length, script_behind, count_behind, call_text_lem, calls_over, calls_last, calls_more}
-use Rattle.key_listing.proofs.Used.{used_behind, behind_le, plain_used}
+use Rattle.key_listing.proofs.Used.{used_behind, behind_le, used_lem}
 use Rattle.key_listing.proofs.Steps.{AsOne, one_fresh, Step, step_2, step_19, step_silent, step_event, step}
 
 -- ---- the lines
@@ -62,36 +62,40 @@ module _ (n : ℕ) {h : KeyboardHandler} {bytes : Past ℕ} {ws : List ℕ} (a :
   some_left : 0 < bytes_left h s
   some_left = omega (arith, took_length ws s g, as_bytes (a.at Side.First))
 
-  after_byte : ends2_3_21 (call_on h s).end ≡ false → AsOne (record_after h s) (bytes ▸ t.byte) (waits_then bytes ws s) [] → After t (waits_then bytes ws s) left
-  after_byte e r =
+  -- the bytes that its lamp exchange read are those that the call used behind it
+  read_is : used_behind (rules_at h.state.table keyboard_lamps Side.First) h.state.first t free_log ≡ lamps_read bytes t
+  read_is =
+      rw (a.laid, sym (as_then (a.at Side.First) t.byte)) (used_lem (rules_at table keyboard_lamps Side.First) h.state.first t free_log)
+
+  after_byte : ends2_3_21 (call_on h s).end ≡ false → cut_short bytes t ≡ false → AsOne (record_after h s) (bytes ▸ t.byte) (waits_then bytes ws s) [] → After bytes t (waits_then bytes ws s) left
+  after_byte e u r =
       record {
-        read = used_behind (rules_at h.state.table keyboard_lamps Side.First) h.state.first t free_log;
-        locks_only = λ k. plain_used (rules_at h.state.table keyboard_lamps Side.First) h.state.first t free_log (rw a.laid k);
-        in_script = behind_le (rules_at h.state.table keyboard_lamps Side.First) h.state.first t free_log;
-        is_left = script_behind h s e t took_so;
-        few_new = omega (arith, as_bytes (r.at Side.First), count_behind h s e t took_so);
+        not_cut = u;
+        in_script = rw read_is at (behind_le (rules_at h.state.table keyboard_lamps Side.First) h.state.first t free_log);
+        is_left = script_behind h s e t took_so ∙ ap (λ (n : ℕ). drop n t.script) read_is;
+        few_new = omega (arith, as_bytes (r.at Side.First), count_behind h s e t took_so, read_is);
       }
 
   -- a call that another follows: its line, and the text of what is left
   goes_on : {x : End (Answer Success)} {y : Answer (Option (Sided KeyEvent))} {line : List ℕ} → (call_on h s).end ≡ x → (taken (call_on h s).handler).answer ≡ y
-      → AsOne (record_after h s) (bytes ▸ t.byte) (waits_then bytes ws s) [] → ends2_3_21 x ≡ false → refusal_line (number_ended x) ++ taken_line y ≡ line
-      → (After t (waits_then bytes ws s) left → Listed bytes ws s (line ++ calls_text n (record_after h s) left)) → Listed bytes ws s (calls_text (suc n) h s)
-  goes_on x y r e l more =
+      → cut_short bytes t ≡ false → AsOne (record_after h s) (bytes ▸ t.byte) (waits_then bytes ws s) [] → ends2_3_21 x ≡ false → refusal_line (number_ended x) ++ taken_line y ≡ line
+      → (After bytes t (waits_then bytes ws s) left → Listed bytes ws s (line ++ calls_text n (record_after h s) left)) → Listed bytes ws s (calls_text (suc n) h s)
+  goes_on x y u r e l more =
       let f = ap ends2_3_21 x ∙ e in
-      rw (calls_more n h s some_left f, call_text_lem h s (ap number_ended x) y ∙ l) (more (after_byte f r))
+      rw (calls_more n h s some_left f, call_text_lem h s (ap number_ended x) y ∙ l) (more (after_byte f u r))
 
-  by_step : (AsOne (record_after h s) (bytes ▸ t.byte) (waits_then bytes ws s) [] → After t (waits_then bytes ws s) left → Listed (bytes ▸ t.byte) (waits_then bytes ws s) left (calls_text n (record_after h s) left))
+  by_step : (AsOne (record_after h s) (bytes ▸ t.byte) (waits_then bytes ws s) [] → After bytes t (waits_then bytes ws s) left → Listed (bytes ▸ t.byte) (waits_then bytes ws s) left (calls_text n (record_after h s) left))
       → Step h bytes ws s t → Listed bytes ws s (calls_text (suc n) h s)
   by_step ih (step_2 p k x y) =
       rw (calls_last n h s some_left (ap ends2_3_21 x), call_text_lem h s (ap number_ended x) y, append-nil (refusal_line 2)) (a_2 g k)
-  by_step ih (step_19 q v x y r) = goes_on x y r refl (append-nil (refusal_line 19)) (λ f. a_19 g q v f (ih r f))
-  by_step ih (step_silent q x y r) = goes_on x y r refl silent_line (λ f. no_event g q f (ih r f))
-  by_step ih (step_event v x y r) = goes_on x y r refl (event_line_lem (event_of t.byte (flags_said Profile.Any (bytes ▸ t.byte)))) (λ f. an_event g v f (ih r f))
+  by_step ih (step_19 u q v x y r) = goes_on x y u r refl (append-nil (refusal_line 19)) (λ f. a_19 g q v f (ih r f))
+  by_step ih (step_silent u q x y r) = goes_on x y u r refl silent_line (λ f. no_event g q f (ih r f))
+  by_step ih (step_event u v x y r) = goes_on x y u r refl (event_line_lem (event_of t.byte (flags_said Profile.Any (bytes ▸ t.byte)))) (λ f. an_event g v f (ih r f))
 
 -- for each byte that is taken one fewer is left
-left_le : (ws s : List ℕ) {waits left : List ℕ} {t : Took} → takes ws s ≡ some t → After t waits left → length waits + length left < length ws + length s
-left_le ws s {t = t} g f =
-    omega (arith, took_length ws s g, f.few_new, f.in_script, ap length f.is_left, length-drop f.read t.script)
+left_le : {bytes : Past ℕ} (ws s : List ℕ) {waits left : List ℕ} {t : Took} → takes ws s ≡ some t → After bytes t waits left → length waits + length left < length ws + length s
+left_le {bytes} ws s {t = t} g f =
+    omega (arith, took_length ws s g, f.few_new, f.in_script, ap length f.is_left, length-drop (lamps_read bytes t) t.script)
 
 one_listed : (n : ℕ) {h : KeyboardHandler} {bytes : Past ℕ} {ws : List ℕ} (s : List ℕ) (t : Took) → length ws + length s ≤ suc n → AsOne h bytes ws [] → takes ws s ≡ some t
     → ((h : KeyboardHandler) (bytes : Past ℕ) (ws s : List ℕ) → length ws + length s ≤ n → AsOne h bytes ws [] → Listed bytes ws s (calls_text n h s))

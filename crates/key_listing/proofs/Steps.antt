@@ -1,12 +1,12 @@
 -- A call of a listing: its record is as the counted bytes say, with an empty queue. What it answers, what is then taken, and that the record after it is so again.
 -- Assumes nothing.
 use mathlib.Core.Path.{◌≡◌, refl, ap, sym, subst, ◌∙◌}
-use mathlib.Core.Bool.{Bool, true, false, not, cond, ◌&&◌, true≢false}
+use mathlib.Core.Bool.{Bool, true, false, not, cond, true≢false}
 use mathlib.Core.List.{List, [], ◌∷◌, map}
 use mathlib.Core.Option.{Option, none, some}
 use Prim.Native.Nat.{ℕ}
 use native.Mathlib.Omega.{arith}
-use Rattle.exchange.specs.Exchange.{Port, no_script, no_log, Exchange, End, yields, lacks, play}
+use Rattle.exchange.specs.Exchange.{Port, no_script, no_log, Exchange, End, yields, lacks}
 use Rattle.exchange.specs.Answer.{Answer, gives, refuses}
 use Rattle.ps2_answers.specs.Refusals.{Success, success}
 use Rattle.exchange.proofs.Bounds.{within_room}
@@ -18,10 +18,9 @@ use Rattle.keyboard_sides.specs.Named.{Sided, sides_in}
 use Rattle.keyboard_scancodes.specs.declared.KeyboardState.{KeyboardState}
 use Rattle.keyboard_scancodes.specs.Events.{event_of, gives_event}
 use Rattle.keyboard_scancodes.specs.declared.Profile.{Profile}
-use Rattle.keyboard_scancodes.specs.Profile.{allows, presses_followed}
+use Rattle.keyboard_scancodes.specs.Profile.{allows}
 use Rattle.keyboard_scancodes.specs.FlagsAfter.{flags_then}
 use Rattle.keyboard_scancodes.specs.Strokes.{is_silent}
-use Rattle.keyboard_scancodes.specs.Lamps.{lamps_lit}
 use Rattle.keyboard_scancodes.specs.Waiting.{waiting_bytes}
 use Rattle.keyboard_scancodes.proofs.Silent.{silent_gives, key_gives}
 use Rattle.keyboard_record.specs.declared.HandlerState.{HandlerState}
@@ -33,7 +32,7 @@ use Rattle.keyboard_record.specs.Taking.{taken}
 use Rattle.keyboard_record.proofs.AtSides.{place_with}
 use Rattle.keyboard_record.proofs.WellFormed.{is_call}
 use Rattle.keyboard.specs.Rules.{Rules, rules_of, rules_at}
-use Rattle.keyboard.specs.Scancode.{Took, takes, ran_out, scancode}
+use Rattle.keyboard.specs.Scancode.{Took, takes, scancode}
 use Rattle.keyboard.specs.Byte.{Keyed, key_event, after_lamps}
 use Rattle.keyboard.specs.Handler.{Outcome, queued, effects, handled}
 use Rattle.keyboard.specs.KeyboardLamps.{keyboard_lamps}
@@ -50,7 +49,7 @@ use Rattle.keyboard_history.proofs.AsKeyboard.{AsKeyboard, scanned_said}
 use Rattle.keyboard_history.proofs.AsSaid.{As, as_fresh, as_admits, as_taken, as_handled, own_keyboard, other_keyboard}
 use Rattle.keyboard_history.proofs.Row.{sided, given_none, given_one}
 use Rattle.key_listing.specs.Listing.{table, free_log, at_first, call_on, record_after}
-use Rattle.key_listing.specs.Listed.{waits_then}
+use Rattle.key_listing.specs.Listed.{waits_then, cut_short}
 use Rattle.key_listing.proofs.Used.{same_took}
 
 -- ---- a record of one keyboard, that is as its counted and waiting bytes say; the second side's is as in a fresh record
@@ -76,21 +75,25 @@ one_fresh =
 
 -- the ends of such a call, where it takes the byte t, with what the taking after it brings
 pub data Step (h : KeyboardHandler) (bytes : Past ℕ) (ws s : List ℕ) (t : Took) : Type 0 where
-  step_2 : (p : Port) → presses_followed Profile.Any t.byte ≡ true → (call_on h s).end ≡ lacks (no_script p)
+  step_2 : (p : Port) → cut_short bytes t ≡ true → (call_on h s).end ≡ lacks (no_script p)
       → (taken (call_on h s).handler).answer ≡ gives none → Step h bytes ws s t
-  step_19 : is_silent t.byte ≡ false → gives_event t.byte ≡ false → (call_on h s).end ≡ yields (refuses 19)
+  step_19 : cut_short bytes t ≡ false → is_silent t.byte ≡ false → gives_event t.byte ≡ false → (call_on h s).end ≡ yields (refuses 19)
       → (taken (call_on h s).handler).answer ≡ gives none → AsOne (record_after h s) (bytes ▸ t.byte) (waits_then bytes ws s) [] → Step h bytes ws s t
-  step_silent : is_silent t.byte ≡ true → (call_on h s).end ≡ yields (gives success)
+  step_silent : cut_short bytes t ≡ false → is_silent t.byte ≡ true → (call_on h s).end ≡ yields (gives success)
       → (taken (call_on h s).handler).answer ≡ gives none → AsOne (record_after h s) (bytes ▸ t.byte) (waits_then bytes ws s) [] → Step h bytes ws s t
-  step_event : gives_event t.byte ≡ true → (call_on h s).end ≡ yields (gives success)
+  step_event : cut_short bytes t ≡ false → gives_event t.byte ≡ true → (call_on h s).end ≡ yields (gives success)
       → (taken (call_on h s).handler).answer ≡ gives (some (sided Side.First (event_of t.byte (flags_said Profile.Any (bytes ▸ t.byte)))))
       → AsOne (record_after h s) (bytes ▸ t.byte) (waits_then bytes ws s) [] → Step h bytes ws s t
 
 -- ---- the byte that is counted is the one that is taken, unless the lamp exchange of a lock runs out
 
-none_lock : (c x : Bool) (b : ℕ) → cond (not (c && x)) (some b) none ≡ none → c ≡ true
-none_lock true x b e = refl
-none_lock false x b e = cc
+none_cut : (c : Bool) (b : ℕ) → cond (not c) (some b) none ≡ none → c ≡ true
+none_cut true b e = refl
+none_cut false b e = cc
+
+some_uncut : (c : Bool) (b : ℕ) → cond (not c) (some b) none ≡ some b → c ≡ false
+some_uncut true b e = cc
+some_uncut false b e = refl
 
 -- every event joins an empty row
 room_in_none : (key : Keycode) → admits table Side.First (sides_in {A = KeyEvent} []) key ≡ gives success
@@ -125,12 +128,13 @@ module _ {h : KeyboardHandler} {bytes : Past ℕ} {ws : List ℕ} (a : AsOne h b
   abbrev scanned : Option ℕ
   scanned = scancode_after (rules_of Profile.Any lamps) bytes ws s log
 
-  abbrev cut : Bool
-  cut = ran_out (play (lamps (lamps_lit (flags_said Profile.Any (bytes ▸ b)))) t.script log).end
-
-  lock_cut : scanned ≡ none → presses_followed Profile.Any b ≡ true
+  lock_cut : scanned ≡ none → cut_short bytes t ≡ true
   unfolding scancode_after scancode
-  lock_cut e = none_lock (presses_followed Profile.Any b) cut b (rw g at e)
+  lock_cut e = none_cut (cut_short bytes t) b (rw g at e)
+
+  not_cut : scanned ≡ some b → cut_short bytes t ≡ false
+  unfolding scancode_after scancode
+  not_cut e = some_uncut (cut_short bytes t) b (rw g at e)
 
   -- the event of the counted byte, if it gives one, waits alone
   after : (side : Side) → AsKeyboard Profile.Any (keyboard_at side (call_on h s).handler.state) (of_first (count bytes scanned) nothing side) (of_first (waits_then bytes ws s) [] side)
@@ -183,18 +187,18 @@ module _ {h : KeyboardHandler} {bytes : Past ℕ} {ws : List ℕ} (a : AsOne h b
   by_way o failed d q n (is_unknown c e) x =
       let v = key_gives b q false c in
       let w = given_none Profile.Any bytes b v in
-      step_19 q v (x ∙ ap (λ (p : Outcome). yields p.answer) (e failed d)) (took n w) (left n w)
+      step_19 (not_cut n) q v (x ∙ ap (λ (p : Outcome). yields p.answer) (e failed d)) (took n w) (left n w)
   by_way o failed d q n (is_met c m r e) x = absurd (gives_no_refusal (sym r ∙ has_room o _))
   by_way o failed d q n (is_queued c r e) x =
       let v = key_gives b q true c in
       let w = given_one Profile.Any bytes b v in
-      step_event v (x ∙ ap (λ (p : Outcome). yields p.answer) (e failed d)) (took n w) (left n w)
+      step_event (not_cut n) v (x ∙ ap (λ (p : Outcome). yields p.answer) (e failed d)) (took n w) (left n w)
 
   at_silent_byte : is_silent b ≡ true → scanned ≡ some b → (call_on h s).end ≡ yields (gives success) → Step h bytes ws s t
   unfolding record_after
   at_silent_byte q n x =
       let w = given_none Profile.Any bytes b (silent_gives b q) in
-      step_silent q x (took n w) (left n w)
+      step_silent (not_cut n) q x (took n w) (left n w)
 
   -- the scancode that the call counts by its record is the one that the bytes say
   said_so : {n : Option ℕ} → call_scanned_by rules ≡ n → scanned ≡ n

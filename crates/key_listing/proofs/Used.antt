@@ -13,7 +13,7 @@ use Rattle.exchange.specs.Exchange.{p60, p64, Exchange, done, read, write, bind,
 use Rattle.exchange.specs.Answer.{Answer}
 use Rattle.exchange.specs.Sequence.{follow}
 use Rattle.exchange.specs.Keeping.{Kept, kept, keeping}
-use Rattle.exchange.proofs.Keeping.{keeping-bind}
+use Rattle.exchange.proofs.Keeping.{keeping-bind, keeping_forgets}
 use Rattle.exchange.proofs.Kept.{used_le}
 use Rattle.exchange.proofs.Sequence.{play-bind}
 use Rattle.ps2_answers.specs.Refusals.{Success}
@@ -128,9 +128,18 @@ module _ {A : Type 0} (rules : Rules A) (h : KeyboardState) where
           key_used lock_no_silent ∙ ap (λ (x : Exchange (Kept (List ℕ) (Answer Success))). (play x t.script l).used) lock_bind
           ∙ used_done (λ x. kept (shown x.value) x.bytes) (keeping thrown [] lamps_alone) t.script l
 
+      -- the exchange reads as much with its note as without
+      lock_read : used_behind t l ≡ (play lamps_alone t.script l).used
+      lock_read =
+          lock_used ∙ sym (used_done (λ x. x.value) (keeping thrown [] lamps_alone) t.script l)
+          ∙ ap (λ (x : Exchange (Answer A)). (play x t.script l).used) (keeping_forgets thrown [] lamps_alone)
+
       lock_caught : length (caught rules (flags_then rules.profile h) t l) ≤ used_behind t l
       unfolding caught
       lock_caught = rw (k, lock_used) (rw zero-add at (thrown-le lamps_alone [] t.script l))
+
+    pub used_lem : used_behind t l ≡ cond (presses_followed rules.profile t.byte) (play lamps_alone t.script l).used 0
+    used_lem = ⊎_elim (λ k. rw k (lock_read k)) (λ k. rw k (plain_used k)) (which (presses_followed rules.profile t.byte))
 
     none_caught : presses_followed rules.profile t.byte ≡ false → length (caught rules (flags_then rules.profile h) t l) ≤ used_behind t l
     unfolding caught
