@@ -1,0 +1,8 @@
+-- `theseus_keycodes::KeyboardModifiers::toggle` meets its contract: it goes bit by bit.
+-- Assumes nothing.
+use native.Mathlib.Omega.{arith}
+use Rattle.bits.proofs.Masks.{xor_bitwise}
+use Rattle.theseus_keycodes.proofs.KeyboardModifiers.toggle.Goals as goal
+
+pub returns : goal.returns
+returns c = let a = c.args in xor_bitwise 16 a.self.now.bits a.other.bits (omega arith) (omega arith)

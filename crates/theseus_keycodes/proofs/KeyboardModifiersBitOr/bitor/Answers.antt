@@ -1,0 +1,8 @@
+-- `theseus_keycodes::KeyboardModifiers`'s `|` meets its contract: it goes bit by bit.
+-- Assumes nothing.
+use native.Mathlib.Omega.{arith}
+use Rattle.bits.proofs.Masks.{or_bitwise}
+use Rattle.theseus_keycodes.proofs.KeyboardModifiersBitOr.bitor.Goals as goal
+
+pub returns : goal.returns
+returns c = let a = c.args in or_bitwise 16 a.self.bits a.other.bits (omega arith) (omega arith)

@@ -1,0 +1,4 @@
+-- The Rust's flags, keycodes and events, and ours.
+pub mod Flags
+pub mod Keycode
+pub mod Events
