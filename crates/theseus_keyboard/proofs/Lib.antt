@@ -1,0 +1,9 @@
+-- Lemmas.
+pub mod HandlerFlags
+pub mod HandlerEvents
+pub mod HandlerBytes
+pub mod Call
+pub mod Left
+pub mod Agree
+pub mod Detected
+pub mod Told

@@ -1,0 +1,3 @@
+-- What the Rust's handler does.
+pub mod Handler
+pub mod Both
