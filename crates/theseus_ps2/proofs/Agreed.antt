@@ -20,7 +20,7 @@ use Rattle.ps2_answers.specs.Answers.{ended, used_of, pairs_of, told, ReadsTold,
 use Rattle.ps2_kept.specs.declared.KeptBytes.{KeptBytes}
 use Rattle.ps2_kept.specs.Kept.{nothing_kept, keeping_thrown, kept_at}
 use Rattle.ps2_kept.specs.Added.{others_limit, added_thrown, keeping_onto}
-use Rattle.ps2_kept.specs.Promises.{told_kept, ReadsKeptTold, PlaysKeptTold, PlaysLentTold}
+use Rattle.ps2_kept.specs.Promises.{told_kept, ReadsKeptTold, PlaysKeptTold}
 use Rattle.ps2_kept.proofs.Thrown.{keeping_thrown_lem}
 use Rattle.theseus_ps2.specs.Hardware.{Ran, ran, run}
 use Rattle.theseus_ps2.specs.Recording.{recording}
@@ -117,11 +117,6 @@ module _ {T : Type 0} (t : Exchange (Answer T)) (ours : Result (Counted T) (Coun
         let e : told_kept ours kept log' ≡ play (keeping_onto nothing_kept t) c.hardware.script.now c.hardware.log.now =
         rw (b.1, b.2, sym same, sym (keeping_thrown_lem h m)) p.plays in
         handed ours log' c'.hardware (subst (λ (x : Played (Kept KeptBytes (Answer T))). TellsKept x answer c'.hardware) (sym e) (tells_kept t c answer c' q b.0)) p.ended
-
-    -- that adds to bytes that it is lent, and is lent none
-    pub agree_lent : {log log' : List ℕ} {lent : KeptBytes} → lent ≡ nothing_kept → PlaysLentTold lent t script log ours log' kept → log ≡ rusts_log
-        → AgreeKept ours kept log' answer c'.hardware
-    agree_lent n p same = agree_kept (record { plays = rw (keeping_thrown_lem h m) (rw n at p.plays); ended = rw n at p.ended }) same
 
     pub agree_reads_kept : ReadsKeptTold (keeping_thrown t) script ours kept → AgreeKept ours kept rusts_log answer c'.hardware
     agree_reads_kept r =
