@@ -6,8 +6,11 @@ use crate::refusal::{settled, Counts, Done, Exchange, Refusal};
 /// What is known of the controller: whether it is initialised, and which devices are attached. The default is a controller at power-on.
 #[derive(Clone, Copy, Debug, Default, PartialEq, Eq, Hash)]
 pub struct Controller {
+    /// Whether the controller was initialised.
     pub initialized: bool,
+    /// Whether a keyboard is attached to the first port.
     pub keyboard: bool,
+    /// Whether a mouse is attached to the second port.
     pub mouse: bool,
 }
 

@@ -17,12 +17,15 @@ pub(crate) const LAST: usize = 148;
 /// What a step can serve.
 #[derive(Clone, Copy, Debug, PartialEq, Eq, Hash)]
 pub enum Source {
+    /// A side's keyboard.
     Keyboard(Side),
+    /// The mouse.
     Mouse,
 }
 
 impl Source {
     /// 1 and 2 the sides, 3 the mouse; 0 is nobody.
+    #[must_use]
     pub const fn number(self) -> u32 {
         match self {
             Source::Keyboard(side) => side.number(),
@@ -53,6 +56,7 @@ pub enum Step {
 
 impl Step {
     /// Whom it served.
+    #[must_use]
     pub fn source(&self) -> Option<Source> {
         match self {
             Step::Key(side, _) => Some(Source::Keyboard(*side)),
@@ -63,6 +67,7 @@ impl Step {
 
     /// Whether the source that was served got on: its script was used, or a waiting byte was taken.
     /// Where each of three steps in a row does not, and none is idle, no later step with the same scripts does either.
+    #[must_use]
     pub fn is_progress(&self) -> bool {
         match self {
             Step::Key(_, call) => {
@@ -104,6 +109,7 @@ pub struct Dispatcher {
 
 impl Dispatcher {
     /// A dispatcher that has served nobody, with a fresh handler and a mouse of this identity.
+    #[must_use]
     pub fn new(keyboards: Keyboards, profile: Profile, identity: Identity) -> Dispatcher {
         let mut words = [0; DISPATCHER_WORDS];
         let refusal = raw::vd_dispatcher_fresh(&mut words, keyboards.number(), profile.number(), identity.number());
@@ -127,6 +133,7 @@ impl Dispatcher {
     }
 
     /// The state's numbers, to be stored or sent.
+    #[must_use]
     pub fn words(&self) -> &[u64; DISPATCHER_WORDS] {
         &self.words
     }
@@ -154,26 +161,31 @@ impl Dispatcher {
     }
 
     /// How many events wait.
+    #[must_use]
     pub fn waiting_events(&self) -> usize {
         self.words[EVENTS_WAITING] as usize
     }
 
     /// How many bytes of a side wait to be handled: a lamp exchange caught them.
+    #[must_use]
     pub fn waiting_bytes(&self, side: Side) -> usize {
         waiting_bytes(&self.words, side)
     }
 
     /// How many bytes of a source's script are used.
+    #[must_use]
     pub fn place(&self, source: Source) -> usize {
         self.words[PLACES + source.number() as usize - 1] as usize
     }
 
     /// The mouse's identity.
+    #[must_use]
     pub fn identity(&self) -> Identity {
         Identity::of(self.words[IDENTITY])
     }
 
     /// Who was served last.
+    #[must_use]
     pub fn last_served(&self) -> Option<Source> {
         Source::of(self.words[LAST])
     }

@@ -22,7 +22,9 @@ use std::time::{Duration, Instant};
 
 /// The ports of a controller. A read of [`Port::Status`] gives the status; a write to it is a command to the controller.
 pub trait Ports {
+    /// Reads a byte of a port: the data port (60) or the status port (64).
     fn read(&mut self, port: Port) -> u8;
+    /// Writes a byte to a port.
     fn write(&mut self, port: Port, value: u8);
 }
 
@@ -169,6 +171,7 @@ impl SoFar {
 #[cfg(feature = "std")]
 #[derive(Clone, Debug)]
 pub struct Patient<P> {
+    /// The ports that are read and written.
     pub ports: P,
     limit: Duration,
     left: Duration,

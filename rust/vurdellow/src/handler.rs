@@ -23,12 +23,15 @@ pub(crate) const EVENTS_WAITING: usize = 13;
 /// How many keyboards the table has.
 #[derive(Clone, Copy, Debug, PartialEq, Eq, Hash)]
 pub enum Keyboards {
+    /// One keyboard, whose events may fill the queue of 128.
     One,
+    /// Two keyboards, of whose events each side may fill 96 places.
     Two,
 }
 
 impl Keyboards {
     /// 1 or 2.
+    #[must_use]
     pub const fn number(self) -> u32 {
         match self {
             Keyboards::One => 1,
@@ -40,12 +43,15 @@ impl Keyboards {
 /// Which keys are queued: any, or those of rated games, under which locks do nothing.
 #[derive(Clone, Copy, Debug, PartialEq, Eq, Hash)]
 pub enum Profile {
+    /// Every key makes an event.
     Any,
+    /// The keys of rated games alone make events; the others are refused, outside the profile (33).
     Tournament,
 }
 
 impl Profile {
     /// 0 or 1.
+    #[must_use]
     pub const fn number(self) -> u32 {
         match self {
             Profile::Any => 0,
@@ -111,6 +117,7 @@ pub struct Handler {
 
 impl Handler {
     /// A fresh handler: nothing held, no lock on, nothing waits.
+    #[must_use]
     pub fn new(keyboards: Keyboards, profile: Profile) -> Handler {
         let mut words = [0; HANDLER_WORDS];
         let refusal = raw::vd_handler_fresh(&mut words, keyboards.number(), profile.number());
@@ -137,6 +144,7 @@ impl Handler {
     }
 
     /// The record's numbers, to be stored or sent.
+    #[must_use]
     pub fn words(&self) -> &[u64; HANDLER_WORDS] {
         &self.words
     }
@@ -173,22 +181,32 @@ impl Handler {
     }
 
     /// How many events wait.
+    #[must_use]
     pub fn waiting_events(&self) -> usize {
         self.words[EVENTS_WAITING] as usize
     }
 
     /// How many bytes of a side wait to be handled: a lamp exchange caught them.
+    #[must_use]
     pub fn waiting_bytes(&self, side: Side) -> usize {
         waiting_bytes(&self.words, side)
     }
 
     /// The modifier keys of a side that are held, and its locks that are on.
+    #[must_use]
     pub fn modifiers(&self, side: Side) -> Modifiers {
         let at = match side {
             Side::First => FIRST_FLAGS,
             Side::Second => SECOND_FLAGS,
         };
         Modifiers::from_bits(self.words[at] as u16)
+    }
+}
+
+/// A fresh handler of one keyboard, every key of which makes an event.
+impl Default for Handler {
+    fn default() -> Handler {
+        Handler::new(Keyboards::One, Profile::Any)
     }
 }
 

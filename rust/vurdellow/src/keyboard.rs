@@ -15,6 +15,7 @@ pub struct Kept {
 
 impl Kept {
     /// The earliest bytes, at most 16, in order.
+    #[must_use]
     pub fn bytes(&self) -> &[u8] {
         &self.bytes[..self.count]
     }
@@ -23,8 +24,11 @@ impl Kept {
 /// What a command did, acknowledged or not.
 #[derive(Clone, Copy, Debug, Default, PartialEq, Eq)]
 pub struct Commanded {
+    /// How many script bytes were used.
     pub used: usize,
+    /// How many pairs, of port and value, were written.
     pub pairs: usize,
+    /// The bytes that were read and thrown away.
     pub kept: Kept,
 }
 
@@ -53,12 +57,17 @@ pub(crate) fn commanded(answer: raw::vd_kept) -> Command {
 pub struct Lamps(u8);
 
 impl Lamps {
+    /// No lamp.
     pub const NONE: Lamps = Lamps(0);
+    /// The Scroll Lock lamp.
     pub const SCROLL: Lamps = Lamps(1);
+    /// The Num Lock lamp.
     pub const NUM: Lamps = Lamps(2);
+    /// The Caps Lock lamp.
     pub const CAPS: Lamps = Lamps(4);
 
     /// The lamps as bits, 0 to 7.
+    #[must_use]
     pub const fn bits(self) -> u8 {
         self.0
     }
@@ -75,29 +84,43 @@ impl BitOr for Lamps {
 /// A scancode set.
 #[derive(Clone, Copy, Debug, PartialEq, Eq, Hash)]
 pub enum ScancodeSet {
+    /// Scan code set 1.
     Set1 = 1,
+    /// Scan code set 2, which keyboards speak when they are switched on.
     Set2 = 2,
+    /// Scan code set 3.
     Set3 = 3,
 }
 
 /// What [`detect`] recognises.
 #[derive(Clone, Copy, Debug, PartialEq, Eq, Hash)]
 pub enum KeyboardType {
+    /// An MF2 keyboard.
     Mf2Keyboard = 1,
+    /// An MF2 keyboard behind a controller that translates to set 1.
     Mf2KeyboardTranslated = 2,
+    /// An AT keyboard, which answers no identity.
     AncientAtKeyboard = 3,
 }
 
 /// The commands to a keyboard, each one byte.
 #[derive(Clone, Copy, Debug, PartialEq, Eq, Hash)]
 pub enum KeyboardCommand {
+    /// Sets the lamps; a data byte follows.
     SetLedStatus = 0xED,
+    /// Gets or sets the scan code set; a data byte follows.
     ScancodeSet = 0xF0,
+    /// Asks for the keyboard's identity.
     IdentifyKeyboard = 0xF2,
+    /// Sets repeat rate and delay; a data byte follows.
     SetRepeatRateAndDelay = 0xF3,
+    /// Starts the sending of keys.
     EnableScanning = 0xF4,
+    /// Stops the sending of keys.
     DisableScanning = 0xF5,
+    /// Asks for the last byte again.
     ResendByte = 0xFE,
+    /// Resets the keyboard, which then tests itself.
     ResetAndStartSelfTest = 0xFF,
 }
 

@@ -28,7 +28,7 @@
 
 #![cfg_attr(not(feature = "std"), no_std)]
 #![deny(unsafe_code)]
-#![warn(missing_debug_implementations, rust_2018_idioms)]
+#![warn(missing_debug_implementations, missing_docs, rust_2018_idioms)]
 
 mod bytes;
 mod controller;
@@ -48,7 +48,7 @@ pub use bytes::{convert_set2, salvage, type_text, Converted, Salvaged};
 pub use controller::Controller;
 pub use dispatcher::{Dispatcher, Source, Step, DISPATCHER_WORDS};
 pub use handler::{Events, Handled, Handler, Keyboards, Profile, HANDLER_LOG, HANDLER_WORDS, LOG_BYTES};
-pub use keys::{Action, Event, Keycode, Modifiers, Side};
+pub use keys::{Action, Event, Keycode, Modifiers, NoKeycode, Side};
 pub use mouse::{Identity, Mouse, MouseCommand, Packet, Resolution, SamplingRate};
 pub use preferences::{Fields, Preferences};
 pub use refusal::{Counted, Counts, Done, Exchange, Outcome, Port, Refusal, Refused};

@@ -18,11 +18,13 @@ pub enum Identity {
 
 impl Identity {
     /// 0, 3 or 4.
+    #[must_use]
     pub const fn number(self) -> u32 {
         self as u32
     }
 
     /// How many bytes a packet has.
+    #[must_use]
     pub const fn packet_length(self) -> usize {
         match self {
             Identity::NoWheel => 3,
@@ -54,26 +56,37 @@ pub struct Packet {
 
 impl Packet {
     /// The buttons as bits: 0 left, 1 right, 2 middle, 3 fourth, 4 fifth.
+    #[must_use]
     pub const fn buttons(&self) -> u8 {
         self.buttons
     }
 
+    /// Whether the left button is held.
+    #[must_use]
     pub const fn left(&self) -> bool {
         self.buttons & 1 != 0
     }
 
+    /// Whether the right button is held.
+    #[must_use]
     pub const fn right(&self) -> bool {
         self.buttons & 2 != 0
     }
 
+    /// Whether the middle button is held.
+    #[must_use]
     pub const fn middle(&self) -> bool {
         self.buttons & 4 != 0
     }
 
+    /// Whether the fourth button is held.
+    #[must_use]
     pub const fn fourth(&self) -> bool {
         self.buttons & 8 != 0
     }
 
+    /// Whether the fifth button is held.
+    #[must_use]
     pub const fn fifth(&self) -> bool {
         self.buttons & 16 != 0
     }
@@ -89,47 +102,74 @@ pub(crate) fn packet(answer: raw::vd_packet) -> Exchange<Packet> {
 /// The commands to a mouse, each one byte.
 #[derive(Clone, Copy, Debug, PartialEq, Eq, Hash)]
 pub enum MouseCommand {
+    /// Sets the scaling to 1:1.
     SetScaling = 0xE6,
+    /// Sets the resolution; a data byte follows.
     SetResolution = 0xE8,
+    /// Asks for three bytes of status.
     StatusRequest = 0xE9,
+    /// Has the mouse send packets by itself.
     SetStreamMode = 0xEA,
+    /// Asks for one packet.
     ReadData = 0xEB,
+    /// Ends the wrap mode.
     ResetWrapMode = 0xEC,
+    /// Has the mouse send back each byte.
     SetWrapMode = 0xEE,
+    /// Has the mouse send packets only when it is asked.
     SetRemoteMode = 0xF0,
+    /// Asks for the mouse's identity.
     GetDeviceId = 0xF2,
+    /// Sets the packets a second; a data byte follows.
     SampleRate = 0xF3,
+    /// Starts the sending of packets.
     EnableDataReporting = 0xF4,
+    /// Stops the sending of packets.
     DisableDataReporting = 0xF5,
+    /// Restores the defaults.
     SetDefaults = 0xF6,
+    /// Asks for the last byte again.
     ResendByte = 0xFE,
+    /// Resets the mouse, which then tests itself.
     Reset = 0xFF,
 }
 
 /// How often a mouse sends a packet, in a second.
 #[derive(Clone, Copy, Debug, PartialEq, Eq, Hash)]
 pub enum SamplingRate {
+    /// 10 packets a second.
     Hz10 = 10,
+    /// 20 packets a second.
     Hz20 = 20,
+    /// 40 packets a second.
     Hz40 = 40,
+    /// 60 packets a second.
     Hz60 = 60,
+    /// 80 packets a second.
     Hz80 = 80,
+    /// 100 packets a second.
     Hz100 = 100,
+    /// 200 packets a second.
     Hz200 = 200,
 }
 
 /// How many counts a mouse gives to a millimetre.
 #[derive(Clone, Copy, Debug, PartialEq, Eq, Hash)]
 pub enum Resolution {
+    /// 1 count a millimetre.
     Counts1 = 0,
+    /// 2 counts a millimetre.
     Counts2 = 1,
+    /// 4 counts a millimetre.
     Counts4 = 2,
+    /// 8 counts a millimetre.
     Counts8 = 3,
 }
 
 /// A mouse, with the identity that is known of it; the default is 0, as after a reset.
 #[derive(Clone, Copy, Debug, Default, PartialEq, Eq, Hash)]
 pub struct Mouse {
+    /// The identity, which says how long packets are.
     pub identity: Identity,
 }
 

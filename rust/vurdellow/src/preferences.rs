@@ -30,7 +30,9 @@ pub struct Fields {
 /// ```
 #[derive(Clone, Copy, Debug, PartialEq, Eq, Hash)]
 pub enum Preferences {
+    /// Version 1.
     Version1(Fields),
+    /// Version 2, with the byte of repeat rate and delay, 0 to 127.
     Version2(Fields, u32),
 }
 

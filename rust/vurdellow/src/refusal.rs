@@ -14,6 +14,7 @@ pub enum Port {
 
 impl Port {
     /// The port's number, 0x60 or 0x64.
+    #[must_use]
     pub const fn number(self) -> u8 {
         match self {
             Port::Data => 0x60,
@@ -22,6 +23,7 @@ impl Port {
     }
 
     /// The port that has this number.
+    #[must_use]
     pub const fn from_number(number: u8) -> Option<Port> {
         match number {
             0x60 => Some(Port::Data),
@@ -107,6 +109,7 @@ pub enum Refusal {
 
 impl Refusal {
     /// The number of this refusal: 1 to 33, or 255.
+    #[must_use]
     pub const fn number(self) -> u8 {
         match self {
             Refusal::AlreadyInitialized => 1,
@@ -189,6 +192,7 @@ impl Refusal {
     }
 
     /// Whether this is a lack, of a script byte or of room in the log: the call ended at once, and records are as they were passed.
+    #[must_use]
     pub const fn is_lack(self) -> bool {
         matches!(self, Refusal::ScriptEnds(_) | Refusal::LogFull)
     }
@@ -243,22 +247,29 @@ impl Error for Refusal {}
 /// How many script bytes were used, and how many pairs (port, value) were written to the log.
 #[derive(Clone, Copy, Debug, Default, PartialEq, Eq)]
 pub struct Counts {
+    /// How many script bytes were used.
     pub used: usize,
+    /// How many pairs, of port and value, were written.
     pub pairs: usize,
 }
 
 /// What an operation on the ports gives, with its counts.
 #[derive(Clone, Copy, Debug, PartialEq, Eq)]
 pub struct Done<T> {
+    /// What the operation gives.
     pub value: T,
+    /// How many script bytes were used.
     pub used: usize,
+    /// How many pairs, of port and value, were written.
     pub pairs: usize,
 }
 
 /// A refusal, with what was done until then: the counts, and whatever else the call hands back after a refusal too.
 #[derive(Clone, Copy, Debug, PartialEq, Eq)]
 pub struct Refused<T = Counts> {
+    /// Why the call was refused.
     pub refusal: Refusal,
+    /// What was done until then.
     pub done: T,
 }
 
@@ -288,7 +299,9 @@ pub type Exchange<T> = Result<Done<T>, Refused>;
 
 /// What tells how many script bytes were used and how many pairs were written.
 pub trait Counted {
+    /// How many script bytes were used.
     fn used(&self) -> usize;
+    /// How many pairs, of port and value, were written.
     fn pairs(&self) -> usize;
 }
 

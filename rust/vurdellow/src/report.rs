@@ -10,7 +10,9 @@ pub const REPORT_KEYS: usize = 94;
 /// A mean movement: packets times quotient, and the remainder, are the sum. The remainder is below the packets.
 #[derive(Clone, Copy, Debug, PartialEq, Eq, Hash)]
 pub struct Mean {
+    /// The quotient, rounded towards minus infinity.
     pub quotient: i64,
+    /// The remainder, less than the count of packets.
     pub remainder: u64,
 }
 
@@ -35,13 +37,17 @@ fn mean(answer: raw::vd_mean) -> Option<Mean> {
 pub struct Report {
     /// How often each key was pressed, by its number.
     pub presses: [u32; REPORT_KEYS],
+    /// How many packets were added.
     pub packets: u32,
+    /// The sum of the movements sideways.
     pub x: i32,
+    /// The sum of the movements up and down.
     pub y: i32,
 }
 
 impl Report {
     /// A report of no session.
+    #[must_use]
     pub fn new() -> Report {
         Report::of(raw::vd_report_empty())
     }
@@ -56,21 +62,25 @@ impl Report {
     }
 
     /// How often a key was pressed. The release codes, which occur in no event, are not counted.
+    #[must_use]
     pub fn presses(&self, keycode: Keycode) -> u32 {
         self.presses.get(usize::from(keycode.number())).copied().unwrap_or(0)
     }
 
     /// The mean movement sideways, where there are packets.
+    #[must_use]
     pub fn mean_x(&self) -> Option<Mean> {
         mean(raw::vd_report_mean_x(self.numbers()))
     }
 
     /// The mean movement up or down, where there are packets.
+    #[must_use]
     pub fn mean_y(&self) -> Option<Mean> {
         mean(raw::vd_report_mean_y(self.numbers()))
     }
 
     /// A report in 64 bits with the same numbers.
+    #[must_use]
     pub fn widen(&self) -> LongReport {
         LongReport::of(raw::vd_report_widen(self.numbers()))
     }
@@ -97,13 +107,17 @@ impl Default for Report {
 pub struct LongReport {
     /// How often each key was pressed, by its number.
     pub presses: [u64; REPORT_KEYS],
+    /// How many packets were added.
     pub packets: u64,
+    /// The sum of the movements sideways.
     pub x: i64,
+    /// The sum of the movements up and down.
     pub y: i64,
 }
 
 impl LongReport {
     /// A report of no session.
+    #[must_use]
     pub fn new() -> LongReport {
         LongReport::of(raw::vd_long_report_empty())
     }
@@ -118,16 +132,19 @@ impl LongReport {
     }
 
     /// How often a key was pressed. The release codes, which occur in no event, are not counted.
+    #[must_use]
     pub fn presses(&self, keycode: Keycode) -> u64 {
         self.presses.get(usize::from(keycode.number())).copied().unwrap_or(0)
     }
 
     /// The mean movement sideways, where there are packets.
+    #[must_use]
     pub fn mean_x(&self) -> Option<Mean> {
         mean(raw::vd_long_report_mean_x(self.numbers()))
     }
 
     /// The mean movement up or down, where there are packets.
+    #[must_use]
     pub fn mean_y(&self) -> Option<Mean> {
         mean(raw::vd_long_report_mean_y(self.numbers()))
     }

@@ -314,3 +314,16 @@ fn a_salvage_goes_on_where_it_had_no_room() {
     let done = salvage(Identity::NoWheel, &recording[refused.done.used..], &mut packets, &mut positions).unwrap();
     assert_eq!((done.used, packets), (3, [0x08, 3, 4]));
 }
+
+#[test]
+fn keycodes_come_of_their_numbers_alone() {
+    assert_eq!(Keycode::try_from(0x1E), Ok(Keycode::A));
+    assert_eq!(Keycode::try_from(0x9D), Ok(Keycode::ControlReleased));
+    assert_eq!(Keycode::try_from(0x5E), Err(NoKeycode(0x5E)));
+    assert_eq!(NoKeycode(0x5E).to_string(), "no keycode has the number 5E");
+}
+
+#[test]
+fn the_default_handler_is_fresh() {
+    assert_eq!(Handler::default(), handler());
+}
