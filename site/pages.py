@@ -392,15 +392,15 @@ class Breaking:
         return tag("div", "\n".join(parts), class_="story")
 
 
-def break_page(links, tree, must_fail):
+def break_page(links, tree, must_fail, breaking=None):
     record = {"kit": "", "commit": "", "story": {}, "programs": []}
     if os.path.exists(RECORD):
         record = json.loads(text(RECORD))
-    breaking = Breaking(links, tree, must_fail)
+    breaking = breaking or Breaking(links, tree, must_fail)
     breaking.record(record)
     descriptions = {}
-    for names, words in re.findall(r"^\| (.*?) \| (.*?) \|", text("README.md"), re.M):
-        descriptions.update({crate: words for crate in re.findall(r"`crates/(\w+)`", names)})
+    for names, words in re.findall(r"^\| (`.*?) \| (.*?) \|", text("docs/ARCHITECTURE.md"), re.M):
+        descriptions.update({crate: words for crate in re.findall(r"`(?:crates/)?(\w+)`", names)})
     told = sum(bool(it.refusals) for it in breaking.found.values())
     older = sum("commit" in it for it in record["programs"])
     recorded = "What the prover said is not recorded here."

@@ -1,4 +1,4 @@
-// What tests/try asks of a page, in the page.
+// What tests/try and tests/reading ask of a page, in the page.
 const at = (id) => document.getElementById(id);
 const until = (test) => new Promise((done) => {
   const look = () => (test() ? done() : setTimeout(look, 10));
