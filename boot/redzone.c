@@ -5,7 +5,7 @@
 #include "machine.h"
 #include "vurdellow.h"
 
-enum { CALLS = 400000, TASK = 24, TIMER_VECTOR = 32, EXIT = 0xF4 };
+enum { CALLS = 50000, TASK = 24, TIMER_VECTOR = 32, EXIT = 0xF4 };
 
 extern void timer_entry(void);
 uint64_t ticks;
