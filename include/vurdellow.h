@@ -20,6 +20,11 @@
 extern "C" {
 #endif
 
+/* ---- version: a program can ask `#if VD_VERSION_NUMBER >= 100` for 0.1.0 or later (10,000 a major number, 100 a minor one) */
+
+#define VD_VERSION "0.1.0"
+#define VD_VERSION_NUMBER 100
+
 /* ---- sizes */
 
 /* How many numbers a handler's record has, and a dispatcher's state, which begins with a handler's record. Aligned to 128 bytes, its first

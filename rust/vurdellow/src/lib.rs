@@ -23,8 +23,8 @@
 //! # Ok::<(), vurdellow::Refused<vurdellow::Handled>>(())
 //! ```
 //!
-//! The library (`libvurdellow.a`, for Linux on x86-64-v2) is built by the repository's `./build-lib`; the build script finds it there, or where
-//! the variable `VURDELLOW_LIB` says.
+//! The package has the library (`libvurdellow.a`) for x86-64 and 64-bit Arm; the variable `VURDELLOW_LIB` names another archive, as the
+//! repository's `./build-lib` builds it.
 
 #![cfg_attr(not(feature = "std"), no_std)]
 #![deny(unsafe_code)]
