@@ -3,6 +3,7 @@
 #   make install PREFIX=/usr/local [DESTDIR=..] [KIND=x86_64-linux|x86_64-linux-any|aarch64-linux]
 #                         header, archive, pkg-config and CMake files
 #   make uninstall PREFIX=..
+#   make check            tries the archive: the examples, the wrapper, the stored lines; and every test that needs no Rattle
 PREFIX ?= /usr/local
 DESTDIR ?=
 KIND ?= $(shell uname -m | sed 's/^arm64$$/aarch64/')-linux
@@ -26,5 +27,21 @@ uninstall:
 	rm -f $(CMAKE_FILES)/VurdellowConfig.cmake $(CMAKE_FILES)/VurdellowConfigVersion.cmake
 	-rmdir $(CMAKE_FILES)
 
+# The tests that need no Rattle; those of LINKING take the archive of dist/.
+CHECKS = sources layout interface tournament_keys rust_in_rattle cut_scripts claims public_documents pages crates help site refusals try reading
+LINKING = stored library driving wrapper
+check: dist/$(KIND)/libvurdellow.a
+	@[ -d tests ] || { echo "check: the tests are in the repository, and not in this package" >&2; exit 2; }
+	@failed=0 skipped=0 passed=0; \
+	for test in $(LINKING) $(CHECKS); do \
+	    status=0; VURDELLOW_ARCHIVE=$$PWD/dist/$(KIND)/libvurdellow.a tests/$$test </dev/null || status=$$?; \
+	    case $$status in \
+	    0) echo "check: tests/$$test passed"; passed=$$((passed + 1)) ;; \
+	    77) echo "check: tests/$$test skipped"; skipped=$$((skipped + 1)) ;; \
+	    *) echo "check: tests/$$test FAILED (status $$status)"; failed=$$((failed + 1)) ;; \
+	    esac; \
+	done; \
+	echo "check: the library of dist/$(KIND): $$passed passed, $$failed failed, $$skipped skipped"; \
+	[ $$failed -eq 0 ] && [ $$passed -gt 0 ]
 
-.PHONY: all install uninstall
+.PHONY: all install uninstall check
