@@ -1,4 +1,4 @@
-// The characters on one page: what each key writes, to be held against a keyboard. docs/LAYOUT.md says how to read and how to change it.
+// What each key writes, to be held against a keyboard; docs/USING.md has its guide.
 
 // The keycodes that events have: 00 to 5D.
 pub const KEYCODES: usize = 94;
