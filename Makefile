@@ -28,7 +28,7 @@ uninstall:
 	-rmdir $(CMAKE_FILES)
 
 # The tests that need no Rattle; those of LINKING take the archive of dist/.
-CHECKS = sources layout interface tournament_keys rust_in_rattle cut_scripts claims public_documents pages crates help site refusals try reading
+CHECKS = sources help layout interface tournament_keys rust_in_rattle cut_scripts claims pages public_documents site refusals try reading
 LINKING = stored library driving wrapper
 check: dist/$(KIND)/libvurdellow.a
 	@[ -d tests ] || { echo "check: the tests are in the repository, and not in this package" >&2; exit 2; }
