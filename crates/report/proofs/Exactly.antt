@@ -38,7 +38,7 @@ module _ (l : Limits) (old : Totals) (s : Session) where
   new : Totals
   new = plus old (totals_of s)
 
-  in_within : in_range l new ≡ true → Within l new
+  pub in_within : in_range l (plus old (totals_of s)) ≡ true → Within l (plus old (totals_of s))
   unfolding new
   in_within e =
       let r = in_range_lem l new e in
@@ -51,7 +51,7 @@ module _ (l : Limits) (old : Totals) (s : Session) where
         y_high = high l.low l.high new.y r.y_in;
       }
 
-  within_in : Within l new → in_range l new ≡ true
+  pub within_in : Within l (plus old (totals_of s)) → in_range l (plus old (totals_of s)) ≡ true
   unfolding new in_range
   within_in w =
       let p : at_most l.count new.presses ≡ true = at_most_all l.count 0 key_count _ (λ k h. let b : k < key_count = omega arith in rw (← at_key (λ key. get_or old.presses key 0 + get_or (totals_of s).presses key 0) k b) (w.presses k b)) in

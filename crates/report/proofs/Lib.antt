@@ -5,8 +5,11 @@ pub mod Copying
 pub mod TooLong
 pub mod Narrowing
 pub mod Together
+pub mod Exactly
+pub mod Stored
+pub mod Runs
+pub mod Outside
 pub mod Joining
 pub mod AnyOrder
 pub mod MeanAlone
-pub mod Exactly
 pub mod Worked

@@ -2,5 +2,6 @@
 pub mod Adding
 pub mod Mean
 pub mod Narrow
+pub mod Runs
 pub mod Sessions
 pub mod Within

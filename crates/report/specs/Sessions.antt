@@ -1,20 +1,8 @@
--- Several sessions: added one by one, joined, and in another order.
+-- Several sessions: joined, and in another order.
 -- Assumes nothing.
-use Rattle.std.specs.Prelude.{◌≡◌, List, [], ◌∷◌, ◌++◌, Ok}
-use Rattle.report_totals.specs.declared.Totals.{Totals}
+use Rattle.std.specs.Prelude.{◌≡◌, List, [], ◌∷◌, ◌++◌}
 use Rattle.ps2_packet.specs.Packets.{packets_of, bytes_of}
 use Rattle.report_totals.specs.Totals.{Session}
-use Rattle.report.specs.declared.Limits.{Limits}
-use Rattle.report.specs.Adding.{added}
-
--- A session is accepted, and gives this report.
-abbrev pub Accepted : Limits → Totals → Session → Totals → Type 0
-Accepted l old s new = added l old s ≡ record { answer = Ok tt; totals = new }
-
--- "Adding sessions one by one", where all are accepted.
-pub data OneByOne (l : Limits) : Totals → List Session → Totals → Type 0 where
-  none : {r : Totals} → OneByOne l r [] r
-  next : {r r' r'' : Totals} {s : Session} {more : List Session} → Accepted l r s r' → OneByOne l r' more r'' → OneByOne l r (s ∷ more) r''
 
 -- "Joined at packet boundaries": what a session's bytes have behind its last whole packet is left out.
 abbrev pub join : Session → Session → Session

@@ -1,1 +1,3 @@
+pub mod Stored
+pub mod Runs
 pub mod Wider

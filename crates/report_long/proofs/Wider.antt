@@ -1,7 +1,8 @@
 -- Old reports in 64 bits: no number is changed, and a session that the old report accepted gives the same numbers after conversion as before it.
 -- Assumes nothing.
-use mathlib.Core.Path.{◌≡◌, refl, ap, ◌∙◌}
-use Prim.Native.Nat.{◌+◌}
+use mathlib.Core.Path.{◌≡◌, refl, ap, sym, ◌∙◌}
+use mathlib.Core.Bool.{true}
+use mathlib.Core.List.{List, [], ◌∷◌}
 use native.Mathlib.Omega.{arith}
 use lib.Dec.{leb→le, le→leb}
 use lib.IntN.{ℤ, pos, negsuc}
@@ -9,15 +10,19 @@ use lib.ListN.{get_or}
 use lib.Signed.{◌≤ℤ◌}
 use Rattle.report_totals.specs.declared.Totals.{Totals}
 use Rattle.report_totals.specs.Totals.{Session, totals_of}
-use Rattle.report_totals.proofs.Keys.{at_key, keys_same}
+use Rattle.report_totals.proofs.Keys.{at_key}
 use Rattle.report.specs.declared.Report.{Report}
-use Rattle.std.specs.Prelude.{Ok, Err}
-use Rattle.report.specs.Adding.{Answer, plus, added, answered, reported}
+use Rattle.std.specs.Prelude.{Ok}
+use Rattle.report.specs.Adding.{Reported, plus, in_range}
 use Rattle.report.specs.Narrow.{narrow_limits, numbers, report_of}
+use Rattle.report.specs.Runs.{narrow, add, after, accepted}
 use Rattle.report.specs.Within.{Within}
-use Rattle.report.proofs.Exactly.{exactly, accepted_is}
-use Rattle.report_long.specs.Long.{long_limits, long_numbers, long_of, widened}
-use Rattle.report_long.specs.Widened.{SameNumbers}
+use Rattle.report.proofs.Exactly.{in_within, within_in}
+use Rattle.report.proofs.Settling.{reported_in}
+use Rattle.report.proofs.Stored.{narrow_reads_back}
+use Rattle.report.proofs.Runs.{Call, accepts, refuses, call, accepts_goes, refuses_goes}
+use Rattle.report_long.specs.Long.{long_limits, long_of, wide, widened}
+use Rattle.report_long.specs.Widened.{SameNumbers, SameRun}
 
 pub widened_same : (r : Report) → SameNumbers r (widened r)
 widened_same r = record { presses = λ key h. at_key (λ k. get_or r.presses k 0) key h; packets = refl; x = refl; y = refl }
@@ -41,22 +46,40 @@ wider t w =
       y_high = higher t.y w.y_high;
     }
 
--- numbers that stood in a report are the same when read from it
-again : (a b : Totals) → numbers (report_of (plus a b)) ≡ plus a b
-again a b =
-    ap (λ l. record { presses = l; packets = (plus a b).packets; x = (plus a b).x; y = (plus a b).y })
-    (keys_same _ _ (λ key h. at_key (λ k. get_or (plus a b).presses k 0) key h ∙ at_key (λ k. get_or a.presses k 0 + get_or b.presses k 0) key h))
+long_in : (r : Report) (s : Session) → in_range narrow_limits (plus (numbers r) (totals_of s)) ≡ true → in_range long_limits (plus (numbers r) (totals_of s)) ≡ true
+long_in r s e = within_in long_limits (numbers r) s (wider (plus (numbers r) (totals_of s)) (in_within narrow_limits (numbers r) s e))
 
-told_done : (r : Report) (t : Totals) (a : Answer) → (answered report_of r t a).answer ≡ Ok tt → a ≡ Ok tt
-told_done r t (Ok u) e = refl
-told_done r t (Err d) e = absurd (cc)
+widens : (r : Report) (s : Session) → Call narrow r s → (add narrow r s).answer ≡ Ok tt
+    → add wide (widened r) s ≡ record { answer = Ok tt; report = widened (add narrow r s).report }
+widens r s (accepts e p) a =
+    rw (p, narrow_reads_back.read_back (numbers r) (totals_of s) e)
+    (sym (reported_in long_of (widened r) long_limits (numbers r) (plus (numbers r) (totals_of s)) (long_in r s e)))
+widens r s (refuses e p) a = absurd (let b = ap (λ (x : Reported Report). x.answer) p in cc)
 
 -- accepted before, accepted after, with the same numbers
-pub widened_accepts : (r : Report) (s : Session) → (reported report_of r (added narrow_limits (numbers r) s)).answer ≡ Ok tt
-    → reported long_of (widened r) (added long_limits (long_numbers (widened r)) s) ≡ record { answer = Ok tt; report = widened (reported report_of r (added narrow_limits (numbers r) s)).report }
-widened_accepts r s e =
-    let done = told_done r (added narrow_limits (numbers r) s).totals (added narrow_limits (numbers r) s).answer e in
-    let narrow_is = accepted_is narrow_limits (numbers r) s done in
-    let long_done = (exactly long_limits (numbers r) s).1 (wider (plus (numbers r) (totals_of s)) ((exactly narrow_limits (numbers r) s).0 done)) in
-    let long_is = accepted_is long_limits (numbers r) s long_done in
-    rw (narrow_is, long_is, again (numbers r) (totals_of s))
+pub widened_accepts : (r : Report) (s : Session) → (add narrow r s).answer ≡ Ok tt
+    → add wide (widened r) s ≡ record { answer = Ok tt; report = widened (add narrow r s).report }
+widened_accepts r s = widens r s (call narrow r s)
+
+-- the same of a run: those that the old report accepts are accepted after conversion, and leave the old report converted
+pub widened_run : (r : Report) (ts : List Session) → SameRun r ts
+unfolding after accepted
+widened_run r [] = record { sessions = refl; report = refl }
+widened_run r (s ∷ ts) = by (call narrow r s) (λ q. widened_run q ts)
+  where
+    by : Call narrow r s → ((q : Report) → SameRun q ts) → SameRun r (s ∷ ts)
+    by (accepts e p) i =
+        let q = report_of (plus (numbers r) (totals_of s)) in
+        let v = widens r s (accepts e p) (ap (λ (x : Reported Report). x.answer) p) ∙ ap (λ (x : Reported Report). record { answer = Ok tt; report = widened x.report }) p in
+        let g = accepts_goes narrow p ts in
+        let h = accepts_goes wide v (accepted narrow q ts) in
+        record {
+          sessions = ap (accepted wide (widened r)) g.sessions ∙ h.sessions ∙ ap (λ l. s ∷ l) (i q).sessions ∙ sym g.sessions;
+          report = ap (after wide (widened r)) g.sessions ∙ h.report ∙ (i q).report ∙ ap widened (sym g.report);
+        }
+    by (refuses e p) i =
+        let g = refuses_goes narrow p ts in
+        record {
+          sessions = ap (accepted wide (widened r)) g.sessions ∙ (i r).sessions ∙ sym g.sessions;
+          report = ap (after wide (widened r)) g.sessions ∙ (i r).report ∙ ap widened (sym g.report);
+        }

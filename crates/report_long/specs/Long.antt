@@ -5,6 +5,7 @@ use Rattle.report_totals.specs.declared.Totals.{Totals}
 use Rattle.report.specs.declared.Limits.{Limits}
 use Rattle.report.specs.declared.Report.{Report}
 use Rattle.report.specs.Narrow.{numbers}
+use Rattle.report.specs.Runs.{Width}
 use Rattle.report_long.specs.declared.LongReport.{LongReport}
 
 -- "32 is now given exactly when at a session's end any count would be above 281,474,976,710,656 or a sum further than 72,057,594,037,927,936 from 0."
@@ -17,6 +18,10 @@ long_numbers r = r.totals
 
 abbrev pub long_of : Totals → LongReport
 long_of t = record { totals = t }
+
+-- "Store them and all counts in 64 bits."
+abbrev pub wide : Width LongReport
+wide = record { limits = long_limits; told = long_numbers; having = long_of }
 
 -- "Every old report must convert": a report of 32 bits as one of 64.
 abbrev pub widened : Report → LongReport

@@ -1,9 +1,12 @@
 -- "Every old report must convert with no number changed."
 -- Assumes nothing.
-use Rattle.std.specs.Prelude.{◌≡◌, ℕ, ◌<◌, get_or}
+use Rattle.std.specs.Prelude.{◌≡◌, List, ℕ, ◌<◌, get_or}
 use Rattle.report_totals.specs.Keys.{key_count}
+use Rattle.report_totals.specs.Totals.{Session}
 use Rattle.report.specs.declared.Report.{Report}
+use Rattle.report.specs.Runs.{narrow, after, accepted}
 use Rattle.report_long.specs.declared.LongReport.{LongReport}
+use Rattle.report_long.specs.Long.{wide, widened}
 
 -- That two reports have the same numbers.
 pub record SameNumbers (r : Report) (w : LongReport) : Type 0 where
@@ -11,3 +14,8 @@ pub record SameNumbers (r : Report) (w : LongReport) : Type 0 where
   pub packets : w.totals.packets ≡ r.packets
   pub x : w.totals.x ≡ r.x
   pub y : w.totals.y ≡ r.y
+
+-- That a run goes on after conversion as before it: what the old report accepts of these sessions, the converted one accepts, and is left as the old one, converted.
+pub record SameRun (r : Report) (ts : List Session) : Type 0 where
+  pub sessions : accepted wide (widened r) (accepted narrow r ts) ≡ accepted narrow r ts
+  pub report : after wide (widened r) (accepted narrow r ts) ≡ widened (after narrow r ts)
