@@ -5,6 +5,7 @@ pub mod Command
 pub mod Exit
 pub mod Recorded
 pub mod Noted
+pub mod Paired
 pub mod Agreed
 pub mod SelfTest
 pub mod Detect

@@ -412,7 +412,7 @@ impl<'c, H: Hardware + Drop> PS2Mouse<'c, H> {
     {
         self.controller.write_command(WriteByteToPort2InputBuffer);
         const RETRIES: u8 = 3;
-        for _ in 0..=RETRIES {
+        for _ in 0..=RETRIES { // after one D4
             return match self
                 .controller
                 .polling_send_receive(HostToDevice::Mouse(value))?
@@ -622,7 +622,7 @@ impl<'c, H: Hardware + Drop> PS2Keyboard<'c, H> {
         ensures ran { ran (said result) self.new.controller.now ≡ run (on_controller H.device) (command_rule (Keyboard value)) self.old.controller.now }
     {
         const RETRIES: u8 = 3;
-        for _ in 0..=RETRIES {
+        for _ in 0..=RETRIES { // four attempts
             return match self
                 .controller
                 .polling_send_receive(HostToDevice::Keyboard(value))?
