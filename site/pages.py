@@ -198,7 +198,7 @@ def in_words(refusal):
     if differs:
         asked, given = (short(it, 120) for it in differs[-1].groups())
         if max(len(asked), len(given)) < 120 and "?" not in asked + given:
-            return f"The two differ where `{asked}` is asked for, and the program gives `{given}`."
+            return f"The two differ: `{asked}` is asked for, and the program gives `{given}`."
     if said.startswith(("`omega`", "`grind`", "`cc`")):
         return "What the contract asks for does not follow from what is known there."
     if said.startswith("`search`"):
