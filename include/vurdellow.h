@@ -1,4 +1,5 @@
 /* Vurdellow: a keyboard and mouse input layer for PS/2 sockets, in which every function is proved. docs/USING.md is its guide.
+   dist/ has archives for x86-64, with SSE4.2 and for any, and for 64-bit Arm, and a module for WebAssembly: one interface for all.
 
    No function allocates, keeps anything between two calls, or touches anything but what it is lent: a record, a script, a log, an output.
    None asks anything of its caller but that a pointer and its length are those of one array (a length of 0 goes with any pointer, null

@@ -96,18 +96,27 @@ fn heading(title: &str, columns: &[&str]) {
 /// What a user asks for, from rows of the table.
 fn bars(times: &BTreeMap<String, [Times; 2]>) {
     heading("What a table asks for", &["", "port", "the Rust, or plain Rust"]);
-    let per_second = |name: &str| {
-        let each = |side: &Times| number(1e3 / side.ends().0);
+    // `things` of them are in a call of the row.
+    let per_second = |name: &str, things: f64| {
+        let each = |side: &Times| number(1e3 * things / side.ends().0);
         let [theirs, ours] = &times[name];
         format!("{} million a second | {} million a second", each(ours), each(theirs))
     };
     println!(
         "| keys through the handler, each event taken at once | {} |",
-        per_second(crate::handler::DRAINED)
+        per_second(crate::handler::DRAINED, 1.0)
     );
     println!(
         "| packets of a recorded session into a report | {} |",
-        per_second(crate::operations::PACKETS)
+        per_second(crate::operations::PACKETS, 1.0)
+    );
+    println!(
+        "| characters of a text typed | {} |",
+        per_second("`vd_type_text`, 16,000 characters", 16e3)
+    );
+    println!(
+        "| bytes of a stream in set 2 converted | {} |",
+        per_second("`vd_convert_set2`, 60,000 bytes", 60e3)
     );
     let lock = |name: &str| {
         let [theirs, ours] = &times[name];
