@@ -138,7 +138,6 @@ fn keyboard_at(side: Side) -> usize
 }
 
 // Whether 21 lets the numbers of a side's keyboard pass: a prefix of 0 or 1, no flag above bit 10, and no more than 16 bytes that wait.
-#[tactic(auto, unfolding(crate::specs::Words::keyboard_in, keyboard_record::specs::Record::keyboard_formed, keyboard_scancodes::specs::FlagTable::flag_limit, keyboard_scancodes::specs::FlagTable::flag_table))]
 fn keyboard_passes(words: &Words, side: Side) -> bool
     ensures { result ≡ keyboard_passes (keyboard_from side) words.now }
 {
@@ -148,7 +147,6 @@ fn keyboard_passes(words: &Words, side: Side) -> bool
 
 // Whether 21 lets those of the table pass, and of every side at it; those of a side that isn't at it are unasked.
 // It is asked of the numbers, whichever of their 64 bits are set, before they are read as a state.
-#[tactic(auto, unfolding(crate::specs::Parts::sides_pass))]
 fn sides_pass(words: &Words) -> bool
     ensures { result ≡ sides_pass words.now }
 {
