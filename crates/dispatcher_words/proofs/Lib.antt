@@ -1,5 +1,6 @@
 -- The laws of a lent dispatcher's numbers.
 pub mod Words
+pub mod Named
 pub mod Waits
 pub mod Turns
 pub mod Steps

@@ -80,11 +80,12 @@ module _ (side : Side) (ws script log : List ℕ) (n : length ws ≡ dispatcher_
   side_turn_lem = rw (place_stands (Source.Keyboard side) ws, handler_stands ws)
 
   pub keyboard_turn : length us ≡ length (handler_in ws) → {number : ℕ} → number ≡ source_number (Source.Keyboard side) → {none : StepWords} → none ≡ no_call 0
-      → {ws' : List ℕ} → ws' ≡ with_turn (Source.Keyboard side) (place + call.used) (us ++ drop words_length ws)
+      → {ws' : List ℕ} {moved : ℕ} → ws' ≡ with_turn (Source.Keyboard side) moved (us ++ drop words_length ws) → moved ≡ place + call.used
       → SideServed side ws script log (record { refusal = call.refusal; source = number; call = call; packet = none.packet }) ws' log'
-  keyboard_turn h k p u =
+  keyboard_turn h k p {ws' = ws'} v m =
       let source = Source.Keyboard side in
       let a = handled_side.answered in
+      let u : ws' ≡ with_turn source (place + call.used) (us ++ drop words_length ws) = v ∙ ap (λ (x : ℕ). with_turn source x (us ++ drop words_length ws)) m in
       rw side_turn_lem
       (record {
         answered = rw (k, p, a);
@@ -115,9 +116,10 @@ module _ (ws script : List ℕ) (n : length ws ≡ dispatcher_length) (place fro
       ≡ stepped (packet (record { end = e; used = u; pairs = w })) (served_one Source.Mouse u (dispatcher_of ws).handler (dispatcher_of ws)) log
   mouse_is log = sym (mouse_served (dispatcher_of ws) script from unread reading log refl refl)
 
-  pub mouse_turn : (log : List ℕ) {number : ℕ} → number ≡ source_number Source.Mouse → {none : StepWords} → none ≡ no_call 0 → {ws' : List ℕ} → ws' ≡ with_turn Source.Mouse (place + told.used) ws
+  pub mouse_turn : (log : List ℕ) {number : ℕ} → number ≡ source_number Source.Mouse → {none : StepWords} → none ≡ no_call 0 → {ws' : List ℕ} {moved : ℕ} → ws' ≡ with_turn Source.Mouse moved ws → moved ≡ place + told.used
       → MouseServed ws script log (record { refusal = told.refusal; source = number; call = none.call; packet = told }) ws' log
-  mouse_turn log k c t =
+  mouse_turn log k c {ws' = ws'} v m =
+      let t : ws' ≡ with_turn Source.Mouse (place + told.used) ws = v ∙ ap (λ (x : ℕ). with_turn Source.Mouse x ws) m in
       rw (mouse_is log)
       (record {
         answered = rw (k, c, p);

@@ -133,7 +133,6 @@ fn place_in(words: &[u64; DISPATCHER_WORDS], source: Source) -> usize
 
 // Whether the numbers behind the handler's are such as a dispatcher can hold: a mouse's identity of
 // 0, 3 or 4, and who was served last, 0 to 3. Every number is a place.
-#[tactic(auto, unfolding(crate::specs::Words::names_all))]
 fn is_dispatcher(words: &[u64; DISPATCHER_WORDS]) -> bool
     ensures { result ≡ names_all words.now }
 {

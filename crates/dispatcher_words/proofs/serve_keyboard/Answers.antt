@@ -11,3 +11,4 @@ overflow_add-place c =
 pub returns : goal.returns
 returns c =
     keyboard_turn c.args.side c.args.words.now c.args.script.now c.args.log.now c.told-words c.place_in-place.result c.start.result c.place_in-place.ensures c.start.ensures.rest c.handle_at-call.ensures c.handle_at-call.auto.words c.source_number.ensures c.no_call.ensures c.put_turn.ensures
+    (omega arith)

@@ -11,3 +11,4 @@ overflow_add-place c =
 pub returns : goal.returns
 returns c log =
     mouse_turn c.args.words.now c.args.script.now c.told-words c.place_in-place.result c.start.result c.place_in-place.ensures c.start.ensures.rest c.identity_in-id.ensures c.read_signed_packet.ensures c.packet_words-packet.ensures log c.source_number.ensures c.no_call.ensures c.put_turn.ensures
+    (omega arith)
