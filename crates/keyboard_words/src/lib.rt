@@ -73,7 +73,10 @@ pub fn lamps_of(lamps: u32) -> Option<LEDState>
 fn put_initialized(words: &mut Words, table: Table, answer: Answer<()>)
     ensures { words.new ≡ left_by (ended answer) (words_of (fresh table)) words.old }
 {
-    let lacks = matches!(answer, Err(refused) if matches!(refused.value, Refusal::Lacking(_)));
+    let lacks = match answer {
+        Ok(_) => false,
+        Err(refused) => matches!(refused.value, Refusal::Lacking(_)),
+    };
     if !lacks {
         put_fresh(words, table);
     }
