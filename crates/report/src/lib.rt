@@ -5,9 +5,10 @@ ghost use Rattle.std.specs.Prelude.{◌≡◌, true, ◌<◌, ◌+◌, ◌+ℤ�
 ghost use Rattle.std.specs.Int.Signed.{mag};
 ghost use Rattle.report_totals.specs.Keys.{for_each_key};
 ghost use Rattle.report_totals.specs.Totals.{no_totals};
-ghost use Rattle.report.specs.Adding.{refusal_number, answer_number, plus, at_most, in_range, fitting, added, count_within, counts_within, sum_within, reported};
+ghost use Rattle.report.specs.Adding.{refusal_number, answer_number, plus, at_most, in_range, fitting, count_within, counts_within, sum_within};
 ghost use Rattle.report.specs.Mean.{quotient_of, remainder_of, mean_of};
 ghost use Rattle.report.specs.Narrow.{narrow_limits, report_of};
+ghost use Rattle.report.specs.Runs.{add};
 ghost use Rattle.std.proofs.Common.{rules};
 
 use ps2_bytes::MouseId;
@@ -171,7 +172,7 @@ pub trait Season: Copy {
     // Adds a session: its events, each as `event_code` has it, and its mouse bytes, in packets of one identity. Where a number would be outside its range at the
     // session's end the report stays as it was.
     final fn add(&mut self, id: MouseId, events: &[u8], mouse: &[u8]) -> Result<(), OutOfRange>
-        ensures { record { answer = result; report = self.new } ≡ reported having self.old (added LIMITS (told self.old) (record { id = id; events = events.now; mouse = mouse.now })) }
+        ensures { record { answer = result; report = self.new } ≡ add (record { limits = LIMITS; told = told; having = having }) self.old (record { id = id; events = events.now; mouse = mouse.now }) }
     {
         let brought = tally(id, events, mouse).ok_or(OutOfRange)?;
         *self = Self::of_totals(settle(Self::LIMITS, self.numbers(), brought)?);
