@@ -86,7 +86,7 @@ pub base_then : (k : KeyboardState) (b : ℕ) → base_flags (flags_then Profile
 unfolding flags_then followed
 base_then k b = base_after (stroke b k.prefix) k.modifiers.bits
 
-base_lamps : (w : ℕ) → lamps_lit w ≡ lamps_lit (base_flags w)
+pub base_lamps : (w : ℕ) → lamps_lit w ≡ lamps_lit (base_flags w)
 unfolding lamps_lit
 base_lamps w =
     rw (
@@ -95,11 +95,11 @@ base_lamps w =
       bit_put_other 7 alt_right false w (λ e. cc),
     ) refl
 
-same_locks : (b : ℕ) → presses_followed Profile.Any b ≡ presses_lock rusts_table (stroke b false)
+pub same_locks : (b : ℕ) → presses_followed Profile.Any b ≡ presses_lock rusts_table (stroke b false)
 unfolding followed flag_table presses_lock
 same_locks b = refl
 
-same_exchange : (lamps : ℕ) → port_lamps DevicePort.Port1 lamps ≡ set_keyboard_led (record { bits = lamps })
+pub same_exchange : (lamps : ℕ) → port_lamps DevicePort.Port1 lamps ≡ set_keyboard_led (record { bits = lamps })
 unfolding set_port_led set_keyboard_led command_to_keyboard
 same_exchange lamps = refl
 
@@ -125,7 +125,7 @@ module _ {A B : Type 0} (t : Exchange A) (v : B) where
       sym (bind_assoc (keeping thrown [] t) (λ k. done k.value) (λ a. done v))
       ∙ ap (λ (u : Exchange A). bind u (λ a. done v)) (keeping_forgets thrown [] t)
 
-rusts_cases : {A B : Type 0} (c p : Bool) (t : Exchange A) (b : ℕ) (g : ℕ → Exchange B)
+pub rusts_cases : {A B : Type 0} (c p : Bool) (t : Exchange A) (b : ℕ) (g : ℕ → Exchange B)
     → bind (cond c (done b) (cond p (bind t (λ a. done b)) (done b))) g ≡ cond c (g b) (cond p (bind t (λ a. g b)) (g b))
 unfolding bind
 rusts_cases true p t b g = refl
@@ -147,7 +147,7 @@ module _ (o : Keyed) (after : Kept (List ℕ) (Answer Success) → Keyed) (v : S
   lit_cases true t = bind_assoc t (λ a. done (shown a)) (λ a. done v)
   lit_cases false t = refl
 
-  ours_cases : (c p : Bool) (t : Exchange (Answer Success))
+  pub ours_cases : (c p : Bool) (t : Exchange (Answer Success))
       → bind (cond c (done o) (bind (keeping thrown [] (cond p (bind t (λ a. done (shown a))) (done (gives success)))) (λ k. done (after k)))) (λ o. done (view o))
       ≡ cond c (done (cond c (view o) v)) (cond p (bind t (λ a. done (cond c (view o) v))) (done (cond c (view o) v)))
   unfolding bind

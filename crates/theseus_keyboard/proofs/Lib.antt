@@ -7,3 +7,7 @@ pub mod Left
 pub mod Agree
 pub mod Detected
 pub mod Told
+pub mod FollowedAlike
+pub mod Alone
+pub mod AlonePorts
+pub mod AloneTold

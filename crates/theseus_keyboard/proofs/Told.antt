@@ -21,7 +21,7 @@ use Rattle.theseus_keyboard.proofs.Call.{rusts_call, ran_call}
 use Rattle.theseus_keyboard.proofs.Agree.{whole}
 
 -- the byte that the recording brings first
-first_is : (c : PS2Controller Recording) (script log : List ℕ) → Starts script log c.hardware → next_byte (on_controller recording) c ≡ first_of script
+pub first_is : (c : PS2Controller Recording) (script log : List ℕ) → Starts script log c.hardware → next_byte (on_controller recording) c ≡ first_of script
 first_is c script log b = rw (b.0.2, b.0.0, b.1) refl
 
 module _ (h : KeyboardHandler) (ok : Base h) (script log : List ℕ) (c c' : PS2Controller Recording) (b : Starts script log c.hardware)

@@ -1,3 +1,4 @@
 -- What the Rust's handler does.
 pub mod Handler
 pub mod Both
+pub mod Alone

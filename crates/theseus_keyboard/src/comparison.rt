@@ -1,6 +1,7 @@
 // The Rust's handler and keyboard initialisation, and ours, on one script and on two logs that begin alike.
 ghost use Rattle.std.specs.Prelude.{◌≡◌};
 ghost use Rattle.keyboard.specs.Outcomes.{said_handled};
+ghost use Rattle.keyboard_sides.specs.declared.Side.{Side};
 ghost use Rattle.keyboard_init.specs.KeyboardInit.{keyboard_init};
 ghost use Rattle.theseus_keycodes.specs.Flags.{renumbered};
 ghost use Rattle.theseus_ps2.specs.Comparison.{Agree};
@@ -8,6 +9,7 @@ ghost use Rattle.theseus_ps2.specs.Controller.{on_controller};
 ghost use Rattle.theseus_ps2.specs.Hardware.{ran, run};
 ghost use Rattle.theseus_ps2.specs.Messages.{said};
 ghost use Rattle.theseus_keyboard.specs.Both.{Base, Alike, AgreeCall, answer_to, first_of, FreshAlike};
+ghost use Rattle.theseus_keyboard.specs.Alone.{waiting_at, with_oldest, profile_of, BaseAlone, BothRoom, AlikeQueue, LampsAlike, AgreeFollowed, AgreeQueued, AgreePorts};
 ghost use Rattle.theseus_keyboard.specs.Handler.{Interrupted, our_events};
 
 use crate::{Queue, init, ps2_keyboard_handler};
@@ -19,6 +21,7 @@ use theseus_keycodes::KeyboardModifiers;
 use theseus_ps2::{Both, Hardware, PS2Controller, PS2Keyboard, Recording, start};
 
 // What a call of ours gave back, and how the Rust's hardware was left.
+#[derive(Drop)]
 pub struct BothCalls<'a> {
     pub ours: Handled,
     pub left: Recording<'a>,
@@ -52,6 +55,32 @@ pub fn both_handle<'a, Q: Queue>(
     let mut controller = start(script, rusts_log);
     rusts_handle(&mut controller, queue, kbd_modifiers, extended_scancode);
     let ours = handle(handler, Side::First, script, log);
+    BothCalls {
+        ours,
+        left: controller.hardware,
+    }
+}
+
+// A handler call for either side of any table, under either profile, whatever waits: beside it the
+// Rust's handler for that side's keyboard alone, which reads the oldest waiting byte first.
+pub fn both_handle_alone<'a, Q: Queue>(
+    handler: KeyboardHandler,
+    side: Side,
+    script: &[u8],
+    log: &mut [u8],
+    rusts_script: &'a [u8],
+    rusts_log: &'a mut [u8],
+    queue: &mut Q,
+    kbd_modifiers: &mut KeyboardModifiers,
+    extended_scancode: &mut bool,
+) -> BothCalls<'a>
+    ensures followed { rusts_script.now ≡ with_oldest (waiting_at side handler) script.now → BaseAlone side handler extended_scancode.old (renumbered kbd_modifiers.old.bits) → AgreeFollowed side (said_handled result.ours) extended_scancode.new (renumbered kbd_modifiers.new.bits) }
+    ensures queued { rusts_script.now ≡ with_oldest (waiting_at side handler) script.now → BaseAlone side handler extended_scancode.old (renumbered kbd_modifiers.old.bits) → BothRoom side handler (our_events (Q.waiting queue.old)) → AlikeQueue side handler (our_events (Q.waiting queue.old)) → AgreeQueued side (profile_of handler) (first_of rusts_script.now) (our_events (Q.waiting queue.old)) (said_handled result.ours) (our_events (Q.waiting queue.new)) }
+    ensures ports { side ≡ Side.First → log.old ≡ rusts_log.old → LampsAlike (profile_of handler) (first_of rusts_script.now) → rusts_script.now ≡ with_oldest (waiting_at side handler) script.now → BaseAlone side handler extended_scancode.old (renumbered kbd_modifiers.old.bits) → AgreePorts (waiting_at side handler) (said_handled result.ours) log.new result.left }
+{
+    let mut controller = start(rusts_script, rusts_log);
+    rusts_handle(&mut controller, queue, kbd_modifiers, extended_scancode);
+    let ours = handle(handler, side, script, log);
     BothCalls {
         ours,
         left: controller.hardware,

@@ -19,7 +19,7 @@ use theseus_ps2::{Hardware, PS2Keyboard};
 
 mod comparison;
 
-pub use comparison::{BothCalls, both_handle, both_keyboard_init};
+pub use comparison::{BothCalls, both_handle, both_handle_alone, both_keyboard_init};
 
 macro_rules! debug {
     ($($t:tt)*) => { () };

@@ -1,0 +1,2 @@
+-- A queue of events for the Rust's handler.
+pub mod Places
