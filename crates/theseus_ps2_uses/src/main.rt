@@ -1,4 +1,5 @@
-// Each theorem of theseus_ps2 used once: the Rust's function and ours on a real script and on two logs that begin alike.
+// Each theorem of theseus_ps2 used once: the Rust's function and ours on a real script and on two
+// logs that begin alike. And that of theseus_packet, on a packet's bytes.
 #![tactic(auto)]
 
 use program_status::ended;
@@ -13,6 +14,7 @@ use ps2_layouts::{ControllerConfigurationByte, LEDState};
 use ps2_mouse::PS2Mouse as Mouse;
 use std::io::Result;
 use std::process::ExitCode;
+use theseus_packet::both_packet;
 use theseus_ps2::both_controller::{
     both_flush_output_buffer, both_match_port_test_result, both_polling_receive, both_polling_send,
     both_polling_send_receive, both_read_config, both_read_controller_test_result, both_read_data,
@@ -205,6 +207,24 @@ fn use_identity(rt: &impl Print) -> Result<()> {
     tell(rt, "both_set_mouse_id", set.ours.answer, &set.left)
 }
 
+// A packet of a mouse with five buttons: x overflows to the left, y is 16 up, the wheel is 15,
+// button 4 is down.
+fn use_packet(rt: &impl Print) -> Result<()> {
+    let both = both_packet(MouseId::Four, 0x59, 0x01, 0x10, 0x1F);
+    let (ours, rusts) = (both.ours, both.rusts);
+    println!(rt;
+        "both_packet: ours x {}, y {}, wheel {}, button 4 {}; the Rust x {}, y {}, wheel {}, button 4 {}",
+        ours.x_movement,
+        ours.y_movement,
+        ours.scroll_movement,
+        ours.button_4,
+        rusts.x_movement,
+        rusts.y_movement,
+        rusts.scroll_movement,
+        rusts.button_4
+    )
+}
+
 // A controller with both ports, a keyboard and a mouse.
 fn use_init(rt: &impl Print) -> Result<()> {
     let record = Ours {
@@ -238,6 +258,7 @@ fn use_all(rt: &impl Print) -> Result<()> {
     use_keyboard(rt)?;
     use_mouse(rt)?;
     use_identity(rt)?;
+    use_packet(rt)?;
     use_init(rt)
 }
 

@@ -1,0 +1,2 @@
+-- The Rust's mouse packets.
+pub mod Packets
