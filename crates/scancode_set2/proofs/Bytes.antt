@@ -1,60 +1,46 @@
--- Both bytes of a code in one number: what the arms of a `match` on the code tell of it.
+-- The code's tables have the bytes of every code, which is computed; a byte that was looked up is that of the code that stands there.
 -- Assumes nothing.
-use mathlib.Core.Path.{◌≡◌, refl, sym, subst, ◌∙◌}
-use mathlib.Core.Bool.{Bool, true, false, cond}
-use mathlib.Core.List.{List, [], ◌∷◌, ◌++◌}
-use Prim.Native.Nat.{ℕ, zero, suc, ◌/◌, ◌%◌, ◌^◌, ◌<◌, ◌≤◌}
-use lib.Dec.{ltb}
-use borrow.Author.Tests.{lt-ltb, le-ltb}
+use mathlib.Core.Path.{◌≡◌, ◌∙◌}
+use mathlib.Core.List.{List}
+use Prim.Native.Nat.{ℕ, ◌+◌, ◌-◌, ◌<◌, ◌≤◌}
+use native.Mathlib.Omega.{arith}
+use native.Mathlib.Nat.{zero-add}
+use lib.ListN.{length, get_or}
 use Rattle.bits.specs.Bits.{put_bit}
-use Rattle.bits.specs.Table.{rows, decode}
 use Rattle.bits.proofs.Every.{agree}
-use Rattle.bits.proofs.Table.{NoRow, decode_missing}
+use Rattle.scancode_set2.specs.declared.translation.TheConstants.{ALONE, ALONE_FROM_80, AFTER_F0}
 use Rattle.scancode_set2.specs.Table.{printed, entry_of}
-use Rattle.scancode_set2.specs.Codes.{Code, alone, after_f0}
-use Rattle.scancode_set2.specs.Convert.{becomes, or_no_byte, alone_from, BothBytes}
+use Rattle.scancode_set2.specs.Codes.{break_byte, alone, after_f0}
+use Rattle.scancode_set2.specs.Convert.{becomes, or_no_byte, Tabulates}
+use Rattle.scancode_set2.proofs.Progress.{Stands, stands_alone, stands_after, so_wide}
 
--- n numbers from k on
-abbrev numbers : ℕ → ℕ → List ℕ
-numbers zero k = []
-numbers (suc n) k = k ∷ numbers n (suc k)
+pub alone_tabulated : Tabulates alone 0 0x80 ALONE
+unfolding becomes entry_of printed put_bit
+alone_tabulated = record { at = agree (λ i. get_or ALONE i 0) (λ i. or_no_byte (becomes (alone (0 + i)))) 0x80 tt }
 
--- the codes that have an arm: those with an entry, E0 and E1, and 80
-abbrev pub arms : List (ℕ × ℕ)
-arms = rows (λ c. c) (numbers 0x80 0x01 ++ (0x83 ∷ 0x84 ∷ 0xE0 ∷ 0xE1 ∷ []))
+pub alone_from_80_tabulated : Tabulates alone 0x80 0x80 ALONE_FROM_80
+unfolding becomes entry_of printed put_bit
+alone_from_80_tabulated = record { at = agree (λ i. get_or ALONE_FROM_80 i 0) (λ i. or_no_byte (becomes (alone (0x80 + i)))) 0x80 tt }
 
--- no other code becomes a byte, by itself or after F0
-abbrev byte_of : (ℕ → Code) → ℕ → ℕ
-byte_of f c = or_no_byte (becomes (f c))
+pub after_f0_tabulated : Tabulates after_f0 0 0x100 AFTER_F0
+unfolding becomes entry_of printed put_bit
+after_f0_tabulated = record { at = agree (λ i. get_or AFTER_F0 i 0) (λ i. or_no_byte (becomes (after_f0 (0 + i)))) 0x100 tt }
 
-alone-arms : (c : ℕ) → c < 256 → decode (byte_of alone) 0 arms c ≡ byte_of alone c
-unfolding becomes entry_of printed put_bit decode
-alone-arms = agree (decode (byte_of alone) 0 arms) (byte_of alone) 256 tt
+-- ---- a code that stands in a stream of bytes, up to the next one
 
-after_arms : (c : ℕ) → c < 256 → decode (byte_of after_f0) 0 arms c ≡ byte_of after_f0 c
-unfolding becomes entry_of printed put_bit decode
-after_arms = agree (decode (byte_of after_f0) 0 arms) (byte_of after_f0) 256 tt
+module _ {stream : List ℕ} {used byte next : ℕ} (h : used < length stream) (fits : (i : ℕ) → get_or stream i 0 < 0x100) where
+  pub low_there : get_or stream used 0 < 0x80 → byte ≡ get_or ALONE (get_or stream used 0) 0 → next ≡ used + 1 → Stands stream used byte (next - used)
+  low_there l b e =
+      so_wide (omega (arith, e)) (stands_alone stream used byte h (λ f. omega (arith, f, l)) (b ∙ rw (zero-add (get_or stream used 0)) at (alone_tabulated.at (get_or stream used 0) l)))
 
--- what an arm tells, that the code is the arm's
-pub arm_bytes : {k n c : ℕ} → c ≡ k → n / 2 ^ alone_from k % 256 ≡ byte_of alone k → n / 2 ^ 8 % 256 ≡ byte_of after_f0 k → BothBytes c n
-arm_bytes {n = n} e p q = subst (λ (c : ℕ). BothBytes c n) (sym e) (record { by_itself = p; behind_f0 = q })
+  pub high_there : 0x80 ≤ get_or stream used 0 → (get_or stream used 0 ≡ break_byte → ⊥) → byte ≡ get_or ALONE_FROM_80 (get_or stream used 0 - 0x80) 0 → next ≡ used + 1
+      → Stands stream used byte (next - used)
+  high_there l n b e =
+      let c : 0x80 + (get_or stream used 0 - 0x80) ≡ get_or stream used 0 = omega (arith, l) in
+      so_wide (omega (arith, e)) (stands_alone stream used byte h n (b ∙ rw c at (alone_from_80_tabulated.at (get_or stream used 0 - 0x80) (omega (arith, fits used)))))
 
--- and the last arm, that it is none of theirs
-pub rest_bytes : (c : ℕ) → c < 256 → NoRow (Unit {0}) arms c → BothBytes c 0
-rest_bytes c l h =
-    record {
-      by_itself = nothing (ltb c 0x80) ∙ sym (decode_missing (byte_of alone) 0 (Unit {0}) arms c h) ∙ alone-arms c l;
-      behind_f0 = sym (decode_missing (byte_of after_f0) 0 (Unit {0}) arms c h) ∙ after_arms c l;
-    }
-  where
-    nothing : (t : Bool) → 0 / 2 ^ cond t 0 24 % 256 ≡ 0
-    nothing true = refl
-    nothing false = refl
-
--- where the byte of a code by itself lies
-module _ {c n : ℕ} (h : BothBytes c n) where
-  pub low_alone : c < 0x80 → n / 2 ^ 0 % 256 ≡ or_no_byte (becomes (alone c))
-  low_alone l = rw (lt-ltb c 0x80 l) at h.by_itself
-
-  pub high_alone : 0x80 ≤ c → n / 2 ^ 24 % 256 ≡ or_no_byte (becomes (alone c))
-  high_alone l = rw (le-ltb c 0x80 l) at h.by_itself
+  pub after_there : get_or stream used 0 ≡ break_byte → (used + 1 ≡ length stream → ⊥) → byte ≡ get_or AFTER_F0 (get_or stream (used + 1) 0) 0 → next ≡ used + 1 + 1
+      → Stands stream used byte (next - used)
+  after_there f n b e =
+      so_wide (omega (arith, e))
+      (stands_after stream used byte h f (λ l. n (omega (arith, l))) (b ∙ rw (zero-add (get_or stream (used + 1) 0)) at (after_f0_tabulated.at (get_or stream (used + 1) 0) (fits (used + 1)))))

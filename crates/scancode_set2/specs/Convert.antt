@@ -1,6 +1,6 @@
 -- The conversion of a set 2 stream to set 1, as request 2.2 words it.
 -- Assumes nothing.
-use Rattle.std.specs.Prelude.{true, cond, List, [], ◌∷◌, ◌++◌, ◌≡◌, ℕ, zero, suc, ◌+◌, ◌/◌, ◌%◌, ◌^◌, ltb, length, drop, Result, Ok, Err}
+use Rattle.std.specs.Prelude.{true, cond, List, [], ◌∷◌, ◌++◌, ◌≡◌, ℕ, zero, suc, ◌+◌, ◌<◌, length, drop, get_or, Result, Ok, Err}
 use Rattle.std.proofs.Math.Option.{Option, none, some}
 use Rattle.bits.specs.Bits.{put_bit}
 use Rattle.exchange.specs.Answer.{Answer, gives, refuses}
@@ -30,13 +30,9 @@ abbrev pub or_no_byte : Answer ℕ → ℕ
 or_no_byte (gives b) = b
 or_no_byte (refuses n) = 0x00
 
--- Both bytes of a code in one number: its byte after F0 from bit 8 on; its byte by itself from bit 0 on, or from bit 24 on where the code has the top bit.
-abbrev pub alone_from : ℕ → ℕ
-alone_from c = cond (ltb c 0x80) 0 24
-
-pub record BothBytes (c n : ℕ) : Type 0 where
-  pub by_itself : n / 2 ^ alone_from c % 256 ≡ or_no_byte (becomes (alone c))
-  pub behind_f0 : n / 2 ^ 8 % 256 ≡ or_no_byte (becomes (after_f0 c))
+-- A list of numbers that has, for each of n codes from one on, the byte that it becomes by itself, or after F0.
+pub record Tabulates (as_code : ℕ → Code) (first n : ℕ) (table : List ℕ) : Type 0 where
+  pub at : (i : ℕ) → i < n → get_or table i 0 ≡ or_no_byte (becomes (as_code (first + i)))
 
 -- What a conversion comes to: how it ended, the bytes of the stream that it used, and the bytes that it wrote.
 pub record Converted : Type 0 where
