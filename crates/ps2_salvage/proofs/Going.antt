@@ -3,16 +3,15 @@
 use mathlib.Core.Bool.{true, false}
 use mathlib.Core.Path.{◌≡◌, refl, ap, ap₂, sym, ◌∙◌}
 use mathlib.Core.List.{List, [], ◌∷◌, ◌++◌, append-nil}
-use Prim.Native.Nat.{ℕ, zero, suc, ◌+◌, ◌-◌, ◌≤◌, ◌<◌}
+use Prim.Native.Nat.{ℕ, ◌+◌, ◌-◌, ◌≤◌, ◌<◌}
 use native.Mathlib.Omega.{arith}
 use native.Mathlib.Nat.{sub-zero}
 use lib.ListN.{length, get_or, set, take, drop, length-append, length-drop}
-use lib.Seq.{paste, length-take-le, drop-cons}
+use lib.Seq.{paste, length-take-le}
 use borrow.Rule.Slice.PartMut.{put_mid}
-use Rattle.std.specs.Array.{IsFirstChunk}
 use Rattle.std.specs.Prelude.{Ok, Err}
 use Rattle.std.proofs.lemmas.List.{take_all}
-use Rattle.std.proofs.lemmas.Slice.{between_to_end, put_mid-paste}
+use Rattle.std.proofs.lemmas.Slice.{put_mid-paste}
 use Rattle.ps2_bytes.specs.declared.response.MouseId.{MouseId}
 use Rattle.ps2_packet.specs.Packet.{packet_length}
 use Rattle.ps2_salvage.specs.declared.SalvageRefusal.TheVariants.{NoRoom}
@@ -24,35 +23,10 @@ use Rattle.ps2_salvage.proofs.Output.{over-length, over-set, over-paste}
 
 -- ---- a chunk of what is left of a recording
 
-first_taken : (n : ℕ) (l : List ℕ) → 0 < n → get_or (take n l) 0 0 ≡ get_or l 0 0
-first_taken zero l h = absurd (omega arith)
-first_taken (suc n) [] h = refl
-first_taken (suc n) (x ∷ l) h = refl
-
 put_mid_is : (at n : ℕ) (xs ys l : List ℕ) → ys ≡ take n l → n ≤ length l → put_mid at (at + n - at) xs ys ≡ paste xs at l n
 put_mid_is at n xs ys l e h =
     put_mid-paste at (at + n - at) xs ys (take n l) n e (omega arith) (sym (length-take-le n l h))
     ∙ rw (take_all n (take n l) (omega (arith, length-take-le n l h)))
-
-module _ (bytes : List ℕ) (used : ℕ) (h : used ≤ length bytes) where
-  left : take (length bytes - used) (drop used bytes) ≡ drop used bytes
-  left = between_to_end bytes used (length bytes) (omega arith)
-
-  module _ {packet : List ℕ} {n : ℕ} (i : IsFirstChunk (take (length bytes - used) (drop used bytes)) packet n) where
-    pub chunk_is : packet ≡ take n (drop used bytes)
-    chunk_is = i.same ∙ ap (take n) left
-
-    pub chunk_within : used + n ≤ length bytes
-    chunk_within = omega (arith, i.enough, ap length left, length-drop used bytes)
-
-    pub chunk_first : 0 < n → get_or packet 0 0 ≡ get_or bytes used 0
-    chunk_first z =
-        let first : get_or (drop used bytes) 0 0 ≡ get_or bytes used 0 = rw (drop-cons bytes used 0 (omega (arith, chunk_within))) in
-        ap (λ (l : List ℕ). get_or l 0 0) chunk_is ∙ first_taken n (drop used bytes) z ∙ first
-
-  -- and where there is none, a tail is left that is too short for one
-  pub no_chunk : {n : ℕ} → length (take (length bytes - used) (drop used bytes)) < n → length bytes < used + n
-  no_chunk l = omega (arith, ap length left, length-drop used bytes)
 
 -- ---- a pass under way
 
@@ -148,15 +122,15 @@ module _ {id : MouseId} {bytes packets₀ positions₀ packets positions : List 
             ∙ ap₂ (λ (k m : ℕ). after (g.wrote ++ taken) g.listed (written k m places (pieces id (drop (used + packet_length id) bytes)))) (omega arith) (omega arith);
       }
 
-  -- the same as the code has it: the packet is the first bytes of what is left, and is put behind what was written
-  pub going_copies : {n : ℕ} {packet : List ℕ} → n ≡ packet_length id → IsFirstChunk (take (length bytes - used) (drop used bytes)) packet n
-      → starts (get_or packet 0 0) ≡ true → packet_bytes + n ≤ length packets
+  -- the same as the code has it: the packet is a part of the recording, and is put behind what was written
+  pub going_copies : {n : ℕ} {packet : List ℕ} → n ≡ packet_length id → used + n ≤ length bytes → packet ≡ take (used + n - used) (drop used bytes)
+      → starts (get_or bytes used 0) ≡ true → packet_bytes + n ≤ length packets
       → Going id bytes packets₀ positions₀ (put_mid packet_bytes (packet_bytes + n - packet_bytes) packets packet) positions (used + n) (packet_bytes + n) dropped_bytes
-  going_copies {n} {packet} q i e s =
-      let t = chunk_within bytes used g.used_within i in
+  going_copies {n} {packet} q t i e s =
       let h : used < length bytes = omega (arith, packet_bound id) in
-      rw (put_mid_is packet_bytes n packets packet (drop used bytes) (chunk_is bytes used g.used_within i) (rw length-drop (omega arith)), q)
-      (going_takes (rw q at t) h (ap starts (sym (chunk_first bytes used g.used_within i (omega (arith, packet_bound id)))) ∙ e) (rw q at s))
+      let k : used + n - used ≡ n = omega arith in
+      rw (put_mid_is packet_bytes n packets packet (drop used bytes) (rw k at i) (rw length-drop (omega arith)), q)
+      (going_takes (rw q at t) h e (rw q at s))
 
   -- the code's answer here, and its outputs, are what the whole pass leaves
   abbrev pub Ends : Ending → Type 0
@@ -200,9 +174,3 @@ module _ {id : MouseId} {bytes packets₀ positions₀ packets positions : List 
   ends_for_place h e s =
       let l = positions_length in
       going_ends (Err NoRoom) (ap (written used room places) (at_dropped id bytes used h e) ∙ no_place_for_position used room places _ _ (omega arith))
-
--- Packets that follow one another: a pass that had come to used₁ has come to used, with no byte dropped.
-pub record Onward (id : MouseId) (bytes packets₁ positions : List ℕ) (used₁ packet_bytes₁ dropped_bytes : ℕ) (packets : List ℕ) (used packet_bytes : ℕ) : Type 0 where
-  pub goes : {packets₀ positions₀ : List ℕ} → Going id bytes packets₀ positions₀ packets₁ positions used₁ packet_bytes₁ dropped_bytes
-      → Going id bytes packets₀ positions₀ packets positions used packet_bytes dropped_bytes
-  pub since : used₁ ≤ used

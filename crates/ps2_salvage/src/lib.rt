@@ -42,36 +42,41 @@ fn pass<const LENGTH: usize>(bytes: &[u8], packets: &mut [u8], positions: &mut [
     requires { LENGTH ≡ packet_length id }
     ensures { Leaves (salvaged id (length packets.old) (length positions.old) bytes.now) packets.old positions.old result packets.new positions.new }
 {
+    // at how many places a whole packet is there, and has room
+    let starts = bytes.len().saturating_sub(LENGTH - 1);
+    let rooms = packets.len().saturating_sub(LENGTH - 1);
     let mut used = 0;
     let mut packet_bytes = 0;
     let mut dropped = 0;
-    let answer = 'pass: loop {
-        // Packets that follow one another have a loop of their own: one loop for both was faster or
-        // slower by a third as the compiler placed it (docs/DECISIONS.md).
-        while let Some(&packet) = bytes[used..].first_chunk::<LENGTH>() {
-            if !has(packet[0], ALWAYS_ONE) {
-                break;
+    let answer = 'pass: {
+        while used < starts {
+            if has(bytes[used], ALWAYS_ONE) {
+                if rooms <= packet_bytes {
+                    break 'pass Err(SalvageRefusal::NoRoom);
+                }
+                let packet = *bytes[used..used + LENGTH].as_array::<LENGTH>().unwrap();
+                packets[packet_bytes..packet_bytes + LENGTH].copy_from_slice(&packet);
+                used += LENGTH;
+                packet_bytes += LENGTH;
+            } else {
+                if positions.len() <= dropped {
+                    break 'pass Err(SalvageRefusal::NoRoom);
+                }
+                positions[dropped] = used as u64;
+                dropped += 1;
+                used += 1;
             }
-            if packets.len() - packet_bytes < LENGTH {
+        }
+        // in a tail too short for a packet
+        while used < bytes.len() && !has(bytes[used], ALWAYS_ONE) {
+            if positions.len() <= dropped {
                 break 'pass Err(SalvageRefusal::NoRoom);
             }
-            packets[packet_bytes..packet_bytes + LENGTH].copy_from_slice(&packet);
-            used += LENGTH;
-            packet_bytes += LENGTH;
+            positions[dropped] = used as u64;
+            dropped += 1;
+            used += 1;
         }
-        let Some(&first) = bytes.get(used) else {
-            break Ok(());
-        };
-        // a tail too short for a packet
-        if has(first, ALWAYS_ONE) {
-            break Ok(());
-        }
-        if positions.len() <= dropped {
-            break Err(SalvageRefusal::NoRoom);
-        }
-        positions[dropped] = used as u64;
-        dropped += 1;
-        used += 1;
+        Ok(())
     };
     Salvaged {
         answer,
