@@ -7,7 +7,7 @@ ghost use Rattle.keyboard.specs.Handler.{effects, handled, log_left};
 ghost use Rattle.ps2_mouse.specs.Answers.{fresh_mouse};
 ghost use Rattle.dispatcher.specs.Sources.{scripts};
 ghost use Rattle.dispatcher.specs.Step.{new_dispatcher};
-ghost use Rattle.test_calls.specs.Calls.{table_of, left, called};
+ghost use Rattle.test_calls.specs.Calls.{table_of, left, in_turn, called};
 ghost use Rattle.test_calls.specs.Steps.{left as left_by_step, one_more, made, two_keyboards};
 
 use dispatcher::Dispatcher;
@@ -18,13 +18,18 @@ use keyboard_scancodes::Profile;
 use keyboard_sides::Side;
 use ps2_mouse::PS2Mouse;
 
-// A table with one keyboard or two, without the profile, and a side of it: enums don't cross `extern "C"`.
-fn table_of(two: bool) -> Table
-    ensures { result ≡ table_of two }
+// A table with one keyboard or two, without the profile or with the tournament's, and a side of it:
+// enums don't cross `extern "C"`.
+fn table_of(two: bool, tournament: bool) -> Table
+    ensures { result ≡ table_of two tournament }
 {
     Table {
         keyboards: if two { Keyboards::Two } else { Keyboards::One },
-        profile: Profile::Any,
+        profile: if tournament {
+            Profile::Tournament
+        } else {
+            Profile::Any
+        },
     }
 }
 
@@ -34,17 +39,11 @@ fn side_of(second: bool) -> Side
     if second { Side::Second } else { Side::First }
 }
 
-// A handler call in place, on a record that this function holds.
-fn call_in_place(
-    mut handler: KeyboardHandler,
-    side: Side,
-    script: &[u8],
-    log: &mut [u8],
-) -> KeyboardHandler
-    ensures { (result ≡ (handled keyboard_lamps side handler script.now log.old).handler) × (log.new ≡ log_left keyboard_lamps side handler.state script.now log.old) }
+// Which of two scripts a call has: they are lent in turn.
+fn in_turn<'a>(call: usize, script: &'a [u8], other: &'a [u8]) -> &'a [u8]
+    ensures { result.now ≡ in_turn call script.now other.now }
 {
-    handle_in_place(&mut handler, side, script, log);
-    handler
+    if call % 2 == 0 { script } else { other }
 }
 
 // A handler call by value.
@@ -66,62 +65,67 @@ fn call_on_state(state: HandlerState, side: Side, script: &[u8], log: &mut [u8])
     effect_of(state, side, script, log).state
 }
 
-/// So many handler calls by value for a side, from a fresh record on for one keyboard or two; answers how
-/// many events then wait.
+/// So many handler calls by value for a side, whose scripts are these two in turn, from a fresh record
+/// on for one keyboard or two, without the profile or with it; answers how many events then wait.
 #[unsafe(no_mangle)]
 pub extern "C" fn vdt_handler_calls_by_value(
     script: &[u8],
+    other: &[u8],
     log: &mut [u8],
     times: usize,
     two: bool,
+    tournament: bool,
     second: bool,
 ) -> usize
-    ensures { (result ≡ (called (side_of second) times script.now (left (fresh (table_of two)) log.old)).handler.state.count) × (log.new ≡ (called (side_of second) times script.now (left (fresh (table_of two)) log.old)).log) }
+    ensures { (result ≡ (called (side_of second) times script.now other.now (left (fresh (table_of two tournament)) log.old)).handler.state.count) × (log.new ≡ (called (side_of second) times script.now other.now (left (fresh (table_of two tournament)) log.old)).log) }
 {
     let side = side_of(second);
-    let mut handler = KeyboardHandler::fresh(table_of(two));
-    for _ in 0..times {
-        handler = call_by_value(handler, side, script, log);
+    let mut handler = KeyboardHandler::fresh(table_of(two, tournament));
+    for call in 0..times {
+        handler = call_by_value(handler, side, in_turn(call, script, other), log);
     }
     handler.state.count
 }
 
-/// So many handler calls in place for a side, from a fresh record on for one keyboard or two; answers how
-/// many events then wait.
+/// The same calls in place; answers how many events then wait.
 #[unsafe(no_mangle)]
 pub extern "C" fn vdt_handler_calls_in_place(
     script: &[u8],
+    other: &[u8],
     log: &mut [u8],
     times: usize,
     two: bool,
+    tournament: bool,
     second: bool,
 ) -> usize
-    ensures { (result ≡ (called (side_of second) times script.now (left (fresh (table_of two)) log.old)).handler.state.count) × (log.new ≡ (called (side_of second) times script.now (left (fresh (table_of two)) log.old)).log) }
+    ensures { (result ≡ (called (side_of second) times script.now other.now (left (fresh (table_of two tournament)) log.old)).handler.state.count) × (log.new ≡ (called (side_of second) times script.now other.now (left (fresh (table_of two tournament)) log.old)).log) }
 {
     let side = side_of(second);
-    let mut handler = KeyboardHandler::fresh(table_of(two));
-    for _ in 0..times {
-        handler = call_in_place(handler, side, script, log);
+    let mut handler = KeyboardHandler::fresh(table_of(two, tournament));
+    for call in 0..times {
+        handle_in_place(&mut handler, side, in_turn(call, script, other), log);
     }
     handler.state.count
 }
 
-/// So many handler calls for a side on the state alone, from that of a fresh record on for one
-/// keyboard or two; answers how many events then wait.
+/// The same calls on the state alone, from that of a fresh record on; answers how many events then
+/// wait.
 #[unsafe(no_mangle)]
 pub extern "C" fn vdt_handler_calls_on_state(
     script: &[u8],
+    other: &[u8],
     log: &mut [u8],
     times: usize,
     two: bool,
+    tournament: bool,
     second: bool,
 ) -> usize
-    ensures { (result ≡ (called (side_of second) times script.now (left (fresh (table_of two)) log.old)).handler.state.count) × (log.new ≡ (called (side_of second) times script.now (left (fresh (table_of two)) log.old)).log) }
+    ensures { (result ≡ (called (side_of second) times script.now other.now (left (fresh (table_of two tournament)) log.old)).handler.state.count) × (log.new ≡ (called (side_of second) times script.now other.now (left (fresh (table_of two tournament)) log.old)).log) }
 {
     let side = side_of(second);
-    let mut state = KeyboardHandler::fresh(table_of(two)).state;
-    for _ in 0..times {
-        state = call_on_state(state, side, script, log);
+    let mut state = KeyboardHandler::fresh(table_of(two, tournament)).state;
+    for call in 0..times {
+        state = call_on_state(state, side, in_turn(call, script, other), log);
     }
     state.count
 }

@@ -3,7 +3,7 @@
 
 use crate::measure::{Row, Side};
 use beside::handler_rows::{handle_directly, handle_prefixed, Rust, IN_A_ROW, KEY, LOCK};
-use beside::library as vd;
+use beside::library::{self as vd, InARow};
 use beside::words::{COUNT, DISPATCHER_WORDS, HANDLER_WORDS};
 use std::cell::RefCell;
 use std::hint::black_box;
@@ -76,19 +76,32 @@ impl Calls {
     }
 
     /// By one of the port's ways to pass a record.
-    fn linked(self, calls: Linked) -> Side {
+    fn linked(self, calls: InARow) -> Side {
         let mut log = [0; ROOM];
+        assert_eq!(self.row_by(calls, &mut log, self.times), self.times, "the events of a row");
         Side::rows(self.times, move |times| {
             for _ in 0..ROWS {
-                black_box(calls(
-                    black_box(self.scripts[0]),
-                    &mut log,
-                    times,
-                    self.keyboards == 2,
-                    self.side == 2,
-                ));
+                black_box(self.row_by(calls, &mut log, times));
             }
         })
+    }
+
+    /// So many times the calls of its scripts, which are one or two.
+    fn row_by(self, calls: InARow, log: &mut [u8], times: usize) -> usize {
+        let (first, last) = (self.scripts[0], self.scripts[self.scripts.len() - 1]);
+        let (two, rated, second) =
+            (self.keyboards == 2, self.profile == TOURNAMENT, self.side == 2);
+        let times = times * self.scripts.len();
+        calls(black_box(first), black_box(last), log, times, two, rated, second)
+    }
+
+    /// Each of the port's ways to make the calls on a record.
+    fn ways(self) -> [(&'static str, Side); 3] {
+        [
+            ("`vd_handle`", self.exported()),
+            ("by value", self.linked(vd::handler_calls_by_value)),
+            ("in place", self.linked(vd::handler_calls_in_place)),
+        ]
     }
 
     /// The events that a row gives are all there: a library that is linked wrongly isn't measured.
@@ -107,8 +120,6 @@ impl Calls {
         assert_eq!(used, self.scripts[0].len(), "the bytes of a script");
     }
 }
-
-type Linked = fn(&[u8], &mut [u8], usize, bool, bool) -> usize;
 
 /// The Rust's reading of a byte and `handle_keyboard_input`, called with no frame.
 fn theirs(rust: &Rc<RefCell<Rust>>, script: &'static [u8], call: fn()) -> Side {
@@ -152,24 +163,19 @@ fn calls(rust: &Rc<RefCell<Rust>>) -> Vec<Row> {
         rust.borrow_mut().check(scripts[0], pairs);
         let ours = Calls::of(scripts);
         ours.check();
-        let ways = [
-            ("`vd_handle`", contents, ours.exported()),
-            ("by value", "the same calls", ours.linked(vd::handler_calls_by_value)),
-            ("in place", "the same calls", ours.linked(vd::handler_calls_in_place)),
-            (
-                "without the places",
-                "the same calls, on the record's state: whoever holds the places stores the event",
-                ours.linked(vd::handler_calls_on_state),
-            ),
-        ];
-        for (way, contents, side) in ways {
-            rows.push(row(
-                &format!("{name}, {way}"),
-                contents,
-                IN_A_ROW,
-                [theirs(rust, scripts[0], handle_directly), side],
-            ));
+        let mut add = |way: &str, contents: &str, side| {
+            let sides = [theirs(rust, scripts[0], handle_directly), side];
+            rows.push(row(&format!("{name}, {way}"), contents, IN_A_ROW, sides));
+        };
+        for (at, (way, side)) in ours.ways().into_iter().enumerate() {
+            add(way, if at == 0 { contents } else { "the same calls" }, side);
         }
+        let on_state = ours.linked(vd::handler_calls_on_state);
+        add(
+            "without the places",
+            "the same calls, on the record's state: whoever holds the places stores the event",
+            on_state,
+        );
     }
     rows
 }
@@ -177,48 +183,47 @@ fn calls(rust: &Rc<RefCell<Rust>>) -> Vec<Row> {
 /// Handler calls that the Rust has none of, or makes otherwise: what stands in its place is the
 /// port's own plain call.
 fn own_calls() -> Vec<Row> {
-    let plain = Calls { times: SHARE, ..Calls::of(&[&KEY]) };
-    let lock = Calls { times: SHARE, ..Calls::of(&[&LOCK]) };
+    let scripts: [(&str, &'static [&'static [u8]]); 4] = [
+        ("plain key", &[&KEY]),
+        ("Shift", &[&SHIFT]),
+        ("lock", &[&LOCK]),
+        ("lock, answered at the third poll", &[&SLOW_LOCK]),
+    ];
+    let at_table = "96 calls in a row; in the Rust's place the port's own at a table with one \
+        keyboard";
     let mut rows = Vec::new();
-    for (name, one) in [("plain key", plain), ("lock", lock)] {
+    for (name, scripts) in scripts {
+        let one = Calls { times: SHARE, ..Calls::of(scripts) };
         for side in [1, 2] {
             let two = Calls { keyboards: 2, side, ..one };
             two.check();
-            let contents = "96 calls in a row; in the Rust's place the port's own at a table with \
-                one keyboard";
-            let mut add = |way: &str, sides| {
-                rows.push(row(
-                    &format!("{name}, {way}, side {side} of two keyboards"),
-                    contents,
-                    SHARE,
-                    sides,
-                ));
-            };
-            add("`vd_handle`", [one.exported(), two.exported()]);
-            let by_value = vd::handler_calls_by_value;
-            add("by value", [one.linked(by_value), two.linked(by_value)]);
+            for ((way, ours), (_, own)) in two.ways().into_iter().zip(one.ways()) {
+                let name = format!("{name}, {way}, side {side} of two keyboards");
+                rows.push(row(&name, at_table, SHARE, [own, ours]));
+            }
         }
     }
+    let plain = Calls { times: SHARE, ..Calls::of(&[&KEY]) };
     let profile = Calls { profile: TOURNAMENT, ..plain };
     profile.check();
-    let contents = "A, which the profile has; in the Rust's place the port's own plain key";
-    rows.push(row(
-        "key under the profile, `vd_handle`",
-        contents,
-        SHARE,
-        [plain.exported(), profile.exported()],
-    ));
+    let under = "A, which the profile has; in the Rust's place the port's own plain key";
+    for ((way, ours), (_, own)) in profile.ways().into_iter().zip(plain.ways()) {
+        rows.push(row(&format!("key under the profile, {way}"), under, SHARE, [own, ours]));
+    }
     rows
 }
 
 /// E0 and its key: two calls of the port's handler and of the Rust's.
-fn prefixed(rust: &Rc<RefCell<Rust>>) -> Row {
+fn prefixed(rust: &Rc<RefCell<Rust>>) -> Vec<Row> {
     let ours = Calls::of(&[&PREFIX, &CURSOR]);
     ours.check_events();
     let contents = "two calls of either side; the Rust's reading of E0 and of its key, and \
         `handle_keyboard_input`";
-    let theirs = theirs(rust, &[PREFIX[0], CURSOR[0]], handle_prefixed);
-    row("E0 and its key, `vd_handle`", contents, IN_A_ROW, [theirs, ours.exported()])
+    let both = |way, side| {
+        let theirs = theirs(rust, &[PREFIX[0], CURSOR[0]], handle_prefixed);
+        row(&format!("E0 and its key, {way}"), contents, IN_A_ROW, [theirs, side])
+    };
+    ours.ways().into_iter().map(|(way, side)| both(way, side)).collect()
 }
 
 /// Takings of the events of a full row.
@@ -333,7 +338,7 @@ fn steps() -> Vec<Row> {
 pub fn rows() -> Vec<Row> {
     let rust = Rc::new(RefCell::new(Rust::new()));
     let mut rows = calls(&rust);
-    rows.push(prefixed(&rust));
+    rows.extend(prefixed(&rust));
     rows.extend(own_calls());
     rows.push(takings(&rust));
     rows.push(drained(&rust));

@@ -246,25 +246,26 @@ impl Comparison {
     /// Handler calls in a row, by value, in place and on the state alone, and a dispatcher's steps come to what as many calls on a lent record do.
     fn row(&mut self, rng: &mut Rng) {
         self.begin(true);
-        let (times, two, second) = (rng.below(140), rng.once_in(2), rng.once_in(2));
-        let script = chance::keys(rng, 1);
+        let (times, two, rated, second) = (rng.below(140), rng.once_in(2), rng.once_in(2), rng.once_in(2));
+        let scripts = [chance::keys(rng, 1), chance::keys(rng, 1)];
         let room = rng.below(8);
         let mut words = vec![0; HANDLER_WORDS];
-        vd::handler_fresh(&mut words, 1 + two as u32, 0);
+        vd::handler_fresh(&mut words, 1 + two as u32, rated as u32);
         let mut log = vec![0; room];
-        for _ in 0..times {
-            vd::handle(&mut words, 1 + second as u32, &script, &mut log);
+        for call in 0..times {
+            vd::handle(&mut words, 1 + second as u32, &scripts[call % 2], &mut log);
         }
         let expected = (words[COUNT] as usize, log);
-        let calls: [(_, fn(&[u8], &mut [u8], usize, bool, bool) -> usize); 3] = [
+        let calls: [(_, vd::InARow); 3] = [
             ("vdt_handler_calls_by_value", vd::handler_calls_by_value),
             ("vdt_handler_calls_in_place", vd::handler_calls_in_place),
             ("vdt_handler_calls_on_state", vd::handler_calls_on_state),
         ];
         for (name, export) in calls {
             let mut log = vec![0; room];
-            let count = self.port.note_count(name, export(&script, &mut log, times, two, second));
-            self.in_a_row(name, &script, (count, log), &expected);
+            let count = export(&scripts[0], &scripts[1], &mut log, times, two, rated, second);
+            let count = self.port.note_count(name, count);
+            self.in_a_row(name, &scripts.concat(), (count, log), &expected);
         }
         let mut words = vec![0; DISPATCHER_WORDS];
         vd::dispatcher_fresh(&mut words, 2, 0, 0);

@@ -84,6 +84,10 @@ macro_rules! exports {
     };
 }
 
+/// Handler calls in a row by one of the port's ways to pass a record: the scripts that they have in turn, the log, how many calls, and whether
+/// there are two keyboards, the profile is the tournament's, and the side is the second.
+pub type InARow = fn(&[u8], &[u8], &mut [u8], usize, bool, bool, bool) -> usize;
+
 exports! {
     /// The names of all exports of the library.
     NAMES:
@@ -149,8 +153,8 @@ exports! {
     vdt_mouse_data_rate mouse_data_rate(rate: u32, script: &[u8], log: &mut [u8],) -> KeptWords;
     vdt_mouse_data_resolution mouse_data_resolution(resolution: u32, script: &[u8], log: &mut [u8],) -> KeptWords;
     vdt_mouse_read_packet mouse_read_rust_packet(identity: u32, script: &[u8],) -> RustPacketWords;
-    vdt_handler_calls_by_value handler_calls_by_value(script: &[u8], log: &mut [u8], times: usize, two: bool, second: bool,) -> usize;
-    vdt_handler_calls_in_place handler_calls_in_place(script: &[u8], log: &mut [u8], times: usize, two: bool, second: bool,) -> usize;
-    vdt_handler_calls_on_state handler_calls_on_state(script: &[u8], log: &mut [u8], times: usize, two: bool, second: bool,) -> usize;
+    vdt_handler_calls_by_value handler_calls_by_value(script: &[u8], other: &[u8], log: &mut [u8], times: usize, two: bool, tournament: bool, second: bool,) -> usize;
+    vdt_handler_calls_in_place handler_calls_in_place(script: &[u8], other: &[u8], log: &mut [u8], times: usize, two: bool, tournament: bool, second: bool,) -> usize;
+    vdt_handler_calls_on_state handler_calls_on_state(script: &[u8], other: &[u8], log: &mut [u8], times: usize, two: bool, tournament: bool, second: bool,) -> usize;
     vdt_dispatcher_steps dispatcher_steps(first: &[u8], second: &[u8], third: &[u8], log: &mut [u8], times: usize,) -> usize;
 }

@@ -1,16 +1,18 @@
 -- `test_calls::vdt_handler_calls_in_place` meets its contract: after i turns the record and the log are what i calls leave.
 -- Assumes nothing.
 use native.Mathlib.Omega.{arith}
-use mathlib.Core.Path.{sym}
+use mathlib.Core.Path.{sym, ap}
+use Rattle.keyboard.specs.Handler.{Called}
 use Rattle.test_calls.proofs.Calls.{none_called, one_more_called, all_called}
 use Rattle.test_calls.proofs.rows.vdt_handler_calls_in_place.Goals as goal
 
-pub loop-init : goal.loop-init
-loop-init c = none_called _ _ _ _ (rw (sym c.table_of.ensures) c.fresh-handler.ensures)
+pub loop-call-init : goal.loop-call-init
+loop-call-init c = none_called _ _ _ _ _ (rw (sym c.table_of.ensures) c.fresh-handler.ensures)
 
-pub loop-preserved : goal.loop-preserved
-loop-preserved c =
-    one_more_called _ _ _ _ _ c.loop.invariant c.side_of-side.ensures c.call_in_place-handler.ensures.0 c.call_in_place-handler.ensures.1
+pub loop-call-preserved : goal.loop-call-preserved
+loop-call-preserved c =
+    one_more_called _ _ _ _ _ _ c.loop-call.invariant c.side_of-side.ensures c.in_turn.ensures (ap (λ (x : Called). x.handler) c.handle_in_place.ensures.0)
+    c.handle_in_place.ensures.1
 
 pub returns : goal.returns
-returns c = all_called _ _ _ _ c.loop.invariant (omega arith)
+returns c = all_called _ _ _ _ _ c.loop-call.invariant (omega arith)

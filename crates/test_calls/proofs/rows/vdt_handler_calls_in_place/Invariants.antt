@@ -6,5 +6,5 @@ use Rattle.test_calls.specs.Calls.{table_of}
 use Rattle.test_calls.proofs.Calls.{Reached}
 use Rattle.test_calls.proofs.rows.vdt_handler_calls_in_place.Given as goal
 
-abbrev pub invariant-loop : goal.invariant-loop
-invariant-loop l = Reached (side_of l.second) l.script (fresh (table_of l.two)) l.initial.log l.handler l.log l.counter
+abbrev pub invariant-loop-call : goal.invariant-loop-call
+invariant-loop-call l = Reached (side_of l.second) l.script l.other (fresh (table_of l.two l.tournament)) l.initial.log l.handler l.log l.call

@@ -6,5 +6,5 @@ use Rattle.test_calls.specs.Calls.{table_of}
 use Rattle.test_calls.proofs.Calls.{StateReached}
 use Rattle.test_calls.proofs.rows.vdt_handler_calls_on_state.Given as goal
 
-abbrev pub invariant-loop : goal.invariant-loop
-invariant-loop l = StateReached (side_of l.second) l.script (fresh (table_of l.two)) l.initial.log l.state l.log l.counter
+abbrev pub invariant-loop-call : goal.invariant-loop-call
+invariant-loop-call l = StateReached (side_of l.second) l.script l.other (fresh (table_of l.two l.tournament)) l.initial.log l.state l.log l.call
