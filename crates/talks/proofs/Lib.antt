@@ -1,0 +1,3 @@
+-- Laws of talks.
+pub mod Attempts
+pub mod Tables

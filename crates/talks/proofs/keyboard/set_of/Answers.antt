@@ -1,0 +1,11 @@
+-- `set_of` meets its contract. Assumes nothing.
+use Rattle.ps2_answers.specs.declared.Failure.TheVariants.{NoSetOrIdentity}
+use Rattle.ps2_bytes.specs.Data.{scancode_sets}
+use Rattle.talks.proofs.Tables.{reads}
+use Rattle.talks.proofs.keyboard.set_of.Goals as goal
+
+pub returns-in-Ok : goal.returns-in-Ok
+returns-in-Ok c = reads NoSetOrIdentity scancode_sets c.args.byte c.try_from.ensures c.in-Ok.is
+
+pub returns-in-Err : goal.returns-in-Err
+returns-in-Err c = reads NoSetOrIdentity scancode_sets c.args.byte c.try_from.ensures c.in-Err.is
