@@ -1,0 +1,1 @@
+-- Each operation's talk is the tree of its definition: proofs/ says which.
