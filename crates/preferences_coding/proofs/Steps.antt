@@ -96,6 +96,14 @@ module _ {input : List ℕ} {at : ℕ} (question : ℕ → Bool) where
   pub outside : {r : Result (ℕ × ℕ) ReadRefusal} {t : ℕ × ℕ} {b : Bool} {x : ReadRefusal} → Takes input at any_number r → r ≡ Ok t → b ≡ question t.0 → b ≡ false → x ≡ ReadRefusal.OutsideValues → Takes input at question (Err x)
   outside h e p q z = subst (λ (y : ReadRefusal). Takes input at question (Err y)) (sym z) (takes_outside (subst (Takes input at any_number) e h) (sym p ∙ q))
 
+-- a count is held against a number, which is the version's
+module _ {input : List ℕ} {at : ℕ} (version : ℕ) {k : ℕ} {r : Result (ℕ × ℕ) ReadRefusal} {t : ℕ × ℕ} (h : Takes input at any_number r) (e : r ≡ Ok t) where
+  pub counted : eqb t.0 k ≡ true → k ≡ field_count version → Takes input at (is_count version) (Ok t)
+  counted q c = taken (is_count version) h e (ap (λ (n : ℕ). eqb t.0 n) c) q
+
+  pub miscounted : {x : ReadRefusal} → eqb t.0 k ≡ false → x ≡ ReadRefusal.OutsideValues → k ≡ field_count version → Takes input at (is_count version) (Err x)
+  miscounted q z c = outside (is_count version) h e (ap (λ (n : ℕ). eqb t.0 n) c) q z
+
 -- ---- version and count
 
 -- a number that is read as a version is that version's

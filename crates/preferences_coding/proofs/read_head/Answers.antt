@@ -1,12 +1,10 @@
 -- `preferences_coding::read_head` meets its contract: the version, then the count that the version says.
 -- Assumes nothing.
-use Prim.Native.Nat.{ℕ}
-use mathlib.Core.Path.{ap}
-use lib.Dec.{eqb}
+use native.Mathlib.Omega.{arith}
 use Rattle.std.proofs.lemmas.Result.{err_from_is_err_and}
 use Rattle.preferences_coding.specs.Reading.{is_version, is_count}
 use Rattle.preferences_coding.specs.Steps.{version_number}
-use Rattle.preferences_coding.proofs.Steps.{malformed, taken, outside, versioned, unversioned, head_refused, count_refused, head_read}
+use Rattle.preferences_coding.proofs.Steps.{malformed, counted, miscounted, versioned, unversioned, head_refused, count_refused, head_read}
 use Rattle.preferences_coding.proofs.read_head.Goals as goal
 
 pub returns-in_err-number : goal.returns-in_err-number
@@ -29,9 +27,9 @@ pub returns-in_err-accept : goal.returns-in_err-accept
 returns-in_err-accept c =
     let v = c.in_ok-version.version in
     let p = err_from_is_err_and c.from_residual-in_err-accept.result c.from_residual-in_err-accept.ensures.1 in
-    rw (p.1, p.2) (count_refused v (versioned c.number_at.ensures c.in_ok-number.was c.try_from.ensures c.in_ok-version.was) (outside (is_count (version_number v)) c.number_at-2.ensures c.in_ok-count.was (ap (λ (k : ℕ). eqb c.in_ok-count.count k) c.field_count.ensures) c.in_err-accept.ensures.0 c.in_err-accept.ensures.1))
+    rw (p.1, p.2) (count_refused v (versioned c.number_at.ensures c.in_ok-number.was c.try_from.ensures c.in_ok-version.was) (miscounted (version_number v) c.number_at-2.ensures c.in_ok-count.was c.in_err-accept.ensures.0 c.in_err-accept.ensures.1 (omega (arith, c.field_count.ensures))))
 
 pub returns : goal.returns
 returns c =
     let v = c.in_ok-version.version in
-    head_read v (versioned c.number_at.ensures c.in_ok-number.was c.try_from.ensures c.in_ok-version.was) (taken (is_count (version_number v)) c.number_at-2.ensures c.in_ok-count.was (ap (λ (k : ℕ). eqb c.in_ok-count.count k) c.field_count.ensures) c.in_ok-accept.ensures)
+    head_read v (versioned c.number_at.ensures c.in_ok-number.was c.try_from.ensures c.in_ok-version.was) (counted (version_number v) c.number_at-2.ensures c.in_ok-count.was c.in_ok-accept.ensures (omega (arith, c.field_count.ensures)))
