@@ -179,12 +179,11 @@ pub fn print(limit: &str, programs: &[&str]) -> io::Result<ExitCode> {
     print!("{}", output(programs[0], &["growth", limit])?);
     println!();
     println!(
-        "Rows with more instructions than the Rust, or than what stands in its place: {}.",
-        match &above[..] {
-            [] => "none".to_string(),
-            names => names.join("; "),
-        }
+        "Rows with more instructions than the Rust, or than what stands in its place: {}.\n",
+        above.len()
     );
+    above.iter().for_each(|name| println!("- {name}"));
+    println!();
     if let (Some((all, own)), Some((all_now, own_now))) = (before, all_and_own()) {
         let others = (all_now - all - (own_now - own)).max(0.0) / start.elapsed().as_secs_f64();
         println!("Other programs of the machine took {others:.2} of its processors meanwhile.");
