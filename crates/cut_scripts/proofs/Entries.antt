@@ -34,9 +34,8 @@ use Rattle.keyboard.specs.declared.Effect.{Effect}
 use Rattle.keyboard.specs.declared.Handled.{Handled}
 use Rattle.keyboard.specs.KeyboardLamps.{keyboard_lamps}
 use Rattle.keyboard.specs.Handler.{handle, effects, log_left, handled}
-use Rattle.keyboard.specs.Outcomes.{said_effect, said_handled}
+use Rattle.keyboard.specs.Outcomes.{said_effect, said_in_place, said_handled}
 use Rattle.keyboard.specs.declared.CallAnswer.{CallAnswer}
-use Rattle.keyboard_in_place.specs.InPlace.{said_in_place}
 use Rattle.keyboard_init.specs.declared.KeyboardInitialized.{KeyboardInitialized}
 use Rattle.keyboard_init.specs.KeyboardInit.{keyboard_init}
 use Rattle.cut_scripts.specs.CutShort.{Handed, handed, next_port, CutShort}
@@ -142,14 +141,15 @@ module _ (n : ℕ) (script log : List ℕ) where
   -- ---- the handler call of either side, with waiting bytes or without, on any record
 
   module _ (side : Side) where
-    abbrev handed_effect : Effect → List ℕ → Handed StateCoded
-    handed_effect r l = handed (record { answer = r.answer; failed = r.lamps_failed; state = r.state; event = r.event; dropped = r.dropped }) r.used r.pairs l
+    abbrev handed_effect : Effect → HandlerState → List ℕ → Handed StateCoded
+    handed_effect r s l = handed (record { answer = r.call.answer; failed = r.call.lamps_failed; state = s; event = r.event; dropped = r.call.dropped }) r.call.used r.call.pairs l
 
-    pub effect_of_cut : (state : HandlerState) {r r' : Effect} {l l' : List ℕ}
-        → (said_effect r ≡ effects keyboard_lamps side state script log) × (l ≡ log_left keyboard_lamps side state script log)
-        → (said_effect r' ≡ effects keyboard_lamps side state (take n script) log) × (l' ≡ log_left keyboard_lamps side state (take n script) log)
-        → CutShort n (coded_state state (next_port n (handle keyboard_lamps side state) script log)) log (handed_effect r l) (handed_effect r' l')
-    effect_of_cut state p q =
+    -- the state is the one behind the reference at exit
+    pub handle_state_cut : (state : HandlerState) {r r' : Effect} {s s' : HandlerState} {l l' : List ℕ}
+        → (said_effect r s ≡ effects keyboard_lamps side state script log) × (l ≡ log_left keyboard_lamps side state script log)
+        → (said_effect r' s' ≡ effects keyboard_lamps side state (take n script) log) × (l' ≡ log_left keyboard_lamps side state (take n script) log)
+        → CutShort n (coded_state state (next_port n (handle keyboard_lamps side state) script log)) log (handed_effect r s l) (handed_effect r' s' l')
+    handle_state_cut state p q =
         as_coded (state_codes state) (next_port n (handle keyboard_lamps side state) script log) (effects_cut keyboard_lamps side n script log state p q)
 
     abbrev handed_call : Handled → List ℕ → Handed RecordCoded

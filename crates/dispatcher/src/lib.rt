@@ -7,9 +7,9 @@ ghost use Rattle.ps2_answers.specs.Answers.{used_of, pairs_of};
 ghost use Rattle.dispatcher.specs.Turns.{next, asked_first, served};
 ghost use Rattle.dispatcher.specs.Sources.{scripts, value_at, with_place, unused, keyboard_waits, mouse_waits, waits_now};
 ghost use Rattle.dispatcher.specs.Step.{new_dispatcher, with_handler, turn_over, serve_mouse, serve_keyboard, step_of};
-ghost use Rattle.dispatcher.specs.Said.{wait_in, said_step};
+ghost use Rattle.dispatcher.specs.Said.{wait_in, said_step, said_step_in_place};
 
-use keyboard::{CallAnswer, handle};
+use keyboard::{CallAnswer, handle_in_place};
 use keyboard_record::KeyboardHandler;
 use keyboard_sides::Side;
 use ps2_answers::Answer;
@@ -56,7 +56,15 @@ pub enum Served {
     Idle,
 }
 
-// What a step gives back, with the script bytes used and the pairs written by the call that it made.
+// What a step gives back beside the state: its answer, with the script bytes used and the pairs written by the call that it made.
+#[derive(Clone, Copy)]
+pub struct StepAnswer {
+    pub served: Served,
+    pub used: usize,
+    pub pairs: usize,
+}
+
+// The same with the state, for a step by value.
 #[derive(Clone, Copy)]
 pub struct Dispatched {
     pub served: Served,
@@ -167,25 +175,6 @@ pub fn mouse_waits(place: usize, bytes: &[u8], id: MouseId) -> bool
     packet_length(id) <= unread
 }
 
-// A side's turn: one handler call on its unused bytes. A refused call uses the turn too.
-fn serve_keyboard(state: Dispatcher, side: Side, script: &[u8], log: &mut [u8]) -> Dispatched
-    ensures { said_step result log.new ≡ serve_keyboard keyboard_lamps side state script.now log.old }
-{
-    let source = Source::Keyboard(side);
-    let place = state.places.at(source);
-    let call = handle(state.handler, side, &script[start(place, script)..], log);
-    Dispatched {
-        served: Served::Key(side, call.call_answer()),
-        used: call.used,
-        pairs: call.pairs,
-        state: state.turn_over(
-            source,
-            state.places.with_place(source, place + call.used),
-            call.handler,
-        ),
-    }
-}
-
 // The counts of an answer, script bytes used and pairs written.
 fn counts(answer: Answer<SignedPacket>) -> (usize, usize)
     ensures used { result.0 ≡ used_of answer }
@@ -194,25 +183,6 @@ fn counts(answer: Answer<SignedPacket>) -> (usize, usize)
     match answer {
         Ok(packet) => (packet.used, packet.pairs),
         Err(refused) => (refused.used, refused.pairs),
-    }
-}
-
-// The mouse's turn: one packet of its unread bytes.
-fn serve_mouse(state: Dispatcher, script: &[u8]) -> Dispatched
-    ensures { (log : List ℕ) → said_step result log ≡ serve_mouse state script.now log }
-{
-    let place = state.places.mouse;
-    let read = read_signed_packet(state.mouse.id, &script[start(place, script)..]);
-    let (used, pairs) = counts(read);
-    Dispatched {
-        served: Served::Packet(read),
-        used,
-        pairs,
-        state: state.turn_over(
-            Source::Mouse,
-            state.places.with_place(Source::Mouse, place + used),
-            state.handler,
-        ),
     }
 }
 
@@ -240,21 +210,52 @@ impl Dispatcher {
         Dispatcher { handler, ..self }
     }
 
-    // The state where a source was served: its turn is over, whatever the call answered.
-    fn turn_over(self, source: Source, places: Places, handler: KeyboardHandler) -> Dispatcher
-        ensures { result ≡ turn_over source places handler self }
+    // A source was served, up to this place in its script: its turn is over, whatever the call answered.
+    fn end_turn(&mut self, source: Source, place: usize)
+        ensures { self.new ≡ turn_over source (with_place source place self.old.places) self.old.handler self.old }
     {
-        Dispatcher {
-            last: Some(source),
-            places,
-            handler,
-            ..self
+        self.last = Some(source);
+        self.places = self.places.with_place(source, place);
+    }
+
+    // A side's turn: one handler call on its unused bytes. A refused call uses the turn too.
+    fn serve_keyboard(&mut self, side: Side, script: &[u8], log: &mut [u8]) -> StepAnswer
+        ensures { said_step_in_place result self.new log.new ≡ serve_keyboard keyboard_lamps side self.old script.now log.old }
+    {
+        let source = Source::Keyboard(side);
+        let place = self.places.at(source);
+        let call = handle_in_place(
+            &mut self.handler,
+            side,
+            &script[start(place, script)..],
+            log,
+        );
+        self.end_turn(source, place + call.used);
+        StepAnswer {
+            served: Served::Key(side, call),
+            used: call.used,
+            pairs: call.pairs,
+        }
+    }
+
+    // The mouse's turn: one packet of its unread bytes.
+    fn serve_mouse(&mut self, script: &[u8]) -> StepAnswer
+        ensures { (log : List ℕ) → said_step_in_place result self.new log ≡ serve_mouse self.old script.now log }
+    {
+        let place = self.places.mouse;
+        let read = read_signed_packet(self.mouse.id, &script[start(place, script)..]);
+        let (used, pairs) = counts(read);
+        self.end_turn(Source::Mouse, place + used);
+        StepAnswer {
+            served: Served::Packet(read),
+            used,
+            pairs,
         }
     }
 
     // Which sources wait.
-    pub fn waits(self, first: &[u8], second: &[u8], third: &[u8]) -> Waits
-        ensures { (source : Source) → wait_in result source ≡ waits_now self (scripts first.now second.now third.now) source }
+    pub fn waits(&self, first: &[u8], second: &[u8], third: &[u8]) -> Waits
+        ensures { (source : Source) → wait_in result source ≡ waits_now self.now (scripts first.now second.now third.now) source }
     {
         Waits {
             first: keyboard_waits(
@@ -272,19 +273,37 @@ impl Dispatcher {
     }
 
     // A step: the first source that waits, going round from the one after the last served, is served. Where none waits it is idle and leaves all as it was.
-    pub fn step(self, first: &[u8], second: &[u8], third: &[u8], log: &mut [u8]) -> Dispatched
-        ensures { said_step result log.new ≡ step_of keyboard_lamps self (scripts first.now second.now third.now) log.old }
+    pub fn step_in_place(
+        &mut self,
+        first: &[u8],
+        second: &[u8],
+        third: &[u8],
+        log: &mut [u8],
+    ) -> StepAnswer
+        ensures { said_step_in_place result self.new log.new ≡ step_of keyboard_lamps self.old (scripts first.now second.now third.now) log.old }
     {
         match self.waits(first, second, third).serves(self.last) {
-            Some(Source::Keyboard(Side::First)) => serve_keyboard(self, Side::First, first, log),
-            Some(Source::Keyboard(Side::Second)) => serve_keyboard(self, Side::Second, second, log),
-            Some(Source::Mouse) => serve_mouse(self, third),
-            None => Dispatched {
+            Some(Source::Keyboard(Side::First)) => self.serve_keyboard(Side::First, first, log),
+            Some(Source::Keyboard(Side::Second)) => self.serve_keyboard(Side::Second, second, log),
+            Some(Source::Mouse) => self.serve_mouse(third),
+            None => StepAnswer {
                 served: Served::Idle,
                 used: 0,
                 pairs: 0,
-                state: self,
             },
+        }
+    }
+
+    // The same by value.
+    pub fn step(mut self, first: &[u8], second: &[u8], third: &[u8], log: &mut [u8]) -> Dispatched
+        ensures { said_step result log.new ≡ step_of keyboard_lamps self (scripts first.now second.now third.now) log.old }
+    {
+        let done = self.step_in_place(first, second, third, log);
+        Dispatched {
+            served: done.served,
+            used: done.used,
+            pairs: done.pairs,
+            state: self,
         }
     }
 }

@@ -114,7 +114,7 @@ module _ (ws script : List ℕ) (n : length ws ≡ dispatcher_length) (place fro
 
   mouse_is : (log : List ℕ) → serve_mouse (dispatcher_of ws) script log
       ≡ stepped (packet (record { end = e; used = u; pairs = w })) (served_one Source.Mouse u (dispatcher_of ws).handler (dispatcher_of ws)) log
-  mouse_is log = sym (mouse_served (dispatcher_of ws) script from unread reading log refl refl)
+  mouse_is log = sym (mouse_served (dispatcher_of ws) script from unread reading log refl)
 
   pub mouse_turn : (log : List ℕ) {number : ℕ} → number ≡ source_number Source.Mouse → {none : StepWords} → none ≡ no_call 0 → {ws' : List ℕ} {moved : ℕ} → ws' ≡ with_turn Source.Mouse moved ws → moved ≡ place + told.used
       → MouseServed ws script log (record { refusal = told.refusal; source = number; call = none.call; packet = told }) ws' log

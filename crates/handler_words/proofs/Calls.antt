@@ -125,8 +125,8 @@ module _ (side : Side) (ws s l : List ℕ) (y : Effects) {l' : List ℕ} (made :
 
 -- ---- by the effect that the code's call on the state gives back
 
-module _ (side : Side) (ws s l : List ℕ) (x : Effect) {state : HandlerState} (is : state ≡ state_of ws) {l' : List ℕ} (made : (said_effect x ≡ effects keyboard_lamps side state s l) × (l' ≡ log_left keyboard_lamps side state s l)) where
-  effect_is : (said_effect x ≡ effects keyboard_lamps side (state_of ws) s l) × (l' ≡ log_left keyboard_lamps side (state_of ws) s l)
+module _ (side : Side) (ws s l : List ℕ) (x : Effect) {left state : HandlerState} (is : state ≡ state_of ws) {l' : List ℕ} (made : (said_effect x left ≡ effects keyboard_lamps side state s l) × (l' ≡ log_left keyboard_lamps side state s l)) where
+  effect_is : (said_effect x left ≡ effects keyboard_lamps side (state_of ws) s l) × (l' ≡ log_left keyboard_lamps side (state_of ws) s l)
   effect_is = (rw is at made.0, rw is at made.1)
 
   -- where there is a new event, there is a place for it
@@ -137,14 +137,14 @@ module _ (side : Side) (ws s l : List ℕ) (x : Effect) {state : HandlerState} (
         (w.start_in, w.count_in);
   }
 
-  module _ {refusal lamps port : ℕ} (a : refusal ≡ number_ended (said_call x.answer)) (b : lamps ≡ number_answered (said_lamps x.lamps_failed)) (c : port ≡ port_lacked (said_call x.answer)) where
-    pub left_alone : ends2_3_21 (said_call x.answer) ≡ true
-        → SideHandled side ws s l (record { refusal = refusal; lamps = lamps; used = x.used; pairs = x.pairs; dropped = x.dropped; port = port }) ws l'
-    left_alone t = as_passed side ws s l (said_effect x) effect_is a b c t
+  module _ {refusal lamps port : ℕ} (a : refusal ≡ number_ended (said_call x.call.answer)) (b : lamps ≡ number_answered (said_lamps x.call.lamps_failed)) (c : port ≡ port_lacked (said_call x.call.answer)) where
+    pub left_alone : ends2_3_21 (said_call x.call.answer) ≡ true
+        → SideHandled side ws s l (record { refusal = refusal; lamps = lamps; used = x.call.used; pairs = x.call.pairs; dropped = x.call.dropped; port = port }) ws l'
+    left_alone t = as_passed side ws s l (said_effect x left) effect_is a b c t
 
     module _ (h : length ws ≡ words_length) where
-      pub written : ends2_3_21 (said_call x.answer) ≡ false → {k : KeyboardState} → k ≡ keyboard_at side x.state
+      pub written : ends2_3_21 (said_call x.call.answer) ≡ false → {k : KeyboardState} → k ≡ keyboard_at side left
           → {us : List ℕ} → (us ≡ with_keyboard_at (keyboard_from side) k ws) × Narrow k
-          → {ws' : List ℕ} → (ws' ≡ with_event ((state.start + state.count) % 128) x.state (said_event x.event) us) × (reread (said_event x.event) ≡ said_event x.event)
-          → SideHandled side ws s l (record { refusal = refusal; lamps = lamps; used = x.used; pairs = x.pairs; dropped = x.dropped; port = port }) ws' l'
-      written t q u v = moved_on side ws s l (said_effect x) effect_is a b c h t q u (rw is at v)
+          → {ws' : List ℕ} → (ws' ≡ with_event ((state.start + state.count) % 128) left (said_event x.event) us) × (reread (said_event x.event) ≡ said_event x.event)
+          → SideHandled side ws s l (record { refusal = refusal; lamps = lamps; used = x.call.used; pairs = x.call.pairs; dropped = x.call.dropped; port = port }) ws' l'
+      written t q u v = moved_on side ws s l (said_effect x left) effect_is a b c h t q u (rw is at v)

@@ -22,7 +22,7 @@ ghost use Rattle.handler_words.specs.Calls.{refusing, with_keyboard_at, with_sid
 ghost use Rattle.handler_words.specs.Parts.{said_table, InTwo, Narrow, Placed, reread, Says, keyboard_passes, sides_pass, FromScript, KeyAlone, followed_by, byte_used, PlainKey, KeyQueued, KeyHandled};
 
 use argument_words::MEANS_NOTHING;
-use keyboard::{HandlerAnswer, HandlerRefusal, effect_of, leaves_as_passed, number_of};
+use keyboard::{HandlerAnswer, HandlerRefusal, handle_state, leaves_as_passed, number_of};
 use keyboard_modifiers::KeyboardModifiers;
 use keyboard_record::{FLAG_LIMIT, HandlerState, Keyboards, NoRoom, QUEUE_LENGTH, Table};
 use keyboard_scancodes::{
@@ -389,7 +389,8 @@ fn handle_key(words: &mut Words, side: Side, script: &[u8]) -> HandledWords
     let modifiers = modifiers_after(Profile::Any, state.keyboard_at(side), scan_code);
     let keyboard = followed(modifiers);
     put_keyboard(words, side, keyboard);
-    let left = state.with_keyboard(side, keyboard);
+    let mut left = state;
+    left.put_keyboard(side, keyboard);
     byte_used(queue_key(words, left, side, scan_code, modifiers))
 }
 
@@ -413,20 +414,22 @@ fn handle_side(words: &mut Words, side: Side, script: &[u8], log: &mut [u8]) -> 
         return handle_key(words, side, script);
     }
     let state = state_in(words);
-    let effect = effect_of(state, side, script, log);
+    let mut left = state;
+    let effect = handle_state(&mut left, side, script, log);
+    let call = effect.call;
     let handled = HandledWords {
-        refusal: u32::from(number_of(effect.answer)),
-        lamps: lamps_number(effect.lamps_failed),
-        used: effect.used,
-        pairs: effect.pairs,
-        dropped: effect.dropped,
-        port: port_lacked(effect.answer),
+        refusal: u32::from(number_of(call.answer)),
+        lamps: lamps_number(call.lamps_failed),
+        used: call.used,
+        pairs: call.pairs,
+        dropped: call.dropped,
+        port: port_lacked(call.answer),
     };
-    if leaves_as_passed(effect.answer) {
+    if leaves_as_passed(call.answer) {
         return handled;
     }
-    put_keyboard(words, side, effect.state.keyboard_at(side));
-    put_new(words, state.start, state.count, effect.state, effect.event);
+    put_keyboard(words, side, left.keyboard_at(side));
+    put_new(words, state.start, state.count, left, effect.event);
     handled
 }
 

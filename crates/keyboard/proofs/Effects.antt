@@ -89,12 +89,12 @@ module _ (side : Side) (s : HandlerState) (script log : List ℕ) (w : call_form
 
 -- an effect with this event in the place of its own
 abbrev effect_with : Effect → Maybe KeyEvent → Effect
-effect_with x n = record { answer = x.answer; lamps_failed = x.lamps_failed; used = x.used; pairs = x.pairs; state = x.state; event = n; dropped = x.dropped }
+effect_with x n = record { call = x.call; event = n }
 
 module _ {A : Type 0} (lamps : Side → ℕ → Exchange (Answer A)) (side : Side) (s l : List ℕ) where
   -- a call on the state, with its event known, as a call on the record
-  pub called_with_lem : (h : KeyboardHandler) (x : Effect) {n : Maybe KeyEvent} → x.event ≡ n → said_effect x ≡ effects lamps side h.state s l
-      → called_with h (said_effect (effect_with x n)) ≡ handled lamps side h s l
+  pub called_with_lem : (h : KeyboardHandler) (x : Effect) {left : HandlerState} {n : Maybe KeyEvent} → x.event ≡ n → said_effect x left ≡ effects lamps side h.state s l
+      → called_with h (said_effect (effect_with x n) left) ≡ handled lamps side h s l
   unfolding handled
   called_with_lem h x is made = rw (← is) (ap (called_with h) made)
 
@@ -102,7 +102,7 @@ module _ {A : Type 0} (lamps : Side → ℕ → Exchange (Answer A)) (side : Sid
   some_none : {e : KeyEvent} → ◌≡◌ {A = Option KeyEvent} (some e) none → ⊥
   some_none q = let z : ◌≡◌ {A = ℕ} 0 1 = cc in omega arith
 
-  pub queued_well : (h : HandlerState) (x : Effect) {e : KeyEvent} → x.event ≡ Some e → said_effect x ≡ effects lamps side h s l → WellFormed h
+  pub queued_well : (h : HandlerState) (x : Effect) {left : HandlerState} {e : KeyEvent} → x.event ≡ Some e → said_effect x left ≡ effects lamps side h s l → WellFormed h
   queued_well h x is made =
       ⊎_elim (λ w. (call_is side h w).1)
       (λ w. absurd (some_none (sym (ap said_event is) ∙ ap (λ (y : Effects). y.event) (made ∙ malformed_effects lamps side h s l w))))

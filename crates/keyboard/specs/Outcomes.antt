@@ -1,6 +1,6 @@
 -- What the code gives back, as the definitions have it, and the parts of a call that code has of its own.
 -- Assumes nothing.
-use Rattle.std.specs.Prelude.{List, [], ◌∷◌, ◌++◌, ◌≡◌, ℕ, ◌≤◌, length, Option as Maybe, Some, None}
+use Rattle.std.specs.Prelude.{false, List, [], ◌∷◌, ◌++◌, ◌≡◌, ℕ, ◌≤◌, length, Option as Maybe, Some, None, Result}
 use Rattle.std.proofs.Math.Option.{Option, none, some}
 use Rattle.exchange.specs.Exchange.{p60, no_script, Exchange, done, bind, End, yields, lacks, play}
 use Rattle.exchange.specs.Answer.{Answer, gives}
@@ -11,23 +11,32 @@ use Rattle.ps2_kept.specs.Kept.{kept_limit, kept_of}
 use Rattle.keycodes_ascii.specs.declared.KeyEvent.{KeyEvent}
 use Rattle.keyboard_scancodes.specs.declared.KeyboardState.{KeyboardState}
 use Rattle.keyboard.specs.declared.CallAnswer.{CallAnswer}
+use Rattle.keyboard_record.specs.declared.HandlerState.{HandlerState}
+use Rattle.keyboard_record.specs.declared.KeyboardHandler.{KeyboardHandler}
 use Rattle.keyboard.specs.declared.Effect.{Effect}
 use Rattle.keyboard.specs.declared.Handled.{Handled}
-use Rattle.keyboard.specs.declared.KeyEffect.{KeyEffect}
+use Rattle.keyboard.specs.declared.HandlerRefusal.{HandlerRefusal}
 use Rattle.keyboard.specs.Rules.{Rules}
 use Rattle.keyboard.specs.Answers.{said_call, said_lamps, said_given}
 use Rattle.keyboard.specs.Scancode.{Took, takes}
 use Rattle.keyboard.specs.Byte.{Keyed, after_lamps, KeyEffects, key_effects_by, lamp_exchange}
 use Rattle.keyboard.specs.Handler.{Effects, Called}
 
--- What a call answers beside its record.
-abbrev pub call_answer : Handled → CallAnswer
-call_answer x = record { answer = x.answer; lamps_failed = x.lamps_failed; used = x.used; pairs = x.pairs; dropped = x.dropped }
+-- A call that gives no event and shows no lamp exchange that failed, by its answer and counts.
+abbrev pub without_event : Result (Unit {0}) HandlerRefusal → ℕ → ℕ → Effect
+without_event answer used pairs = record { call = record { answer = answer; lamps_failed = false; used = used; pairs = pairs; dropped = 0 }; event = None }
 
--- What a call gives back for its keyboard.
-abbrev pub said_key_effect : KeyEffect → KeyEffects
-said_key_effect x =
-    record { end = said_given x.answer x.event; lamps = said_lamps x.lamps_failed; used = x.used; pairs = x.pairs; keyboard = x.keyboard; dropped = x.dropped }
+-- What a call gives back for its keyboard, with what is then remembered of it.
+abbrev pub said_key_effect : Effect → KeyboardState → KeyEffects
+said_key_effect x k =
+    record {
+      end = said_given x.call.answer x.event;
+      lamps = said_lamps x.call.lamps_failed;
+      used = x.call.used;
+      pairs = x.call.pairs;
+      keyboard = k;
+      dropped = x.call.dropped;
+    }
 
 -- An outcome with the script bytes used and the pairs written.
 abbrev pub key_effects_of : Keyed → ℕ → ℕ → KeyEffects
@@ -67,16 +76,28 @@ abbrev pub said_event : Maybe KeyEvent → Option KeyEvent
 said_event (Some e) = some e
 said_event None = none
 
--- What a call gives back but for the places, and with them.
-abbrev pub said_effect : Effect → Effects
-said_effect x =
+-- What a call gives back but for the places, with the state that it left.
+abbrev pub said_effect : Effect → HandlerState → Effects
+said_effect x s =
+    record {
+      end = said_call x.call.answer;
+      lamps = said_lamps x.call.lamps_failed;
+      used = x.call.used;
+      pairs = x.call.pairs;
+      state = s;
+      event = said_event x.event;
+      dropped = x.call.dropped;
+    }
+
+-- With the record that it left behind the reference, and by value: all that a call gives back.
+abbrev pub said_in_place : CallAnswer → KeyboardHandler → Called
+said_in_place x left =
     record {
       end = said_call x.answer;
       lamps = said_lamps x.lamps_failed;
       used = x.used;
       pairs = x.pairs;
-      state = x.state;
-      event = said_event x.event;
+      handler = left;
       dropped = x.dropped;
     }
 

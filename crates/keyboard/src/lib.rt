@@ -16,7 +16,7 @@ ghost use Rattle.keyboard_record.specs.Queue.{said_room};
 ghost use Rattle.keyboard.specs.Answers.{said_call, said_lamps, ends2_3_21};
 ghost use Rattle.keyboard.specs.KeyboardLamps.{port_of, port_rules, keyboard_lamps};
 ghost use Rattle.keyboard.specs.Handler.{effects, log_left, handled};
-ghost use Rattle.keyboard.specs.Outcomes.{call_answer, said_key_effect, said_effect, said_handled, key_effects_of, on_key, PlaysOn, Takes};
+ghost use Rattle.keyboard.specs.Outcomes.{without_event, said_key_effect, said_effect, said_in_place, said_handled, key_effects_of, on_key, PlaysOn, Takes};
 
 use keyboard_modifiers::KeyboardModifiers;
 use keyboard_record::{HandlerState, KeyboardHandler, NoRoom, QUEUE_LENGTH};
@@ -55,21 +55,17 @@ struct TakenByte {
     answer: Answer<u8>,
 }
 
-// Event and answer stand apart here and in the next three, for speed: the two in one `Result`
-// measured slower.
-// What a call gives back for its keyboard: the event that its byte gives; where it gives none, the answer. A lamp exchange that failed, document 01's 14, is shown beside the answer, and so is the number of the bytes that it threw away and that found no place to wait.
+// What a handler call answers beside the record. A lamp exchange that failed, document 01's 14, is shown beside the answer, and so is the number of the bytes that it threw away and that found no place to wait.
 #[derive(Clone, Copy)]
-struct KeyEffect {
-    answer: HandlerAnswer,
-    event: Option<KeyEvent>,
-    lamps_failed: bool,
-    used: usize,
-    pairs: usize,
-    keyboard: KeyboardState,
-    dropped: u32,
+pub struct CallAnswer {
+    pub answer: HandlerAnswer,
+    pub lamps_failed: bool,
+    pub used: usize,
+    pub pairs: usize,
+    pub dropped: u32,
 }
 
-// What a handler call gives back. A lamp exchange that failed, document 01's 14, is shown beside the answer, and so is the number of the bytes that it threw away and that found no place to wait.
+// The same with the record, for a call by value.
 #[derive(Clone, Copy)]
 pub struct Handled {
     pub answer: HandlerAnswer,
@@ -80,41 +76,12 @@ pub struct Handled {
     pub dropped: u32,
 }
 
-// What a handler call answers: all that it gives back but the record, for a caller that has the record elsewhere.
-#[derive(Clone, Copy)]
-pub struct CallAnswer {
-    pub answer: HandlerAnswer,
-    pub lamps_failed: bool,
-    pub used: usize,
-    pub pairs: usize,
-    pub dropped: u32,
-}
-
-impl Handled {
-    // The same without the record.
-    pub fn call_answer(self) -> CallAnswer
-        ensures { result ≡ call_answer self }
-    {
-        CallAnswer {
-            answer: self.answer,
-            lamps_failed: self.lamps_failed,
-            used: self.used,
-            pairs: self.pairs,
-            dropped: self.dropped,
-        }
-    }
-}
-
-// What a handler call gives back but for the places: a new event, if there is one, goes into the first place behind those that wait.
+// Event and answer stand apart, for speed: the two in one `Result` measured slower.
+// What a call gives back that leaves the places alone: its answer, and the event that its byte gives, or that joins the queue.
 #[derive(Clone, Copy)]
 pub struct Effect {
-    pub answer: HandlerAnswer,
-    pub lamps_failed: bool,
-    pub used: usize,
-    pub pairs: usize,
-    pub state: HandlerState,
+    pub call: CallAnswer,
     pub event: Option<KeyEvent>,
-    pub dropped: u32,
 }
 
 impl HandlerRefusal {
@@ -224,71 +191,90 @@ fn take_byte(waiting: WaitingBytes, script: &[u8]) -> TakenByte
     }
 }
 
+// A call that gives no event and whose lamp exchange, if it had one, is not shown: its answer, with the script bytes used and the pairs written.
+fn without_event(answer: HandlerAnswer, used: usize, pairs: usize) -> Effect
+    ensures { result ≡ without_event answer used pairs }
+{
+    Effect {
+        call: CallAnswer {
+            answer,
+            lamps_failed: false,
+            used,
+            pairs,
+            dropped: 0,
+        },
+        event: None,
+    }
+}
+
 // What follows a scancode's lamp exchange, which used and wrote this much, with the bytes that come to wait.
 fn after_lamps(
+    keyboard: &mut KeyboardState,
     kept: KeptBytes,
     scan_code: u8,
     modifiers: KeyboardModifiers,
     lamps_failed: bool,
     used: usize,
     pairs: usize,
-) -> KeyEffect
-    ensures { said_key_effect result ≡ key_effects_of (after_lamps scan_code modifiers.bits kept (said_lamps lamps_failed)) used pairs }
+) -> Effect
+    ensures { said_key_effect result keyboard.new ≡ key_effects_of (after_lamps scan_code modifiers.bits kept (said_lamps lamps_failed)) used pairs }
 {
-    let unknown = KeyEffect {
-        answer: Err(HandlerRefusal::UnknownScancode),
-        event: None,
+    *keyboard = KeyboardState {
+        prefix: false,
+        modifiers,
+        waiting: WaitingBytes::from(kept),
+    };
+    let call = CallAnswer {
+        answer: Ok(()),
         lamps_failed,
         used,
         pairs,
-        keyboard: KeyboardState {
-            prefix: false,
-            modifiers,
-            waiting: WaitingBytes::from(kept),
-        },
         dropped: kept.others,
     };
     match Keycode::try_from(scan_code & 0x7F) {
-        Ok(keycode) => KeyEffect {
-            answer: Ok(()),
+        Ok(keycode) => Effect {
+            call,
             event: Some(event_of(keycode, scan_code, modifiers)),
-            ..unknown
         },
-        Err(_) => unknown,
+        Err(_) => Effect {
+            call: CallAnswer {
+                answer: Err(HandlerRefusal::UnknownScancode),
+                ..call
+            },
+            event: None,
+        },
     }
 }
 
 // The press of a lock that is followed, with the flags just after it: the lamps are set, and its event is given whether they could be or not. What the lamp exchange throws away waits behind the bytes that wait already.
 fn lock_pressed(
     port: DevicePort,
-    keyboard: KeyboardState,
+    keyboard: &mut KeyboardState,
     kept: KeptBytes,
     scan_code: u8,
     modifiers: KeyboardModifiers,
     script: &[u8],
     log: &mut [u8],
-) -> KeyEffect
+) -> Effect
     requires { presses_followed Profile.Any scan_code ≡ true }
-    ensures { PlaysOn keyboard kept (λ waiting. on_key (port_rules Profile.Any port) waiting scan_code modifiers.bits) script.now log.old (said_key_effect result) log.new }
+    ensures { PlaysOn keyboard.old kept (λ waiting. on_key (port_rules Profile.Any port) waiting scan_code modifiers.bits) script.now log.old (said_key_effect result keyboard.new) log.new }
 {
     let lamps = leds(modifiers);
     if let Some(pairs) = set_port_led_at_once(script, log, port, lamps) {
-        return after_lamps(kept, scan_code, modifiers, false, AT_ONCE, pairs);
+        return after_lamps(keyboard, kept, scan_code, modifiers, false, AT_ONCE, pairs);
     }
     let lit = set_port_led_onto(script, log, port, lamps, kept);
     match lit.answer {
-        Ok(done) => after_lamps(lit.kept, scan_code, modifiers, false, done.used, done.pairs),
+        Ok(done) => after_lamps(
+            keyboard, lit.kept, scan_code, modifiers, false, done.used, done.pairs,
+        ),
         Err(refused) => match refused.value {
-            Refusal::Lacking(lack) => KeyEffect {
-                answer: Err(HandlerRefusal::Lacking(lack)),
-                event: None,
-                lamps_failed: false,
-                used: refused.used,
-                pairs: refused.pairs,
-                keyboard,
-                dropped: 0,
-            },
+            Refusal::Lacking(lack) => {
+                let answer = Err(HandlerRefusal::Lacking(lack));
+                without_event(answer, refused.used, refused.pairs)
+            }
             Refusal::Failed(_) => after_lamps(
+                keyboard,
                 lit.kept,
                 scan_code,
                 modifiers,
@@ -304,46 +290,36 @@ fn lock_pressed(
 fn on_byte(
     profile: Profile,
     port: DevicePort,
-    keyboard: KeyboardState,
+    keyboard: &mut KeyboardState,
     kept: KeptBytes,
     scan_code: u8,
     script: &[u8],
     log: &mut [u8],
-) -> KeyEffect
-    ensures { PlaysOn keyboard kept (λ waiting. on_byte (port_rules profile port) keyboard waiting scan_code) script.now log.old (said_key_effect result) log.new }
+) -> Effect
+    ensures { PlaysOn keyboard.old kept (λ waiting. on_byte (port_rules profile port) keyboard.old waiting scan_code) script.now log.old (said_key_effect result keyboard.new) log.new }
 {
     if is_silent(scan_code) {
-        return KeyEffect {
-            answer: Ok(()),
-            event: None,
-            lamps_failed: false,
-            used: 0,
-            pairs: 0,
-            keyboard: KeyboardState {
-                prefix: is_prefix(scan_code),
-                modifiers: keyboard.modifiers,
-                waiting: WaitingBytes::from(kept),
-            },
-            dropped: 0,
-        };
+        keyboard.prefix = is_prefix(scan_code);
+        keyboard.waiting = WaitingBytes::from(kept);
+        return without_event(Ok(()), 0, 0);
     }
-    let modifiers = modifiers_after(profile, keyboard, scan_code);
+    let modifiers = modifiers_after(profile, *keyboard, scan_code);
     if is_lock_press(profile, scan_code) {
         return lock_pressed(port, keyboard, kept, scan_code, modifiers, script, log);
     }
-    after_lamps(kept, scan_code, modifiers, false, 0, 0)
+    after_lamps(keyboard, kept, scan_code, modifiers, false, 0, 0)
 }
 
 // A keyboard's part of a handler call: one scancode is taken and followed.
 fn key_call(
     profile: Profile,
     port: DevicePort,
-    keyboard: KeyboardState,
+    keyboard: &mut KeyboardState,
     script: &[u8],
     log: &mut [u8],
-) -> KeyEffect
-    requires { keyboard.waiting.count ≤ kept_limit }
-    ensures { (said_key_effect result ≡ key_effects (port_rules profile port) keyboard script.now log.old) × (log.new ≡ (play (key_call (port_rules profile port) keyboard) script.now log.old).log) }
+) -> Effect
+    requires { keyboard.old.waiting.count ≤ kept_limit }
+    ensures { (said_key_effect result keyboard.new ≡ key_effects (port_rules profile port) keyboard.old script.now log.old) × (log.new ≡ (play (key_call (port_rules profile port) keyboard.old) script.now log.old).log) }
 {
     let taken = take_byte(keyboard.waiting, script);
     match taken.answer {
@@ -357,20 +333,18 @@ fn key_call(
                 &script[byte.used..],
                 log,
             );
-            KeyEffect {
-                used: byte.used + after.used,
+            Effect {
+                call: CallAnswer {
+                    used: byte.used + after.call.used,
+                    ..after.call
+                },
                 ..after
             }
         }
-        Err(refused) => KeyEffect {
-            answer: Err(HandlerRefusal::Lacking(Lack::Script(ReadPort::Data))),
-            event: None,
-            lamps_failed: false,
-            used: refused.used,
-            pairs: 0,
-            keyboard,
-            dropped: 0,
-        },
+        Err(refused) => {
+            let answer = Err(HandlerRefusal::Lacking(Lack::Script(ReadPort::Data)));
+            without_event(answer, refused.used, 0)
+        }
     }
 }
 
@@ -385,71 +359,71 @@ fn port_of(side: Side) -> DevicePort
 }
 
 // A handler call for a side but for the places: 21 is asked, then one scancode of its keyboard is taken and followed, and its event is queued where there is room.
-pub fn effect_of(state: HandlerState, side: Side, script: &[u8], log: &mut [u8]) -> Effect
-    ensures { (said_effect result ≡ effects keyboard_lamps side state script.now log.old) × (log.new ≡ log_left keyboard_lamps side state script.now log.old) }
+pub fn handle_state(state: &mut HandlerState, side: Side, script: &[u8], log: &mut [u8]) -> Effect
+    ensures { (said_effect result state.new ≡ effects keyboard_lamps side state.old script.now log.old) × (log.new ≡ log_left keyboard_lamps side state.old script.now log.old) }
 {
     if !state.call_formed(side) {
-        return Effect {
-            answer: Err(HandlerRefusal::MalformedRecord),
-            lamps_failed: false,
-            used: 0,
-            pairs: 0,
-            state,
-            event: None,
-            dropped: 0,
-        };
+        return without_event(Err(HandlerRefusal::MalformedRecord), 0, 0);
     }
-    let key = key_call(
+    let mut keyboard = state.keyboard_at(side);
+    let effect = key_call(
         state.table.profile,
         port_of(side),
-        state.keyboard_at(side),
+        &mut keyboard,
         script,
         log,
     );
-    let effect = Effect {
-        answer: key.answer,
-        lamps_failed: key.lamps_failed,
-        used: key.used,
-        pairs: key.pairs,
-        state: state.with_keyboard(side, key.keyboard),
-        event: None,
-        dropped: key.dropped,
-    };
-    let Some(event) = key.event else {
+    state.put_keyboard(side, keyboard);
+    let Some(event) = effect.event else {
         return effect;
     };
-    let mut left = effect.state;
-    match left.join(side, event.keycode) {
+    match state.join(side, event.keycode) {
         Ok(()) => Effect {
-            answer: Ok(()),
-            state: left,
-            event: Some(event),
+            call: CallAnswer {
+                answer: Ok(()),
+                ..effect.call
+            },
             ..effect
         },
         Err(full) => Effect {
-            answer: Err(HandlerRefusal::from(full)),
-            state: left,
-            ..effect
+            call: CallAnswer {
+                answer: Err(HandlerRefusal::from(full)),
+                ..effect.call
+            },
+            event: None,
         },
     }
 }
 
-// A handler call for a side.
+// A handler call for a side, on a record that is lent: its event goes into the first place behind those that wait.
+pub fn handle_in_place(
+    handler: &mut KeyboardHandler,
+    side: Side,
+    script: &[u8],
+    log: &mut [u8],
+) -> CallAnswer
+    ensures { (said_in_place result handler.new ≡ handled keyboard_lamps side handler.old script.now log.old) × (log.new ≡ log_left keyboard_lamps side handler.old.state script.now log.old) }
+{
+    let start = handler.state.start;
+    let count = handler.state.count;
+    let effect = handle_state(&mut handler.state, side, script, log);
+    if let Some(event) = effect.event {
+        handler.places[(start + count) % QUEUE_LENGTH] = event;
+    }
+    effect.call
+}
+
+// The same by value, as document 01 has it.
 pub fn handle(mut handler: KeyboardHandler, side: Side, script: &[u8], log: &mut [u8]) -> Handled
     ensures { (said_handled result ≡ handled keyboard_lamps side handler script.now log.old) × (log.new ≡ log_left keyboard_lamps side handler.state script.now log.old) }
 {
-    let effect = effect_of(handler.state, side, script, log);
-    if let Some(event) = effect.event {
-        let place = (handler.state.start + handler.state.count) % QUEUE_LENGTH;
-        handler.places[place] = event;
-    }
-    handler.state = effect.state;
+    let call = handle_in_place(&mut handler, side, script, log);
     Handled {
-        answer: effect.answer,
-        lamps_failed: effect.lamps_failed,
-        used: effect.used,
-        pairs: effect.pairs,
+        answer: call.answer,
+        lamps_failed: call.lamps_failed,
+        used: call.used,
+        pairs: call.pairs,
         handler,
-        dropped: effect.dropped,
+        dropped: call.dropped,
     }
 }

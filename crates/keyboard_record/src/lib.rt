@@ -174,19 +174,13 @@ impl HandlerState {
         }
     }
 
-    // The state with another memory of a side's keyboard.
-    pub fn with_keyboard(self, side: Side, keyboard: KeyboardState) -> HandlerState
-        ensures { result ≡ with_keyboard side keyboard self }
+    // Stores another memory of a side's keyboard.
+    pub fn put_keyboard(&mut self, side: Side, keyboard: KeyboardState)
+        ensures { self.new ≡ with_keyboard side keyboard self.old }
     {
         match side {
-            Side::First => HandlerState {
-                first: keyboard,
-                ..self
-            },
-            Side::Second => HandlerState {
-                second: keyboard,
-                ..self
-            },
+            Side::First => self.first = keyboard,
+            Side::Second => self.second = keyboard,
         }
     }
 
@@ -268,7 +262,7 @@ impl KeyboardHandler {
 
     // Takes the oldest event from the queue; its place is free for a later one.
     #[tactic(auto, using(crate::proofs::WellFormed::well_is), unfolding(crate::specs::Taking::taken))]
-    fn take(&mut self) -> TakenEvent
+    pub fn take(&mut self) -> TakenEvent
         ensures { left (said_taken result) self.new ≡ taken self.old }
     {
         if !self.state.well_formed() {

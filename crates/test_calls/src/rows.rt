@@ -11,8 +11,7 @@ ghost use Rattle.test_calls.specs.Calls.{table_of, left, in_turn, called};
 ghost use Rattle.test_calls.specs.Steps.{left as left_by_step, one_more, made, two_keyboards};
 
 use dispatcher::Dispatcher;
-use keyboard::{effect_of, handle};
-use keyboard_in_place::handle_in_place;
+use keyboard::{handle, handle_in_place, handle_state};
 use keyboard_record::{HandlerState, KeyboardHandler, Keyboards, Table};
 use keyboard_scancodes::Profile;
 use keyboard_sides::Side;
@@ -59,10 +58,16 @@ fn call_by_value(
 }
 
 // A handler call on the state alone: whoever holds the places stores the event.
-fn call_on_state(state: HandlerState, side: Side, script: &[u8], log: &mut [u8]) -> HandlerState
+fn call_on_state(
+    mut state: HandlerState,
+    side: Side,
+    script: &[u8],
+    log: &mut [u8],
+) -> HandlerState
     ensures { (result ≡ (effects keyboard_lamps side state script.now log.old).state) × (log.new ≡ log_left keyboard_lamps side state script.now log.old) }
 {
-    effect_of(state, side, script, log).state
+    handle_state(&mut state, side, script, log);
+    state
 }
 
 /// So many handler calls by value for a side, whose scripts are these two in turn, from a fresh record

@@ -26,7 +26,7 @@ queue_key-requires c =
     let s = state_of a.words.now in
     let t = c.state_in-state.ensures in
     let w = (call_is a.side s (well (goal.at.queue_key-requires c).Else-not-call_formed)).1 in
-    ((rw (c.with_keyboard-left.ensures, t, start_with a.side _ s) w.start_in, rw (c.with_keyboard-left.ensures, t, count_with a.side _ s) w.count_in), rw (c.with_keyboard-left.ensures, t, table_with a.side _ s) (any_key_in a.words.now c.requires.0.taken.any_key))
+    ((rw (c.put_keyboard-2.ensures, t, start_with a.side _ s) w.start_in, rw (c.put_keyboard-2.ensures, t, count_with a.side _ s) w.count_in), rw (c.put_keyboard-2.ensures, t, table_with a.side _ s) (any_key_in a.words.now c.requires.0.taken.any_key))
 
 pub returns : goal.returns
 returns c =
@@ -35,4 +35,4 @@ returns c =
     let flags = rw (c.keyboard_at.ensures, t) at c.modifiers_after-modifiers.ensures in
     let g = c.followed-keyboard.ensures in
     rw c.byte_used.ensures
-    (handled_alone a.side a.words.now a.script.now c.told-words (well (goal.at.returns c).Else-not-call_formed) c.requires.0 flags g c.put_keyboard.ensures (rw (t, g) at c.with_keyboard-left.ensures) c.queue_key.ensures)
+    (handled_alone a.side a.words.now a.script.now c.told-words (well (goal.at.returns c).Else-not-call_formed) c.requires.0 flags g c.put_keyboard.ensures (rw (t, g) at c.put_keyboard-2.ensures) c.queue_key.ensures)

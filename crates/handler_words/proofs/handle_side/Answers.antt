@@ -18,16 +18,16 @@ returns-then-is_key_alone c = c.handle_key.ensures.with_any _
 pub returns-then-leaves_as_passed : goal.returns-then-leaves_as_passed
 returns-then-leaves_as_passed c =
     let a = c.args in
-    left_alone a.side a.words.now a.script.now a.log.now c.effect_of-effect.result c.state_in-state.ensures c.effect_of-effect.ensures (c.from.ensures ∙ c.number_of.ensures) c.lamps_number.ensures c.port_lacked.ensures
+    left_alone a.side a.words.now a.script.now a.log.now c.handle_state-effect.result c.state_in-state.ensures c.handle_state-effect.ensures (c.from.ensures ∙ c.number_of.ensures) c.lamps_number.ensures c.port_lacked.ensures
     (sym c.leaves_as_passed.ensures ∙ c.if-leaves_as_passed.true)
 
 pub put_new-requires : goal.put_new-requires
 put_new-requires c =
     let a = c.args in
-    placed a.side a.words.now a.script.now a.log.now c.effect_of-effect.result c.state_in-state.ensures c.effect_of-effect.ensures
+    placed a.side a.words.now a.script.now a.log.now c.handle_state-effect.result c.state_in-state.ensures c.handle_state-effect.ensures
 
 pub returns : goal.returns
 returns c =
     let a = c.args in
-    written a.side a.words.now a.script.now a.log.now c.effect_of-effect.result c.state_in-state.ensures c.effect_of-effect.ensures (c.from.ensures ∙ c.number_of.ensures) c.lamps_number.ensures c.port_lacked.ensures c.told-words
+    written a.side a.words.now a.script.now a.log.now c.handle_state-effect.result c.state_in-state.ensures c.handle_state-effect.ensures (c.from.ensures ∙ c.number_of.ensures) c.lamps_number.ensures c.port_lacked.ensures c.told-words
     (sym c.leaves_as_passed.ensures ∙ c.if-leaves_as_passed.false) c.keyboard_at.ensures c.put_keyboard.ensures c.put_new.ensures

@@ -20,7 +20,7 @@ few w h = still_few (waiting_bytes w) (rw (length_bytes w.bytes 0 w.count) h)
 -- the rest of the call, after the byte
 pub overflow_add-result : goal.overflow_add-result
 overflow_add-result c =
-    let k = c.args.keyboard in
+    let k = c.args.keyboard.now in
     let taken = rw c.in-Ok.is at c.take_byte-taken.ensures in
     omega (
       arith,
@@ -30,11 +30,12 @@ overflow_add-result c =
 
 pub returns-in-Ok : goal.returns-in-Ok
 returns-in-Ok c =
-    let k = c.args.keyboard in
+    let k = c.args.keyboard.now in
     let taken = rw c.in-Ok.is at c.take_byte-taken.ensures in
     let p = c.on_byte-after.ensures.at _ taken.keeps (few k.waiting c.requires) in
     byte_call (port_rules c.args.profile c.args.port) k _ _ taken _ refl p.0 p.1
 
 pub returns-in-Err : goal.returns-in-Err
 returns-in-Err c =
-    no_byte (port_rules c.args.profile c.args.port) c.args.keyboard _ _ (rw c.in-Err.is at c.take_byte-taken.ensures) c.in-Err.refused.value refl
+    rw c.without_event.ensures
+    (no_byte (port_rules c.args.profile c.args.port) c.args.keyboard.now _ _ (rw c.in-Err.is at c.take_byte-taken.ensures) c.in-Err.refused.value refl)

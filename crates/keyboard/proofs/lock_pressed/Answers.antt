@@ -16,8 +16,8 @@ returns-in-Some c =
     let a = c.args in
     record {
       at = λ rest is few.
-          gives_back a.keyboard _ _ _
-          (lamps_answer (port_rules Profile.Any a.port) a.keyboard a.scan_code a.modifiers.bits rest _ _ c.requires c.leds-lamps.ensures
+          gives_back a.keyboard.now _ _ _
+          (lamps_answer (port_rules Profile.Any a.port) a.keyboard.now a.scan_code a.modifiers.bits rest _ _ c.requires c.leds-lamps.ensures
           (lamps_within a.port _) (omega (arith, few)) is (c.set_port_led_at_once.ensures.plays _ c.in-Some.is a.kept)
           refl)
           c.after_lamps.ensures;
@@ -33,8 +33,8 @@ returns-in-Ok c =
     let a = c.args in
     record {
       at = λ rest is few.
-          gives_back a.keyboard _ _ _
-          (lamps_answer (port_rules Profile.Any a.port) a.keyboard a.scan_code a.modifiers.bits rest _ _ c.requires c.leds-lamps.ensures
+          gives_back a.keyboard.now _ _ _
+          (lamps_answer (port_rules Profile.Any a.port) a.keyboard.now a.scan_code a.modifiers.bits rest _ _ c.requires c.leds-lamps.ensures
           (lamps_within a.port _) (omega (arith, few)) is (rw (unlit (goal.at.returns-in-Ok c).After-set_port_led_onto-lit, c.in-Ok.is) at c.set_port_led_onto-lit.ensures)
           refl)
           c.after_lamps-in-Ok.ensures;
@@ -43,22 +43,23 @@ returns-in-Ok c =
 pub returns-in-Lacking : goal.returns-in-Lacking
 returns-in-Lacking c =
     let a = c.args in
-    record {
+    rw c.without_event.ensures
+    (record {
       at = λ rest is few.
-          gives_back a.keyboard _ _ _
-          (lamps_lack (port_rules Profile.Any a.port) a.keyboard a.scan_code a.modifiers.bits rest _ _ c.requires c.leds-lamps.ensures
+          gives_back a.keyboard.now _ _ _
+          (lamps_lack (port_rules Profile.Any a.port) a.keyboard.now a.scan_code a.modifiers.bits rest _ _ c.requires c.leds-lamps.ensures
           (lamps_within a.port _) (omega (arith, few)) is (rw (unlit (goal.at.returns-in-Lacking c).After-set_port_led_onto-lit, c.in-Err.is) at c.set_port_led_onto-lit.ensures)
           (ap refused c.in-Lacking.is))
           refl;
-    }
+    })
 
 pub returns-in-Failed : goal.returns-in-Failed
 returns-in-Failed c =
     let a = c.args in
     record {
       at = λ rest is few.
-          gives_back a.keyboard _ _ _
-          (lamps_answer (port_rules Profile.Any a.port) a.keyboard a.scan_code a.modifiers.bits rest _ _ c.requires c.leds-lamps.ensures
+          gives_back a.keyboard.now _ _ _
+          (lamps_answer (port_rules Profile.Any a.port) a.keyboard.now a.scan_code a.modifiers.bits rest _ _ c.requires c.leds-lamps.ensures
           (lamps_within a.port _) (omega (arith, few)) is (rw (unlit (goal.at.returns-in-Failed c).After-set_port_led_onto-lit, c.in-Err.is) at c.set_port_led_onto-lit.ensures)
           (ap refused c.in-Failed.is))
           c.after_lamps-in-Failed.ensures;
