@@ -2,10 +2,14 @@
 ghost use Rattle.std.specs.Prelude.{◌≡◌};
 ghost use Rattle.exchange.specs.Answer.{gives};
 ghost use Rattle.ps2_answers.specs.Refusals.{success};
+ghost use Rattle.ps2_polling.specs.Polling.{polling_send as polling_send_rule, polling_receive as polling_receive_rule};
+ghost use Rattle.theseus_ps2.specs.Controller.{on_controller};
+ghost use Rattle.theseus_ps2.specs.Hardware.{ran, run};
 ghost use Rattle.theseus_ps2.specs.Messages.{said};
 ghost use Rattle.theseus_ps2.specs.Comparison.{Agree, AgreeKept};
 
 use crate::comparison::{Both, start};
+use crate::{Hardware, PS2Controller};
 use ps2_answers::Answer;
 use ps2_bytes::{DeviceToHostResponse, HostToControllerCommand, HostToDevice, WritableData};
 use ps2_kept::none_kept;
@@ -206,6 +210,15 @@ pub fn both_polling_send_receive<'a>(
     }
 }
 
+pub fn rusts_polling_send<H: Hardware + Drop>(
+    controller: &mut PS2Controller<H>,
+    value: HostToDevice,
+) -> Result<(), &'static str>
+    ensures { ran (said result) controller.new ≡ run (on_controller H.device) (polling_send_rule value) controller.old }
+{
+    controller.polling_send(value)
+}
+
 pub fn both_polling_send<'a>(
     script: &'a [u8],
     log: &mut [u8],
@@ -222,6 +235,14 @@ pub fn both_polling_send<'a>(
         rusts,
         left: controller.hardware,
     }
+}
+
+pub fn rusts_polling_receive<H: Hardware + Drop>(
+    controller: &mut PS2Controller<H>,
+) -> Result<DeviceToHostResponse, &'static str>
+    ensures { ran (said result) controller.new ≡ run (on_controller H.device) polling_receive_rule controller.old }
+{
+    controller.polling_receive()
 }
 
 pub fn both_polling_receive<'a>(

@@ -18,7 +18,7 @@ use ps2_mouse::PS2Mouse as Mouse;
 use ps2_mouse_identity::{MouseLeft, set_mouse_id};
 use ps2_packet::MousePacket;
 
-fn rusts_read_mouse_packet<H: Hardware + Drop>(
+pub fn rusts_read_mouse_packet<H: Hardware + Drop>(
     controller: &mut PS2Controller<H>,
     id: MouseId,
 ) -> MousePacket
@@ -51,7 +51,7 @@ pub struct Identified {
     pub id: MouseId,
 }
 
-fn rusts_set_mouse_id<H: Hardware + Drop>(
+pub fn rusts_set_mouse_id<H: Hardware + Drop>(
     controller: &mut PS2Controller<H>,
     id: MouseId,
 ) -> Identified

@@ -22,7 +22,7 @@ use ps2_keyboard::{
 };
 use ps2_layouts::LEDState;
 
-fn rusts_reset_keyboard<H: Hardware + Drop>(
+pub fn rusts_reset_keyboard<H: Hardware + Drop>(
     controller: &mut PS2Controller<H>,
 ) -> Result<(), &'static str>
     ensures { ran (said result) controller.new ≡ run (on_controller H.device) reset_keyboard controller.old }
@@ -47,7 +47,7 @@ pub fn both_reset_keyboard<'a>(
     }
 }
 
-fn rusts_command_to_keyboard<H: Hardware + Drop>(
+pub fn rusts_command_to_keyboard<H: Hardware + Drop>(
     controller: &mut PS2Controller<H>,
     value: HostToKeyboardCommandOrData,
 ) -> Result<(), &'static str>
@@ -74,7 +74,7 @@ pub fn both_command_to_keyboard<'a>(
     }
 }
 
-fn rusts_set_keyboard_led<H: Hardware + Drop>(
+pub fn rusts_set_keyboard_led<H: Hardware + Drop>(
     controller: &mut PS2Controller<H>,
     value: LEDState,
 ) -> Result<(), &'static str>
@@ -101,7 +101,7 @@ pub fn both_set_keyboard_led<'a>(
     }
 }
 
-fn rusts_set_keyboard_scancode_set<H: Hardware + Drop>(
+pub fn rusts_set_keyboard_scancode_set<H: Hardware + Drop>(
     controller: &mut PS2Controller<H>,
     value: ScancodeSet,
 ) -> Result<(), &'static str>
@@ -128,7 +128,7 @@ pub fn both_set_keyboard_scancode_set<'a>(
     }
 }
 
-fn rusts_get_keyboard_scancode_set<H: Hardware + Drop>(
+pub fn rusts_get_keyboard_scancode_set<H: Hardware + Drop>(
     controller: &mut PS2Controller<H>,
 ) -> Result<ScancodeSet, &'static str>
     ensures { ran (said result) controller.new ≡ run (on_controller H.device) get_scancode_set controller.old }
@@ -153,7 +153,7 @@ pub fn both_get_keyboard_scancode_set<'a>(
     }
 }
 
-fn rusts_keyboard_detect<H: Hardware + Drop>(
+pub fn rusts_keyboard_detect<H: Hardware + Drop>(
     controller: &mut PS2Controller<H>,
 ) -> Result<KeyboardType, &'static str>
     ensures { ran (said result) controller.new ≡ run (on_controller H.device) keyboard_detect controller.old }
@@ -178,7 +178,7 @@ pub fn both_keyboard_detect<'a>(
     }
 }
 
-fn rusts_keyboard_output_buffer_full<H: Hardware + Drop>(controller: &mut PS2Controller<H>) -> bool
+pub fn rusts_keyboard_output_buffer_full<H: Hardware + Drop>(controller: &mut PS2Controller<H>) -> bool
     ensures { ran (gives result) controller.new ≡ run (on_controller H.device) keyboard_output_buffer_full controller.old }
 {
     PS2Keyboard::new(controller).is_output_buffer_full()
@@ -200,7 +200,7 @@ pub fn both_keyboard_output_buffer_full<'a>(
     }
 }
 
-fn rusts_read_scancode<H: Hardware + Drop>(controller: &mut PS2Controller<H>) -> u8
+pub fn rusts_read_scancode<H: Hardware + Drop>(controller: &mut PS2Controller<H>) -> u8
     ensures { ran (gives result) controller.new ≡ run (on_controller H.device) read_scancode controller.old }
 {
     PS2Keyboard::new(controller).read_scancode()

@@ -14,7 +14,7 @@ use ps2_bytes::{HostToMouseCommandOrData, MouseId, MouseResolution, MouseSampleR
 use ps2_command::Commanded;
 use ps2_mouse::PS2Mouse as Mouse;
 
-fn rusts_reset_mouse<H: Hardware + Drop>(
+pub fn rusts_reset_mouse<H: Hardware + Drop>(
     controller: &mut PS2Controller<H>,
 ) -> Result<(), &'static str>
     ensures { ran (said result) controller.new ≡ run (on_controller H.device) reset_mouse controller.old }
@@ -39,7 +39,7 @@ pub fn both_reset_mouse<'a>(
     }
 }
 
-fn rusts_command_to_mouse<H: Hardware + Drop>(
+pub fn rusts_command_to_mouse<H: Hardware + Drop>(
     controller: &mut PS2Controller<H>,
     value: HostToMouseCommandOrData,
 ) -> Result<(), &'static str>
@@ -66,7 +66,7 @@ pub fn both_command_to_mouse<'a>(
     }
 }
 
-fn rusts_set_mouse_sampling_rate<H: Hardware + Drop>(
+pub fn rusts_set_mouse_sampling_rate<H: Hardware + Drop>(
     controller: &mut PS2Controller<H>,
     value: MouseSampleRate,
 ) -> Result<(), &'static str>
@@ -93,7 +93,7 @@ pub fn both_set_mouse_sampling_rate<'a>(
     }
 }
 
-fn rusts_mouse_id<H: Hardware + Drop>(
+pub fn rusts_mouse_id<H: Hardware + Drop>(
     controller: &mut PS2Controller<H>,
 ) -> Result<MouseId, &'static str>
     ensures { ran (said result) controller.new ≡ run (on_controller H.device) mouse_id controller.old }
@@ -118,7 +118,7 @@ pub fn both_mouse_id<'a>(
     }
 }
 
-fn rusts_enable_mouse_packet_streaming<H: Hardware + Drop>(
+pub fn rusts_enable_mouse_packet_streaming<H: Hardware + Drop>(
     controller: &mut PS2Controller<H>,
 ) -> Result<(), &'static str>
     ensures { ran (said result) controller.new ≡ run (on_controller H.device) enable_packet_streaming controller.old }
@@ -143,7 +143,7 @@ pub fn both_enable_mouse_packet_streaming<'a>(
     }
 }
 
-fn rusts_disable_mouse_packet_streaming<H: Hardware + Drop>(
+pub fn rusts_disable_mouse_packet_streaming<H: Hardware + Drop>(
     controller: &mut PS2Controller<H>,
 ) -> Result<(), &'static str>
     ensures { ran (said result) controller.new ≡ run (on_controller H.device) disable_packet_streaming controller.old }
@@ -168,7 +168,7 @@ pub fn both_disable_mouse_packet_streaming<'a>(
     }
 }
 
-fn rusts_mouse_resolution<H: Hardware + Drop>(
+pub fn rusts_mouse_resolution<H: Hardware + Drop>(
     controller: &mut PS2Controller<H>,
     value: MouseResolution,
 ) -> Result<(), &'static str>
@@ -195,7 +195,7 @@ pub fn both_mouse_resolution<'a>(
     }
 }
 
-fn rusts_mouse_output_buffer_full<H: Hardware + Drop>(controller: &mut PS2Controller<H>) -> bool
+pub fn rusts_mouse_output_buffer_full<H: Hardware + Drop>(controller: &mut PS2Controller<H>) -> bool
     ensures { ran (gives result) controller.new ≡ run (on_controller H.device) mouse_output_buffer_full controller.old }
 {
     PS2Mouse::new(controller).is_output_buffer_full()
