@@ -1,0 +1,162 @@
+// The mouse's operations.
+ghost use Rattle.std.specs.Prelude.{◌≡◌};
+ghost use Rattle.bits.specs.Bits.{weigh};
+ghost use Rattle.ps2_bytes.specs.Responses.{mouse_id_byte};
+ghost use Rattle.ps2_mouse.specs.Mouse.{command_to_mouse, reset_mouse, set_sampling_rate, set_resolution, disable_packet_streaming, enable_packet_streaming, mouse_id as mouse_id_rule, mouse_output_buffer_full};
+ghost use Rattle.port_words.specs.Told.{no_value};
+ghost use Rattle.mouse_words.specs.Arguments.{command_at, rate_at, resolution_at};
+ghost use Rattle.theseus_calls.specs.Operations.{commanding_mouse, commanding_rate, commanding_resolution};
+ghost use Rattle.theseus_calls.specs.Recorded.{TellsNoted, TellsNotedAt};
+
+use crate::answers::{NotedWords, begun, recorded_words, refusing_noted_words};
+use crate::arguments::mouse_command_of;
+use argument_words::MEANS_NOTHING;
+use mouse_words::{rate_of, resolution_of};
+use ps2_bytes::{HostToMouseCommandOrData, MouseResolution, MouseSampleRate};
+use theseus_ps2::both_mouse::{
+    rusts_command_to_mouse, rusts_disable_mouse_packet_streaming,
+    rusts_enable_mouse_packet_streaming, rusts_mouse_id, rusts_mouse_output_buffer_full,
+    rusts_mouse_resolution, rusts_reset_mouse, rusts_set_mouse_sampling_rate,
+};
+
+/// Resets the mouse.
+#[unsafe(no_mangle)]
+pub extern "C" fn vdr_mouse_reset(script: &[u8], log: &mut [u8]) -> NotedWords
+    ensures { TellsNoted no_value reset_mouse script.now log.old result }
+{
+    let mut controller = begun(script, log);
+    let rusts = rusts_reset_mouse(&mut controller);
+    recorded_words(rusts, &controller.hardware)
+}
+
+/// Starts the packets.
+#[unsafe(no_mangle)]
+pub extern "C" fn vdr_mouse_start_packets(script: &[u8], log: &mut [u8]) -> NotedWords
+    ensures { TellsNoted no_value enable_packet_streaming script.now log.old result }
+{
+    let mut controller = begun(script, log);
+    let rusts = rusts_enable_mouse_packet_streaming(&mut controller);
+    recorded_words(rusts, &controller.hardware)
+}
+
+/// Stops the packets.
+#[unsafe(no_mangle)]
+pub extern "C" fn vdr_mouse_stop_packets(script: &[u8], log: &mut [u8]) -> NotedWords
+    ensures { TellsNoted no_value disable_packet_streaming script.now log.old result }
+{
+    let mut controller = begun(script, log);
+    let rusts = rusts_disable_mouse_packet_streaming(&mut controller);
+    recorded_words(rusts, &controller.hardware)
+}
+
+/// Asks the mouse for its identity: 0, 3 or 4.
+#[unsafe(no_mangle)]
+pub extern "C" fn vdr_mouse_identity(script: &[u8], log: &mut [u8]) -> NotedWords
+    ensures { TellsNoted mouse_id_byte mouse_id_rule script.now log.old result }
+{
+    let mut controller = begun(script, log);
+    let rusts = rusts_mouse_id(&mut controller);
+    recorded_words(rusts, &controller.hardware)
+}
+
+// Sends a command or a data byte.
+fn command(value: HostToMouseCommandOrData, script: &[u8], log: &mut [u8]) -> NotedWords
+    ensures { TellsNoted no_value (command_to_mouse value) script.now log.old result }
+{
+    let mut controller = begun(script, log);
+    let rusts = rusts_command_to_mouse(&mut controller, value);
+    recorded_words(rusts, &controller.hardware)
+}
+
+/// Sends a command, by the byte that the wiki lists it with.
+#[unsafe(no_mangle)]
+pub extern "C" fn vdr_mouse_command(byte: u32, script: &[u8], log: &mut [u8]) -> NotedWords
+    ensures { TellsNotedAt no_value commanding_mouse (command_at byte) script.now log.old result }
+{
+    match mouse_command_of(byte) {
+        Some(known) => command(HostToMouseCommandOrData::MouseCommand(known), script, log),
+        None => refusing_noted_words(MEANS_NOTHING),
+    }
+}
+
+/// Sends a sampling rate as a command's data byte.
+#[unsafe(no_mangle)]
+pub extern "C" fn vdr_mouse_data_rate(rate: u32, script: &[u8], log: &mut [u8]) -> NotedWords
+    ensures { TellsNotedAt no_value commanding_rate (rate_at rate) script.now log.old result }
+{
+    match rate_of(rate) {
+        Some(known) => command(HostToMouseCommandOrData::SampleRate(known), script, log),
+        None => refusing_noted_words(MEANS_NOTHING),
+    }
+}
+
+/// Sends a resolution as a command's data byte.
+#[unsafe(no_mangle)]
+pub extern "C" fn vdr_mouse_data_resolution(
+    resolution: u32,
+    script: &[u8],
+    log: &mut [u8],
+) -> NotedWords
+    ensures { TellsNotedAt no_value commanding_resolution (resolution_at resolution) script.now log.old result }
+{
+    match resolution_of(resolution) {
+        Some(known) => command(
+            HostToMouseCommandOrData::MouseResolution(known),
+            script,
+            log,
+        ),
+        None => refusing_noted_words(MEANS_NOTHING),
+    }
+}
+
+fn set_rate(rate: MouseSampleRate, script: &[u8], log: &mut [u8]) -> NotedWords
+    ensures { TellsNoted no_value (set_sampling_rate rate) script.now log.old result }
+{
+    let mut controller = begun(script, log);
+    let rusts = rusts_set_mouse_sampling_rate(&mut controller, rate);
+    recorded_words(rusts, &controller.hardware)
+}
+
+/// Sets the mouse's sampling rate.
+#[unsafe(no_mangle)]
+pub extern "C" fn vdr_mouse_sampling_rate(rate: u32, script: &[u8], log: &mut [u8]) -> NotedWords
+    ensures { TellsNotedAt no_value set_sampling_rate (rate_at rate) script.now log.old result }
+{
+    match rate_of(rate) {
+        Some(known) => set_rate(known, script, log),
+        None => refusing_noted_words(MEANS_NOTHING),
+    }
+}
+
+fn set_resolution(resolution: MouseResolution, script: &[u8], log: &mut [u8]) -> NotedWords
+    ensures { TellsNoted no_value (set_resolution resolution) script.now log.old result }
+{
+    let mut controller = begun(script, log);
+    let rusts = rusts_mouse_resolution(&mut controller, resolution);
+    recorded_words(rusts, &controller.hardware)
+}
+
+/// Sets the mouse's resolution.
+#[unsafe(no_mangle)]
+pub extern "C" fn vdr_mouse_resolution(
+    resolution: u32,
+    script: &[u8],
+    log: &mut [u8],
+) -> NotedWords
+    ensures { TellsNotedAt no_value set_resolution (resolution_at resolution) script.now log.old result }
+{
+    match resolution_of(resolution) {
+        Some(known) => set_resolution(known, script, log),
+        None => refusing_noted_words(MEANS_NOTHING),
+    }
+}
+
+/// Whether there is a byte of the mouse to read: 1 where there is.
+#[unsafe(no_mangle)]
+pub extern "C" fn vdr_mouse_waits(script: &[u8], log: &mut [u8]) -> NotedWords
+    ensures { TellsNoted weigh mouse_output_buffer_full script.now log.old result }
+{
+    let mut controller = begun(script, log);
+    let waits = rusts_mouse_output_buffer_full(&mut controller);
+    recorded_words(Ok(waits), &controller.hardware)
+}
