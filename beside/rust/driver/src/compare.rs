@@ -6,6 +6,7 @@ use crate::call::{Call, Op};
 use crate::device::Rng;
 use crate::generate::{by_chance, kind_by_chance, names, sweep, sweep_lengths, Enough, KINDS};
 use crate::kept;
+use crate::mirror::{First, Mirror};
 use crate::oracle::Oracle;
 use crate::port::Port;
 use crate::sides::Answerer;
@@ -159,13 +160,14 @@ pub fn changed(mut answer: Answer) -> Answer {
 }
 
 /// Has each of the others answer the calls, and compares their answers with the Rust's.
-fn hold(others: &mut [Box<dyn Answerer>], batches: impl Iterator<Item = Vec<Asked>>, damaged: Option<u64>) {
+fn hold(others: &mut [Box<dyn Answerer>], batches: impl Iterator<Item = Vec<Asked>>, damaged: Damage) {
     for asked in batches.flatten() {
         let number = ALIKE.load(Ordering::Relaxed) + 1;
         for other in &mut *others {
             let answer = other.ask(&asked.call).map(Answer::without_additions);
-            match answer.map(|answer| if damaged == Some(number) { changed(answer) } else { answer }) {
-                Ok(answer) if answer == asked.rust => {}
+            let is_damaged = damaged.call == Some(number) && damaged.side == other.name();
+            match answer.map(|answer| if is_damaged { changed(answer) } else { answer }) {
+                Ok(answer) if other.is_alike(&answer, &asked.rust) => {}
                 Ok(answer) => differ(number, &asked, other.name(), &answer.to_string()),
                 Err(why) => differ(number, &asked, other.name(), &format!("({why})")),
             }
@@ -174,12 +176,22 @@ fn hold(others: &mut [Box<dyn Answerer>], batches: impl Iterator<Item = Vec<Aske
     }
 }
 
-/// Compares so many calls. The port's answer to call `damaged` is changed on its way, so that a comparison can be seen to find it.
-pub fn compare(calls: u64, seed: u64, damaged: Option<u64>) -> io::Result<ExitCode> {
+/// Whose answer to which call is changed on its way, so that a comparison can be seen to find it.
+#[derive(Clone, Copy)]
+pub struct Damage {
+    pub call: Option<u64>,
+    pub side: &'static str,
+}
+
+/// Compares so many calls.
+pub fn compare(calls: u64, seed: u64, damaged: Damage) -> io::Result<ExitCode> {
     let start = Instant::now();
     let (to_others, batches) = sync_channel::<Vec<Asked>>(16);
-    // A third side that answers the Rust's calls stands here.
-    let holding = thread::spawn(move || hold(&mut [Box::new(Port::new(seed))], batches.iter(), damaged));
+    // One more side that answers the Rust's calls stands here.
+    let holding = thread::spawn(move || {
+        let mirror = First(Mirror::new(seed));
+        hold(&mut [Box::new(Port::new(seed)), Box::new(mirror)], batches.iter(), damaged)
+    });
     let progress = thread::spawn(move || loop {
         thread::park_timeout(Duration::from_secs(5));
         let alike = ALIKE.load(Ordering::Relaxed);

@@ -3,11 +3,12 @@
 use crate::answer::{Answer, Record, Value};
 use crate::call::{self, Call, MouseOp, Op, ALL_FLAGS};
 use crate::chance;
-use crate::compare::{changed, count_answers, listed, shares, FEW};
+use crate::compare::{changed, count_answers, listed, shares, Damage, FEW};
 use crate::device::Rng;
 use crate::generate::{self, by_chance, sweep, Enough};
 use crate::kept;
-use crate::library::{self as vd, NAMES, TEST_NAMES};
+use crate::library::{self as vd, rusts, NAMES, TEST_NAMES};
+use crate::mirror::Mirror;
 use crate::oracle::{Glance, Oracle};
 use crate::port::{Part, Port};
 use crate::salvage::Salvaged;
@@ -83,11 +84,13 @@ fn expected(rust: &mut Oracle, call: &Call) -> Answer {
     }
 }
 
-/// Whether the port answers a call as it must: as the Rust where that has such a call, and as plain Rust. If not, what is otherwise.
-pub fn agree(port: &mut Port, rust: &mut Oracle, call: &Call) -> Result<(), String> {
+/// Whether the port answers a call as it must: as the Rust where that has such a call, and as plain Rust; and whether the mirror answers
+/// it as the Rust. If not, what is otherwise.
+pub fn agree(port: &mut Port, mirror: &mut Mirror, rust: &mut Oracle, call: &Call) -> Result<(), String> {
     port.made.clear();
     let answer = port.ask(call)?;
-    are_alike(answer, rust, call)
+    are_alike(answer, rust, call)?;
+    mirror.agree(rust, call, false)
 }
 
 fn are_alike(answer: Answer, rust: &mut Oracle, call: &Call) -> Result<(), String> {
@@ -106,18 +109,20 @@ fn are_alike(answer: Answer, rust: &mut Oracle, call: &Call) -> Result<(), Strin
     Ok(())
 }
 
-/// Holds the port to the Rust and to plain Rust on each call line of standard input; of lines that tell no call nothing is asked. The
-/// port's answer to call `damaged` is changed on its way, so that this can be seen to find it.
-pub fn check(damaged: Option<u64>) -> io::Result<ExitCode> {
-    let (mut port, mut rust) = (Port::new(0), Oracle::new());
+/// Holds the port to the Rust and to plain Rust, and the mirror to the Rust, on each call line of standard input; of lines that tell no
+/// call nothing is asked.
+pub fn check(damaged: Damage) -> io::Result<ExitCode> {
+    let (mut port, mut mirror, mut rust) = (Port::new(0), Mirror::new(0), Oracle::new());
     let (mut lines, mut calls, mut wrong) = (0, 0, 0);
     lines::each_line(|number, line| {
         lines += 1;
         let Ok(line) = line else { return Ok(()) };
         if let Some(call) = call::parse(line).ok().filter(|_| !call::is_skipped(line)) {
             calls += 1;
-            let answer = port.ask(&call).map(|answer| if damaged == Some(calls) { changed(answer) } else { answer });
-            if let Err(why) = answer.and_then(|answer| are_alike(answer, &mut rust, &call)) {
+            let of = |side| damaged.call == Some(calls) && damaged.side == side;
+            let answer = port.ask(&call).map(|answer| if of("the port") { changed(answer) } else { answer });
+            let alike = answer.and_then(|answer| are_alike(answer, &mut rust, &call));
+            if let Err(why) = alike.and_then(|()| mirror.agree(&mut rust, &call, of(mirror.name()))) {
                 wrong += 1;
                 println!("line {number}: {line}\n{why}");
             }
@@ -199,12 +204,14 @@ impl Comparison {
         }
     }
 
-    /// What is asked without an exchange has no line: it is held to the Rust.
+    /// What is asked without an exchange has no line: it is held to the Rust, and so is the mirror's.
     fn glance(&mut self, rust: &mut Oracle, rng: &mut Rng) {
-        let (what, name, export): (_, _, fn(&[u8]) -> vd::PortWords) = match rng.below(3) {
-            0 => (Glance::KeyboardWaits, "vd_keyboard_waits", vd::keyboard_waits),
-            1 => (Glance::MouseWaits, "vd_mouse_waits", vd::mouse_waits),
-            _ => (Glance::Scancode, "vd_keyboard_read_scancode", vd::keyboard_read_scancode),
+        type Reading = fn(&[u8]) -> vd::PortWords;
+        type Mirrored = fn(&[u8], &mut [u8]) -> vd::NotedWords;
+        let (what, name, export, mirrored): (_, _, Reading, Mirrored) = match rng.below(3) {
+            0 => (Glance::KeyboardWaits, "vd_keyboard_waits", vd::keyboard_waits, rusts::keyboard_waits),
+            1 => (Glance::MouseWaits, "vd_mouse_waits", vd::mouse_waits, rusts::mouse_waits),
+            _ => (Glance::Scancode, "vd_keyboard_read_scancode", vd::keyboard_read_scancode, rusts::keyboard_read_scancode),
         };
         self.begin(true);
         let script: Vec<u8> = (0..rng.below(3)).map(|_| rng.next() as u8).collect();
@@ -220,6 +227,11 @@ impl Comparison {
                 "the Rust",
                 &format!("{expected:?}"),
             )
+        }
+        let mirrors = mirrored(&script, &mut []).answer;
+        if mirrors != expected {
+            let line = format!("{name} {script:02X?}, of the mirror");
+            differ(self.calls, &line, &format!("{mirrors:?}"), "the Rust", &format!("{expected:?}"))
         }
         self.count(Source::Chance);
     }

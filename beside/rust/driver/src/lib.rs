@@ -13,6 +13,7 @@ pub mod kept;
 pub mod library;
 pub mod lines;
 pub mod listing;
+pub mod mirror;
 pub mod oracle;
 pub mod plain;
 pub mod plain_handler;

@@ -1,5 +1,5 @@
-//! The exports of the library (crates/vurdellow) and of the small one for tests alone (crates/test_calls), with slices in the place of
-//! pointers and lengths.
+//! The exports of the library (crates/vurdellow), of the small one for tests alone (crates/test_calls) and of the mirror
+//! (crates/theseus_calls), with slices in the place of pointers and lengths.
 
 /// All numbers 0.
 pub trait Zero {
@@ -157,4 +157,56 @@ exports! {
     vdt_handler_calls_in_place handler_calls_in_place(script: &[u8], other: &[u8], log: &mut [u8], times: usize, two: bool, tournament: bool, second: bool,) -> usize;
     vdt_handler_calls_on_state handler_calls_on_state(script: &[u8], other: &[u8], log: &mut [u8], times: usize, two: bool, tournament: bool, second: bool,) -> usize;
     vdt_dispatcher_steps dispatcher_steps(first: &[u8], second: &[u8], third: &[u8], log: &mut [u8], times: usize,) -> usize;
+}
+
+words! {
+    NotedWords { answer: PortWords, count: u32, others: u32, bytes: [u8; 16] }
+    InitializedNotedWords { run: NotedWords, controller: ControllerWords }
+    PacketFields { buttons: u32, always_one: u32, x: i32, y: i32, wheel: i32 }
+    PacketNotedWords { run: NotedWords, packet: PacketFields }
+    EventWords { keycode: u32, released: u32, flags: u32 }
+    InterruptWords { run: NotedWords, prefix: u32, flags: u32, count: usize, event: EventWords }
+}
+
+/// The exports of the mirror (crates/theseus_calls).
+pub mod rusts {
+    use super::*;
+
+    exports! {
+        /// Their names.
+        NAMES:
+        vdr_controller_init controller_init(controller: ControllerWords, script: &[u8], log: &mut [u8],) -> InitializedNotedWords;
+        vdr_controller_test controller_test(script: &[u8], log: &mut [u8],) -> NotedWords;
+        vdr_port1_test port1_test(script: &[u8], log: &mut [u8],) -> NotedWords;
+        vdr_port2_test port2_test(script: &[u8], log: &mut [u8],) -> NotedWords;
+        vdr_configuration_read configuration_read(script: &[u8], log: &mut [u8],) -> NotedWords;
+        vdr_configuration_write configuration_write(configuration: u8, script: &[u8], log: &mut [u8],) -> NotedWords;
+        vdr_polling_send polling_send(set: u32, script: &[u8], log: &mut [u8],) -> NotedWords;
+        vdr_polling_receive polling_receive(script: &[u8], log: &mut [u8],) -> NotedWords;
+        vdr_keyboard_reset keyboard_reset(script: &[u8], log: &mut [u8],) -> NotedWords;
+        vdr_keyboard_command keyboard_command(byte: u32, script: &[u8], log: &mut [u8],) -> NotedWords;
+        vdr_keyboard_data_set keyboard_data_set(set: u32, script: &[u8], log: &mut [u8],) -> NotedWords;
+        vdr_keyboard_data_lamps keyboard_data_lamps(lamps: u32, script: &[u8], log: &mut [u8],) -> NotedWords;
+        vdr_keyboard_lamps keyboard_lamps(lamps: u32, script: &[u8], log: &mut [u8],) -> NotedWords;
+        vdr_keyboard_set_scancode_set keyboard_set_scancode_set(set: u32, script: &[u8], log: &mut [u8],) -> NotedWords;
+        vdr_keyboard_scancode_set keyboard_scancode_set(script: &[u8], log: &mut [u8],) -> NotedWords;
+        vdr_keyboard_detect keyboard_detect(script: &[u8], log: &mut [u8],) -> NotedWords;
+        vdr_keyboard_waits keyboard_waits(script: &[u8], log: &mut [u8],) -> NotedWords;
+        vdr_keyboard_read_scancode keyboard_read_scancode(script: &[u8], log: &mut [u8],) -> NotedWords;
+        vdr_keyboard_init keyboard_init(script: &[u8], log: &mut [u8],) -> NotedWords;
+        vdr_mouse_reset mouse_reset(script: &[u8], log: &mut [u8],) -> NotedWords;
+        vdr_mouse_start_packets mouse_start_packets(script: &[u8], log: &mut [u8],) -> NotedWords;
+        vdr_mouse_stop_packets mouse_stop_packets(script: &[u8], log: &mut [u8],) -> NotedWords;
+        vdr_mouse_identity mouse_identity(script: &[u8], log: &mut [u8],) -> NotedWords;
+        vdr_mouse_set_identity mouse_set_identity(identity: u32, script: &[u8], log: &mut [u8],) -> NotedWords;
+        vdr_mouse_command mouse_command(byte: u32, script: &[u8], log: &mut [u8],) -> NotedWords;
+        vdr_mouse_data_rate mouse_data_rate(rate: u32, script: &[u8], log: &mut [u8],) -> NotedWords;
+        vdr_mouse_data_resolution mouse_data_resolution(resolution: u32, script: &[u8], log: &mut [u8],) -> NotedWords;
+        vdr_mouse_sampling_rate mouse_sampling_rate(rate: u32, script: &[u8], log: &mut [u8],) -> NotedWords;
+        vdr_mouse_resolution mouse_resolution(resolution: u32, script: &[u8], log: &mut [u8],) -> NotedWords;
+        vdr_mouse_waits mouse_waits(script: &[u8], log: &mut [u8],) -> NotedWords;
+        vdr_mouse_read_packet mouse_read_packet(identity: u32, script: &[u8], log: &mut [u8],) -> PacketNotedWords;
+        vdr_interrupt interrupt(prefix: bool, flags: u16, waiting: usize, script: &[u8], log: &mut [u8],) -> InterruptWords;
+        vdr_character character(keycode: u8, flags: u16,) -> u32;
+    }
 }

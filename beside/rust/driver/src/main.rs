@@ -1,5 +1,6 @@
 //! Runs Theseus's three files beside the port: see ../../../README.md.
 
+use beside::compare::Damage;
 use beside::port::Part;
 use beside::{compare, exports, generate, lines, listing, oracle, sides};
 use std::io::{self, BufWriter, Write};
@@ -38,9 +39,13 @@ fn main() -> io::Result<ExitCode> {
         _ => None,
     };
     let damaged = number(&args, "--damage");
+    let whose = if option(&args, "--of") == Some("mirror") { "the mirror" } else { "the port" };
+    let damage = Damage { call: damaged, side: whose };
     match (args.first().map(String::as_str), calls, seed) {
         (Some(word @ ("replay" | "held")), None, None) => {
-            if let Some(mut side) = sides::by_name(side) {
+            // What the mirror's handler calls can't tell a recorded answer has: `check` holds the mirror to the Rust.
+            let is_told = (word, side) != ("held", Some("--mirror"));
+            if let Some(mut side) = sides::by_name(side).filter(|_| is_told) {
                 let but = option(&args, "--but").map_or(Ok(Default::default()), lines::calls_of)?;
                 return match word {
                     "replay" => lines::replay(&mut *side),
@@ -49,17 +54,18 @@ fn main() -> io::Result<ExitCode> {
             }
         }
         (Some("tablekeys"), ..) => return listing::tablekeys(),
-        (Some("check"), ..) => return exports::check(damaged),
+        (Some("check"), ..) => return exports::check(damage),
         (Some("sample"), Some(calls), Some(seed)) => return sample(calls, seed),
-        (Some("compare"), Some(calls), Some(seed)) => return compare::compare(calls, seed, damaged),
+        (Some("compare"), Some(calls), Some(seed)) => return compare::compare(calls, seed, damage),
         (Some("exports"), Some(calls), Some(seed)) => {
             return exports::compare(calls, seed, damaged.zip(part), option(&args, "--only"))
         }
         _ => {}
     }
-    eprintln!("usage: beside replay [--rust] | held [--rust] [--but TRACE] | check [--damage CALL] | tablekeys");
+    eprintln!("usage: beside replay [--rust | --mirror] | held [--rust] [--but TRACE] | tablekeys");
+    eprintln!("       beside check [--damage CALL [--of port|mirror]]");
     eprintln!("       beside sample --calls N --seed S");
-    eprintln!("       beside compare --calls N --seed S [--damage CALL]");
+    eprintln!("       beside compare --calls N --seed S [--damage CALL [--of port|mirror]]");
     eprintln!("       beside exports --calls N --seed S [--only OPERATION] [--damage CALL [--part refusal|byte|number]]");
     Ok(ExitCode::from(2))
 }

@@ -1,7 +1,8 @@
-//! One line, answered by the port and by the Rust or plain Rust, for libFuzzer (`beside/fuzz`): where they differ it stops.
+//! One line, answered by the port, by the mirror and by the Rust or plain Rust, for libFuzzer (`beside/fuzz`): where they differ it stops.
 #![no_main]
 
 use beside::exports::agree;
+use beside::mirror::Mirror;
 use beside::oracle::Oracle;
 use beside::port::Port;
 use beside::call::{self, Call, Op};
@@ -10,7 +11,8 @@ use std::cell::RefCell;
 
 thread_local! {
     /// The sides, which are made once: the Rust's records are statics.
-    static SIDES: RefCell<(Port, Oracle)> = RefCell::new((Port::new(0), Oracle::new()));
+    static SIDES: RefCell<(Port, Mirror, Oracle)> =
+        RefCell::new((Port::new(0), Mirror::new(0), Oracle::new()));
 }
 
 /// Whether a call is so short that many more can be made.
@@ -41,8 +43,8 @@ extern "C" fn LLVMFuzzerTestOneInput(bytes: *const u8, length: usize) -> i32 {
     if !is_short(&call) {
         return 0;
     }
-    SIDES.with_borrow_mut(|(port, rust)| {
-        if let Err(why) = agree(port, rust, &call) {
+    SIDES.with_borrow_mut(|(port, mirror, rust)| {
+        if let Err(why) = agree(port, mirror, rust, &call) {
             eprintln!("{line}\n{why}");
             std::process::abort();
         }
