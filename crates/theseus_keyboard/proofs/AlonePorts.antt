@@ -79,7 +79,7 @@ module _ (k : KeyboardState) (m : ℕ) where
   same_sent Profile.Tournament b e p = absurd (true≢false (sym p ∙ no_lock_followed b))
 
   module _ (profile : Profile) (e : both_follow profile m ≡ both_follow profile k.modifiers.bits) where
-    same_byte : (ws : List ℕ) (b : ℕ) → LampsAlike profile b
+    pub same_byte : (ws : List ℕ) (b : ℕ) → LampsAlike profile b
         → bind (on_byte (port_rules profile DevicePort.Port1) k ws b) (λ o. done (view o)) ≡ bind (after_taking k.prefix m b) (λ y. done (seen_by profile k y))
     unfolding after_taking
     same_byte ws b h =

@@ -14,7 +14,7 @@ use Rattle.keyboard_record.proofs.WellFormed.{call_is}
 use Rattle.keyboard.specs.Rules.{rules_at}
 use Rattle.keyboard.specs.Byte.{Keyed, on_byte, take_byte, key_call}
 use Rattle.keyboard.specs.Handler.{Outcome, Called, called_with, effects_by, after_byte, handle, effects, log_left, handled}
-use Rattle.keyboard.specs.KeyboardLamps.{keyboard_lamps, port_rules}
+use Rattle.keyboard.specs.KeyboardLamps.{port_of, keyboard_lamps, port_rules}
 use Rattle.keyboard.proofs.Calls.{formed_play}
 use Rattle.theseus_ps2.specs.Comparison.{Starts, TellsPlay}
 use Rattle.theseus_ps2.specs.Controller.{on_controller}
@@ -24,16 +24,17 @@ use Rattle.theseus_ps2.specs.declared.recording.Recording.{Recording}
 use Rattle.theseus_ps2.proofs.Agreed.{tells}
 use Rattle.theseus_keyboard.specs.Handler.{next_byte, flags_of_byte, queue_of_byte, Interrupted}
 use Rattle.theseus_keyboard.specs.Both.{first_of}
-use Rattle.theseus_keyboard.specs.Alone.{waiting_at, with_oldest, profile_of, BaseAlone, BothRoom, AlikeQueue, LampsAlike, AgreeFollowed, AgreeQueued, AgreePorts}
+use Rattle.theseus_keyboard.specs.Alone.{waiting_at, with_oldest, profile_of, BaseAlone, BothRoom, AlikeQueue, LampsAlike, AgreeFollowed, AgreeQueued, AgreePorts, AgreeSent}
 use Rattle.theseus_keyboard.proofs.Call.{rusts_call, ran_call}
 use Rattle.theseus_keyboard.proofs.Told.{first_is}
 use Rattle.theseus_keyboard.proofs.Alone.{called_by, followed, agreed, take_only}
 use Rattle.theseus_keyboard.proofs.AlonePorts.{ports, agree_ports}
+use Rattle.theseus_keyboard.proofs.AloneSent.{sent, agree_sent_by}
 
 module _ (side : Side) (h : KeyboardHandler) (script log rusts_script rusts_log : List ℕ) (long : rusts_script ≡ with_oldest (waiting_at side h) script)
     (c c' : PS2Controller Recording) (b : Starts rusts_script rusts_log c.hardware)
     (x x' : Bool) (m m' : ℕ) (q q' : List KeyEvent) (i : Interrupted (on_controller recording) c x m q c' x' m' q')
-    (ok : BaseAlone side h x m) (ours : Called) (log' : List ℕ)
+    (ok : BaseAlone side h script rusts_script x m) (ours : Called) (log' : List ℕ)
     (said : ours ≡ handled keyboard_lamps side h script log) (left : log' ≡ log_left keyboard_lamps side h.state script log) where
   abbrev part : Played Keyed
   part = play (take_byte (waiting_at side h) (on_byte (rules_at h.state.table keyboard_lamps side) (keyboard_at side h.state))) script log
@@ -79,6 +80,23 @@ module _ (side : Side) (h : KeyboardHandler) (script log rusts_script rusts_log 
       (call_is side h.state ok.formed).1.start_in ok.places_are q' queue_left part.end part.used part.pairs part.log
       (take_only (rules_at h.state.table keyboard_lamps side) (keyboard_at side h.state) (waiting_at side h) script log))
 
+  pub agree_sent : LampsAlike (profile_of h) (first_of rusts_script) → AgreeSent (waiting_at side h) ours log' c'.hardware
+  agree_sent lamps =
+      let k = keyboard_at side h.state in
+      let n = next_byte (on_controller recording) c in
+      let ws = waiting_at side h in
+      let t : TellsPlay (play (rusts_call x m) c.hardware.script.now c.hardware.log.now) n c'.hardware =
+      tells (rusts_call x m) c n c' (ran_call (on_controller recording) c c' x x' m m' q q' i) b.0 in
+      let t2 : TellsPlay (play (rusts_call k.prefix m) (with_oldest ws script) rusts_log) n c'.hardware =
+      subst (λ (z : List ℕ × List ℕ). TellsPlay (play (rusts_call k.prefix m) z.0 z.1) n c'.hardware)
+      (ap (λ (y : List ℕ). (y, c.hardware.log.now)) (b.1 ∙ long) ∙ ap (λ (y : List ℕ). (with_oldest ws script, y)) b.2)
+      (subst (λ (y : Bool). TellsPlay (play (rusts_call y m) c.hardware.script.now c.hardware.log.now) n c'.hardware) ok.alike.prefix_is t) in
+      subst (λ (z : Called × List ℕ). AgreeSent ws z.0 z.1 c'.hardware)
+      (ap (λ (l : List ℕ). (called_by side h part.end part.used part.pairs part.log, l)) (sym log_is) ∙ ap (λ (o : Called). (o, log')) (sym ours_is))
+      (agree_sent_by k m (profile_of h) ok.alike.flags_are (port_of side) side h ws n c'.hardware part (play (rusts_call k.prefix m) (with_oldest ws script) rusts_log)
+      (λ a y oe pe. sent k m (profile_of h) ok.alike.flags_are (port_of side) ws script log rusts_log a y (subst (λ (y : List ℕ). LampsAlike (profile_of h) (first_of y)) long lamps) oe pe)
+      t2)
+
   shown_by : AgreePorts (waiting_at side h) (called_by side h part.end part.used part.pairs part.log) part.log c'.hardware → AgreePorts (waiting_at side h) ours log' c'.hardware
   shown_by a =
       subst (λ (z : Called × List ℕ). AgreePorts (waiting_at side h) z.0 z.1 c'.hardware)
@@ -90,11 +108,12 @@ module _ (h : KeyboardHandler) (script log rusts_script rusts_log : List ℕ) (c
   -- what is asked of a side
   abbrev Shown : Side → Type 0
   Shown side =
-      rusts_script ≡ with_oldest (waiting_at side h) script → BaseAlone side h x m → ours ≡ handled keyboard_lamps side h script log
+      BaseAlone side h script rusts_script x m → ours ≡ handled keyboard_lamps side h script log
       → log' ≡ log_left keyboard_lamps side h.state script log → AgreePorts (waiting_at side h) ours log' c'.hardware
 
   first_shown : Shown Side.First
-  first_shown long ok said left =
+  first_shown ok said left =
+      let long = ok.script_is in
       let k = keyboard_at Side.First h.state in
       let n = next_byte (on_controller recording) c in
       let ws = waiting_at Side.First h in

@@ -10,4 +10,5 @@ pub mod Told
 pub mod FollowedAlike
 pub mod Alone
 pub mod AlonePorts
+pub mod AloneSent
 pub mod AloneTold

@@ -1,6 +1,6 @@
 -- What stays equal of a keyboard at either side of any table, under either profile, whatever waits for it, and of the Rust's handler for that keyboard alone.
 -- Assumes nothing.
-use Rattle.std.specs.Prelude.{◌≡◌, Bool, true, false, not, ◌&&◌, cond, List, [], ◌∷◌, map, length, ℕ, suc, ◌<◌}
+use Rattle.std.specs.Prelude.{◌≡◌, Bool, true, false, not, ◌&&◌, cond, List, [], ◌∷◌, map, length, ℕ, zero, suc, eqb, ◌<◌}
 use Rattle.bits.specs.Bits.{put_bit}
 use Rattle.exchange.specs.Exchange.{End, yields, lacks}
 use Rattle.exchange.specs.Answer.{Answer, gives, refuses}
@@ -72,8 +72,9 @@ pub record AlikeKeyboard (side : Side) (h : KeyboardHandler) (prefix : Bool) (fl
 abbrev pub AlikeQueue : Side → KeyboardHandler → List KeyEvent → Type 0
 AlikeQueue side h queue = inside (profile_of h) queue ≡ map (followed_event (profile_of h)) (of_side side (waiting h))
 
--- A well-formed record with this side at its table, which says of its keyboard what the Rust has; of its 128 places each record has as many, by its type.
-pub record BaseAlone (side : Side) (h : KeyboardHandler) (prefix : Bool) (flags : ℕ) : Type 0 where
+-- A well-formed record with this side at its table, which says of its keyboard what the Rust has; of its 128 places each record has as many, by its type. And the Rust's script, with the oldest waiting byte in front of ours.
+pub record BaseAlone (side : Side) (h : KeyboardHandler) (script rusts_script : List ℕ) (prefix : Bool) (flags : ℕ) : Type 0 where
+  pub script_is : rusts_script ≡ with_oldest (waiting_at side h) script
   pub formed : call_formed side h.state ≡ true
   pub places_are : length h.places ≡ 128
   pub alike : AlikeKeyboard side h prefix flags
@@ -111,3 +112,16 @@ AgreeShort (lacks l) left = (left.short ≡ true) × (left.asked ≡ number_lack
 abbrev pub AgreePorts : List ℕ → Called → List ℕ → Recording → Type 0
 AgreePorts waits ours log left =
     (left.used ≡ with_taken waits ours.used) × (left.pairs ≡ ours.pairs) × (left.log.now ≡ log) × AgreeShort ours.end left
+
+-- The bytes that the first pairs of a log, so many, write to the data port.
+unfoldable pub data_written : ℕ → List ℕ → List ℕ
+data_written zero log = []
+data_written (suc n) [] = []
+data_written (suc n) (port ∷ []) = []
+data_written (suc n) (port ∷ value ∷ log) = cond (eqb port 0x60) (value ∷ data_written n log) (data_written n log)
+
+-- On either side, where neither falls short: the bytes used, and the bytes written to the data port. The second side's lamp bytes come after D4, which goes to the other port.
+abbrev pub AgreeSent : List ℕ → Called → List ℕ → Recording → Type 0
+AgreeSent waits ours log left =
+    UnlessLacking ours.end (λ a. left.short ≡ false
+    → (left.used ≡ with_taken waits ours.used) × (data_written left.pairs left.log.now ≡ data_written ours.pairs log))

@@ -9,7 +9,7 @@ ghost use Rattle.theseus_ps2.specs.Controller.{on_controller};
 ghost use Rattle.theseus_ps2.specs.Hardware.{ran, run};
 ghost use Rattle.theseus_ps2.specs.Messages.{said};
 ghost use Rattle.theseus_keyboard.specs.Both.{Base, Alike, AgreeCall, answer_to, first_of, FreshAlike};
-ghost use Rattle.theseus_keyboard.specs.Alone.{waiting_at, with_oldest, profile_of, BaseAlone, BothRoom, AlikeQueue, LampsAlike, AgreeFollowed, AgreeQueued, AgreePorts};
+ghost use Rattle.theseus_keyboard.specs.Alone.{waiting_at, profile_of, BaseAlone, BothRoom, AlikeQueue, LampsAlike, AgreeFollowed, AgreeQueued, AgreePorts, AgreeSent};
 ghost use Rattle.theseus_keyboard.specs.Handler.{Interrupted, our_events};
 
 use crate::{Queue, init, ps2_keyboard_handler};
@@ -74,9 +74,10 @@ pub fn both_handle_alone<'a, Q: Queue>(
     kbd_modifiers: &mut KeyboardModifiers,
     extended_scancode: &mut bool,
 ) -> BothCalls<'a>
-    ensures followed { rusts_script.now ≡ with_oldest (waiting_at side handler) script.now → BaseAlone side handler extended_scancode.old (renumbered kbd_modifiers.old.bits) → AgreeFollowed side (said_handled result.ours) extended_scancode.new (renumbered kbd_modifiers.new.bits) }
-    ensures queued { rusts_script.now ≡ with_oldest (waiting_at side handler) script.now → BaseAlone side handler extended_scancode.old (renumbered kbd_modifiers.old.bits) → BothRoom side handler (our_events (Q.waiting queue.old)) → AlikeQueue side handler (our_events (Q.waiting queue.old)) → AgreeQueued side (profile_of handler) (first_of rusts_script.now) (our_events (Q.waiting queue.old)) (said_handled result.ours) (our_events (Q.waiting queue.new)) }
-    ensures ports { side ≡ Side.First → log.old ≡ rusts_log.old → LampsAlike (profile_of handler) (first_of rusts_script.now) → rusts_script.now ≡ with_oldest (waiting_at side handler) script.now → BaseAlone side handler extended_scancode.old (renumbered kbd_modifiers.old.bits) → AgreePorts (waiting_at side handler) (said_handled result.ours) log.new result.left }
+    ensures followed { BaseAlone side handler script.now rusts_script.now extended_scancode.old (renumbered kbd_modifiers.old.bits) → AgreeFollowed side (said_handled result.ours) extended_scancode.new (renumbered kbd_modifiers.new.bits) }
+    ensures queued { BaseAlone side handler script.now rusts_script.now extended_scancode.old (renumbered kbd_modifiers.old.bits) → BothRoom side handler (our_events (Q.waiting queue.old)) → AlikeQueue side handler (our_events (Q.waiting queue.old)) → AgreeQueued side (profile_of handler) (first_of rusts_script.now) (our_events (Q.waiting queue.old)) (said_handled result.ours) (our_events (Q.waiting queue.new)) }
+    ensures sent { BaseAlone side handler script.now rusts_script.now extended_scancode.old (renumbered kbd_modifiers.old.bits) → LampsAlike (profile_of handler) (first_of rusts_script.now) → AgreeSent (waiting_at side handler) (said_handled result.ours) log.new result.left }
+    ensures ports { BaseAlone side handler script.now rusts_script.now extended_scancode.old (renumbered kbd_modifiers.old.bits) → LampsAlike (profile_of handler) (first_of rusts_script.now) → side ≡ Side.First → log.old ≡ rusts_log.old → AgreePorts (waiting_at side handler) (said_handled result.ours) log.new result.left }
 {
     let mut controller = start(rusts_script, rusts_log);
     rusts_handle(&mut controller, queue, kbd_modifiers, extended_scancode);
