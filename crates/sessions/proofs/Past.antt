@@ -2,19 +2,19 @@
 use Prim.Native.Nat.{ℕ}
 use mathlib.Core.Bool.{Bool, true, false, cond}
 use mathlib.Core.List.{List, [], ◌∷◌, ◌++◌}
-use mathlib.Core.Path.{◌≡◌, refl, sym, ap, ◌∙◌}
-use Rattle.std.specs.Prelude.{Option, Some, None, Result, Ok, Err}
+use mathlib.Core.Path.{◌≡◌, refl, ap}
+use Rattle.std.specs.Prelude.{Option, Result, Ok, Err}
 use Rattle.exchange.specs.Exchange.{Exchange, done, read, write, bind}
 use Rattle.ps2_answers.specs.declared.Failure.{Failure}
 use Rattle.questions.specs.declared.Question.{Question}
 use Rattle.questions.specs.declared.Sought.{Sought}
 use Rattle.questions.specs.declared.Going.{Going}
 use Rattle.questions.specs.declared.Going.TheVariants.{Writing, Seeking}
-use Rattle.questions.specs.Asked.{asked, going, begun, turn, second, further_turns}
+use Rattle.questions.specs.Asked.{going, begun, turn, second, further_turns}
 use Rattle.questions.specs.Steps.{after, wants}
 use Rattle.talks.specs.declared.Stop.TheVariants.{Asks, Refused}
 use Rattle.sessions.specs.Memory.{reply_in}
-use Rattle.sessions.specs.Rounds.{Rounds, over, round, exchange_of, answered, past, shown, rest_of}
+use Rattle.sessions.specs.Rounds.{Rounds, over, round, exchange_of, answered, past, shown}
 
 module _ {R : Type 0} where
   -- one reply more

@@ -1,12 +1,12 @@
 -- What a talk comes to with a memory is what is left of its questions behind the replies. Assumes nothing.
 use Prim.Native.Nat.{ℕ, zero, suc, ◌+◌, ◌<◌, ◌≤◌}
-use mathlib.Core.Bool.{Bool, true, false, cond}
+use mathlib.Core.Bool.{Bool, true, false}
 use mathlib.Core.List.{List, [], ◌∷◌}
 use mathlib.Core.Path.{◌≡◌, refl, sym, ap, ◌∙◌}
 use Rattle.std.specs.Prelude.{Option, Some, None, Result, Ok, Err, drop, length, get_or}
 use Rattle.std.proofs.lemmas.Bool.{lt-ltb, le-ltb, ltb-true, ltb-false}
 use Rattle.std.proofs.lemmas.List.{drop_more, drop_all}
-use Rattle.ps2_answers.specs.Refusals.{Success, success}
+use Rattle.ps2_answers.specs.Refusals.{Success}
 use Rattle.ps2_answers.specs.declared.Failure.{Failure}
 use Rattle.questions.specs.declared.Question.{Question}
 use Rattle.talks.specs.declared.Stop.{Stop}
@@ -15,7 +15,7 @@ use Rattle.talks.specs.Talk.{Talk, tells, asks, next, failing_as, trying, worked
 use Rattle.talks.specs.Heard.{Replies, HeardBy, by, said, replied, going_by, fails_as, forgives, works, accepting, attempts_heard, heard}
 use Rattle.sessions.specs.declared.Memory.{Memory}
 use Rattle.sessions.specs.Memory.{reply_in, remembers, memory}
-use Rattle.sessions.specs.Rounds.{Rounds, over, round, joined, on_done, unless_accepted, attempt_rounds, rounds, answered, past, shown}
+use Rattle.sessions.specs.Rounds.{Rounds, over, round, joined, on_done, unless_accepted, attempt_rounds, rounds, past, shown}
 
 -- what questions come to with whoever replies: their end, or a question without a reply
 pub data Came (R : Type 0) : Type 0 where

@@ -2,10 +2,10 @@
 use Prim.Native.Nat.{ℕ, zero, suc, ◌+◌, ◌≤◌, ◌<◌}
 use native.Mathlib.Omega.{arith}
 use lib.Dec.{eqb}
-use mathlib.Core.Bool.{Bool, true, false, cond}
+use mathlib.Core.Bool.{Bool, true, false}
 use mathlib.Core.List.{List, [], ◌∷◌}
 use mathlib.Core.Path.{◌≡◌, sym, ap, ◌∙◌}
-use Rattle.std.specs.Prelude.{length, Option, Some, None, Result, Ok, Err}
+use Rattle.std.specs.Prelude.{length, Option, Result, Ok, Err}
 use Rattle.ps2_answers.specs.Refusals.{Success, success}
 use Rattle.ps2_answers.specs.declared.ReadPort.{ReadPort}
 use Rattle.ps2_answers.specs.declared.Failure.{Failure}
@@ -25,7 +25,7 @@ use Rattle.ps2_init.specs.declared.PS2Controller.{PS2Controller}
 use Rattle.questions.specs.declared.Question.{Question}
 use Rattle.questions.specs.declared.Sought.{Sought}
 use Rattle.talks.specs.declared.Stop.TheVariants.{Asks as StopAsks}
-use Rattle.talks.specs.Talk.{Talk, tells, asks, next, failing_as, trying, worked, attempting, replaced, is_done}
+use Rattle.talks.specs.Talk.{Talk, tells, asks, next, failing_as, trying, worked, replaced, is_done}
 use Rattle.talks.specs.Commands as command
 use Rattle.talks.specs.Keyboard as keyboard
 use Rattle.talks.specs.Mouse as mouse

@@ -2,11 +2,11 @@
 use Prim.Native.Nat.{ℕ, zero, suc}
 use mathlib.Core.Bool.{Bool, true, false}
 use mathlib.Core.Path.{◌≡◌, refl, sym, ap, ◌∙◌, fun_ext}
-use Rattle.std.specs.Prelude.{Option, Result, Ok, Err}
+use Rattle.std.specs.Prelude.{Result, Ok, Err}
 use Rattle.exchange.specs.Exchange.{Exchange, done, bind}
-use Rattle.exchange.specs.Repeat.{Turn, turned, repeat}
+use Rattle.exchange.specs.Repeat.{turned, repeat}
 use Rattle.exchange.proofs.Sequence.{bind_assoc}
-use Rattle.ps2_answers.specs.Refusals.{Success, success}
+use Rattle.ps2_answers.specs.Refusals.{Success}
 use Rattle.ps2_answers.specs.declared.Failure.{Failure}
 use Rattle.questions.specs.Asked.{asked}
 use Rattle.talks.specs.Talk.{Talk, tells, asks, next, failing_as, trying, worked, attempting, on_ok, replaced, accepted_turn, is_done, tree}

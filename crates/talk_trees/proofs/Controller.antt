@@ -1,16 +1,15 @@
 -- The talk of the controller's initialisation is its tree. Assumes nothing.
-use Prim.Native.Nat.{ℕ}
 use mathlib.Core.Bool.{Bool, true, false, cond, ◌||◌}
 use mathlib.Core.Path.{◌≡◌, refl, sym, ap, ◌∙◌, fun_ext}
 use Rattle.std.specs.Prelude.{Result, Ok, Err}
 use Rattle.bits.specs.Bits.{bit}
-use Rattle.exchange.specs.Exchange.{p60, p64, Exchange, done, read, write, bind}
-use Rattle.exchange.specs.Answer.{Answer, gives, refuses, and_then}
+use Rattle.exchange.specs.Exchange.{p60, p64, done, read, write, bind}
+use Rattle.exchange.specs.Answer.{gives, refuses, and_then}
 use Rattle.exchange.specs.Left.{Left, left}
 use Rattle.exchange.specs.Refuses.{succeeds}
 use Rattle.exchange.proofs.Sequence.{bind_assoc}
 use Rattle.ps2_bytes.specs.declared.command.HostToControllerCommand.{HostToControllerCommand}
-use Rattle.ps2_bytes.specs.declared.command.HostToControllerCommand.TheVariants.{ReadFromInternalRAMByte0, WriteToInternalRAMByte0, TestController, DisablePort1, DisablePort2, EnablePort1, EnablePort2, TestPort1, TestPort2}
+use Rattle.ps2_bytes.specs.declared.command.HostToControllerCommand.TheVariants.{ReadFromInternalRAMByte0, WriteToInternalRAMByte0, TestController, DisablePort1, DisablePort2, TestPort1, TestPort2}
 use Rattle.ps2_bytes.specs.Commands.{controller_byte}
 use Rattle.ps2_layouts.specs.declared.configuration.ControllerConfigurationByte.{ControllerConfigurationByte}
 use Rattle.ps2_layouts.specs.Status.{output_buffer_full}
@@ -35,7 +34,7 @@ use Rattle.ps2_init.specs.Init.{has_mouse, with_devices, read_last, or_passed}
 use Rattle.questions.specs.declared.Sought.TheVariants.{PortPassed}
 use Rattle.questions.specs.Asked.{meets}
 use Rattle.talks.specs.declared.controller.ControllerLeft.{ControllerLeft}
-use Rattle.talks.specs.Talk.{Talk, tells, next, trying, worked, tree, answering, answer_of}
+use Rattle.talks.specs.Talk.{tells, next, tree, answering, answer_of}
 use Rattle.talks.specs.Commands as command
 use Rattle.talks.specs.Commands.{seek, read_data, further_polls}
 use Rattle.talks.specs.Keyboard as keyboard

@@ -1,27 +1,24 @@
 -- Each of the keyboard's talks is its tree. Assumes nothing.
-use Prim.Native.Nat.{ℕ, suc}
+use Prim.Native.Nat.{ℕ}
 use mathlib.Core.Bool.{Bool, true, false, cond}
 use lib.Dec.{eqb}
 use mathlib.Core.Path.{◌≡◌, refl, sym, ap, ◌∙◌, fun_ext}
-use Rattle.std.specs.Prelude.{Option, Some, None, Result, Ok, Err}
+use Rattle.std.specs.Prelude.{Option, Some, None, Ok}
 use Rattle.bits.specs.Bits.{bit}
-use Rattle.exchange.specs.Exchange.{p60, p64, Exchange, done, read, bind}
-use Rattle.exchange.specs.Answer.{Answer, gives, refuses, and_then}
-use Rattle.exchange.specs.Repeat.{Turn, found, again, repeat}
+use Rattle.exchange.specs.Exchange.{p60, p64, done, read, bind}
+use Rattle.exchange.specs.Answer.{refuses, and_then}
+use Rattle.exchange.specs.Repeat.{found, again, repeat}
 use Rattle.exchange.proofs.Sequence.{bind_assoc}
 use Rattle.ps2_bytes.specs.Data.{scancode_sets}
 use Rattle.ps2_bytes.specs.declared.command.HostToKeyboardCommand.{HostToKeyboardCommand}
 use Rattle.ps2_bytes.specs.declared.data.ScancodeSet.{ScancodeSet}
 use Rattle.ps2_bytes.specs.declared.data.ScancodeSet.TheVariants as Set
-use Rattle.ps2_bytes.specs.declared.response.KeyboardType.{KeyboardType}
 use Rattle.ps2_bytes.specs.declared.response.KeyboardType.TheVariants.{AncientATKeyboard}
 use Rattle.ps2_layouts.specs.declared.leds.LEDState.{LEDState}
 use Rattle.ps2_layouts.specs.Status.{output_buffer_full}
 use Rattle.ps2_ports.specs.declared.DevicePort.{DevicePort}
 use Rattle.ps2_ports.specs.declared.DevicePort.TheVariants.{Port1}
 use Rattle.ps2_ports.specs.Ports.{read_status, read_port}
-use Rattle.ps2_answers.specs.Refusals.{number_of}
-use Rattle.ps2_answers.specs.declared.Failure.{Failure}
 use Rattle.ps2_answers.specs.declared.Failure.TheVariants.{NoResponse, NoSetOrIdentity, UnknownKeyboard, LedsNotSet, KeyboardNotDetected}
 use Rattle.ps2_polling.specs.Polling.{poll, data_turn}
 use Rattle.ps2_command.specs.Search.{listed_turn}
@@ -34,8 +31,8 @@ use Rattle.keyboard_init.specs.KeyboardInit.{detection, keyboard_init}
 use Rattle.questions.specs.declared.Question.TheVariants.{Seek}
 use Rattle.questions.specs.declared.Sought.TheVariants as Sought
 use Rattle.questions.specs.Asked.{came, meets, asked}
-use Rattle.talks.specs.Talk.{Talk, tells, next, trying, tree as the_tree, answering, answer_of}
-use Rattle.talks.specs.Commands.{seek, read_data, read_status as status_read, command, command_pair, self_test, further_polls}
+use Rattle.talks.specs.Talk.{tells, next, trying, tree as the_tree, answering, answer_of}
+use Rattle.talks.specs.Commands.{seek, read_data, self_test, further_polls}
 use Rattle.talks.specs.Keyboard as talk
 use Rattle.talk_trees.proofs.Trees.{answering_next, telling_tried, answering_failing, answering_tells, through, wait_through}
 use Rattle.talk_trees.proofs.Waits.{after_seek, answering_seek, answering_sought, polls_through, table_talk, table_through, answering_command, answering_pair, answering_self_test}

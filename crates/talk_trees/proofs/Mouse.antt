@@ -1,14 +1,11 @@
 -- Each of the mouse's talks is its tree. Assumes nothing.
-use Prim.Native.Nat.{ℕ, suc}
-use mathlib.Core.Bool.{Bool, true, false, cond}
 use mathlib.Core.List.{[], ◌∷◌}
-use mathlib.Core.Path.{◌≡◌, refl, sym, ap, ◌∙◌, fun_ext}
-use Rattle.std.specs.Prelude.{Option, Some, None, Result, Ok, Err}
+use mathlib.Core.Path.{◌≡◌, refl, ap, ◌∙◌, fun_ext}
+use Rattle.std.specs.Prelude.{Result, Ok, Err}
 use Rattle.exchange.specs.Exchange.{p60, p64, Exchange, done, read, bind}
 use Rattle.exchange.specs.Answer.{Answer, gives, refuses, and_then}
 use Rattle.exchange.specs.Left.{Left, left}
 use Rattle.exchange.specs.Repeat.{repeat}
-use Rattle.exchange.proofs.Sequence.{bind_assoc}
 use Rattle.ps2_bytes.specs.Responses.{mouse_ids}
 use Rattle.ps2_bytes.specs.declared.command.HostToMouseCommand.{HostToMouseCommand}
 use Rattle.ps2_bytes.specs.declared.data.MouseResolution.{MouseResolution}
@@ -21,7 +18,7 @@ use Rattle.ps2_ports.specs.Ports.{flush_output_buffer, read_status}
 use Rattle.ps2_answers.specs.Refusals.{Success, success}
 use Rattle.ps2_answers.specs.declared.Failure.{Failure}
 use Rattle.ps2_answers.specs.declared.Failure.TheVariants.{NoResponse, NoSetOrIdentity, FirstIdentityFour, RateOrResolutionNotSet, PacketsNotStopped, PacketsNotStarted}
-use Rattle.ps2_command.specs.Search.{poll_when, listed_turn, self_test_within}
+use Rattle.ps2_command.specs.Search.{poll_when, listed_turn}
 use Rattle.ps2_mouse.specs.Mouse as tree
 use Rattle.ps2_mouse.specs.Mouse.{command_to_mouse, mouse_byte_waits}
 use Rattle.ps2_mouse.specs.declared.PS2Mouse.{PS2Mouse}

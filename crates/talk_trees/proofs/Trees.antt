@@ -2,7 +2,7 @@
 use Prim.Native.Nat.{ℕ, zero, suc}
 use mathlib.Core.Bool.{Bool, true, false}
 use mathlib.Core.Path.{◌≡◌, refl, sym, ap, ◌∙◌, fun_ext}
-use Rattle.std.specs.Prelude.{Option, Some, None, Result, Ok, Err}
+use Rattle.std.specs.Prelude.{Option, None, Result, Ok, Err}
 use Rattle.exchange.specs.Exchange.{Exchange, done, bind}
 use Rattle.exchange.specs.Answer.{Answer, gives, refuses, on_given, and_then, renumbered, refusing_as}
 use Rattle.exchange.specs.Repeat.{Turn, found, again, turned, repeat}
@@ -13,7 +13,7 @@ use Rattle.ps2_answers.specs.Refusals.{Success, success, number_of}
 use Rattle.ps2_answers.specs.declared.Failure.{Failure}
 use Rattle.questions.specs.declared.Sought.{Sought}
 use Rattle.questions.specs.Asked.{turn, further_turns}
-use Rattle.talks.specs.Talk.{Talk, tells, asks, next, failing_as, trying, attempting, on_ok, replaced, accepted_turn, tree, answer_of, answering, is_done, worked}
+use Rattle.talks.specs.Talk.{Talk, tells, next, failing_as, trying, attempting, on_ok, replaced, accepted_turn, tree, answer_of, answering, is_done, worked}
 
 -- what is told of a talk
 abbrev pub telling : {A C : Type 0} → (Result A Failure → C) → Talk A → Exchange C

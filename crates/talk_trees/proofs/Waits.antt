@@ -37,7 +37,7 @@ use Rattle.questions.specs.declared.Question.TheVariants.{Seek}
 use Rattle.questions.specs.declared.Sought.{Sought}
 use Rattle.questions.specs.declared.Sought.TheVariants.{InputFree, Response, Byte, Data}
 use Rattle.questions.specs.Asked.{came, meets, second, turn, asked}
-use Rattle.talks.specs.Talk.{Talk, tells, asks, next, on_ok, tree, answer_of, answering}
+use Rattle.talks.specs.Talk.{Talk, tells, next, on_ok, tree, answer_of, answering}
 use Rattle.talks.specs.Commands as talk
 use Rattle.talks.specs.Commands.{or_fails, seek}
 use Rattle.talk_trees.proofs.Trees.{answering_next, answering_attempting, turn_answer, through, wait_through}

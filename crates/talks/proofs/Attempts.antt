@@ -1,11 +1,10 @@
 -- What attempts come to, one after another. Assumes nothing.
 use Prim.Native.Nat.{ℕ, suc}
-use mathlib.Core.Bool.{Bool, true, false}
+use mathlib.Core.Bool.{Bool}
 use mathlib.Core.Path.{◌≡◌, refl, sym, ap, ◌∙◌}
-use Rattle.std.specs.Prelude.{Result, Ok, Err}
+use Rattle.std.specs.Prelude.{Result, Err}
 use Rattle.std.specs.Result.{IsErrAnd}
 use Rattle.std.proofs.lemmas.Result.{err_from_is_err_and}
-use Rattle.ps2_answers.specs.Refusals.{Success, success}
 use Rattle.ps2_answers.specs.declared.Failure.{Failure}
 use Rattle.talks.specs.declared.Stop.{Stop}
 use Rattle.talks.specs.declared.Stop.TheVariants.{Refused}

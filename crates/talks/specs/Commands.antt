@@ -23,7 +23,7 @@ use Rattle.questions.specs.declared.Sought.{Sought}
 use Rattle.questions.specs.declared.Sought.TheVariants.{InputFree, Response, Byte, Data, Status}
 use Rattle.talks.specs.declared.Stop.{Stop}
 use Rattle.talks.specs.Heard.{said}
-use Rattle.talks.specs.Talk.{Talk, tells, asks, next, failing_as, trying, attempting}
+use Rattle.talks.specs.Talk.{Talk, tells, asks, next, attempting}
 
 -- A write.
 unfoldable pub write : ReadPort → ℕ → Talk Success

@@ -25,7 +25,7 @@ use Rattle.questions.specs.declared.Sought.TheVariants as Sought
 use Rattle.talks.specs.declared.Stop.{Stop}
 use Rattle.talks.specs.Talk.{Talk, tells, next, failing_as, trying}
 use Rattle.talks.specs.Heard.{said}
-use Rattle.talks.specs.Commands.{seek, read_data, read_status, command, command_pair, self_test, further_polls}
+use Rattle.talks.specs.Commands.{seek, read_status, command, command_pair, self_test, further_polls}
 
 -- One of its commands.
 abbrev pub keyboard_command : HostToKeyboardCommand → Talk Success

@@ -1,7 +1,7 @@
 -- `command` meets its contract. Assumes nothing.
 use native.Mathlib.Omega.{arith}
 use mathlib.Core.Path.{refl, sym, ap, ◌∙◌}
-use Rattle.std.specs.Prelude.{Ok, Err}
+use Rattle.std.specs.Prelude.{Ok}
 use Rattle.std.proofs.Common.{◌-◌}
 use Rattle.ps2_answers.specs.declared.Failure.TheVariants.{NotAcknowledged}
 use Rattle.talks.specs.Heard.{by, heard}
