@@ -1,0 +1,4 @@
+-- A session makes its operation's path.
+pub mod Operations
+pub mod Paths
+pub mod Stepwise
