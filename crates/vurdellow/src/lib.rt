@@ -12,3 +12,4 @@ mod keyboard_exports;
 mod mouse;
 mod preferences_exports;
 mod reports;
+mod steps;
