@@ -408,7 +408,8 @@ pub fn handle_in_place(
     let count = handler.state.count;
     let effect = handle_state(&mut handler.state, side, script, log);
     if let Some(event) = effect.event {
-        handler.places[(start + count) % QUEUE_LENGTH] = event;
+        let place = (start + count) % QUEUE_LENGTH;
+        handler.places[place] = event;
     }
     effect.call
 }

@@ -13,8 +13,8 @@ well c =
     let x = c.handle_state-effect in
     queued_well keyboard_lamps _ _ _ _ x.result c.in-Some.is x.ensures.0
 
-pub overflow_add-event : goal.overflow_add-event
-overflow_add-event c = omega (arith, (well c).start_in, (well c).count_in)
+pub overflow_add-place : goal.overflow_add-place
+overflow_add-place c = omega (arith, (well c).start_in, (well c).count_in)
 
 pub returns : goal.returns
 returns c =
