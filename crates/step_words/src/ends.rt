@@ -43,7 +43,7 @@ pub enum Advance {
 
 // The session that the numbers stand for, if it runs.
 #[inline(always)]
-pub fn session_at(fields: &[u64]) -> Option<Session>
+pub(crate) fn session_at(fields: &[u64]) -> Option<Session>
     requires { length fields.now ≡ 12 }
     ensures { result ≡ session_in fields.now }
 {
@@ -120,7 +120,7 @@ fn stopped(fields: &mut [u64], count: usize, stop: Stop) -> Advance
 }
 
 // Writes what an operation says on so many replies.
-pub fn go_on(fields: &mut [u64], count: usize, said: Result<Ending, Stop>) -> Advance
+pub(crate) fn go_on(fields: &mut [u64], count: usize, said: Result<Ending, Stop>) -> Advance
     requires length { length fields.old ≡ 12 }
     requires room { (q : AQuestion) → said ≡ Err (StopsAsking q) → count < 224 }
     ensures left { (o : AnOperation) (p : List ℕ) → operation_in (get_or fields.old 0 0) (get_or fields.old 1 0) ≡ Some o → said ≡ shown (past (rounds (talk_of o)) (take count p)) → (bind (exchange_of (past (rounds (talk_of o)) (take count p))) (λ r. done (ended r)) ≡ said_rest result fields.new p) × Said result fields.new p }

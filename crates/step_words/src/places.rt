@@ -169,7 +169,7 @@ fn going_words(going: Going) -> Four
 }
 
 /// Puts a place where it stands in a session's first numbers, and leaves all others.
-pub fn put_place(fields: &mut [u64], going: Going)
+pub(crate) fn put_place(fields: &mut [u64], going: Going)
     requires { length fields.old ≡ 12 }
     ensures place { place_in fields.new ≡ Some going }
     ensures before { take 3 fields.new ≡ take 3 fields.old }

@@ -100,7 +100,7 @@ fn note(counts: &mut [u64], bytes: &mut [u64], request: Request, byte: u8)
 }
 
 /// The byte that was read, or the write that was made.
-pub fn next_in(
+pub(crate) fn next_in(
     fields: &mut [u64],
     counts: &mut [u64],
     bytes: &mut [u64],
@@ -154,7 +154,7 @@ fn put_operation(fields: &mut [u64], number: u64, argument: u64)
 }
 
 /// Begins the operation that a number and an argument stand for.
-pub fn begin_in(
+pub(crate) fn begin_in(
     fields: &mut [u64],
     counts: &mut [u64],
     bytes: &mut [u64],
