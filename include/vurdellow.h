@@ -51,6 +51,10 @@ extern "C" {
 /* Log bytes with which no call ends in VD_LOG_FULL: a handler call or a dispatcher's step, and any call at all. */
 #define VD_HANDLER_LOG 20
 #define VD_LOG_BYTES 160
+/* How many numbers an operation a byte at a time has, and where in them its outcome is: four
+   numbers. */
+#define VD_STEP_WORDS 256
+#define VD_OUTCOME_AT 8
 
 /* ---- numbers of arguments and answers */
 
@@ -64,6 +68,36 @@ enum vd_source { VD_NOBODY = 0, VD_FROM_SIDE_1 = 1, VD_FROM_SIDE_2 = 2, VD_FROM_
 
 /* The ports as a lack names them: the one that the whole run would read next. */
 enum vd_port { VD_DATA_PORT = 0x60, VD_STATUS_PORT = 0x64 };
+
+/* The operations that go a byte at a time (vd_begin). Each does what the function of its name
+   does. "of" tells its argument, which is 0 where nothing is told; "out" its outcome, which is 0
+   where nothing is told, and after a refusal but for those that tell otherwise. */
+enum vd_operation {
+    VD_CONTROLLER_INIT = 1,         /* of 1 where it is initialised + 2 with a keyboard + 4 with a mouse; out: these three, 0 or 1 each,
+                                       and as they were passed after a refusal */
+    VD_KEYBOARD_INIT = 2,           /* what vd_keyboard_init does at the ports; vd_handler_fresh makes the record */
+    VD_KEYBOARD_RESET = 3,
+    VD_KEYBOARD_COMMAND = 4,        /* of the command byte; vd_step_kept has what was thrown away */
+    VD_KEYBOARD_LAMPS = 5,          /* of the lamps, 0 to 7; vd_step_kept has what was thrown away */
+    VD_KEYBOARD_SET_SCANCODE_SET = 6, /* of the set, 1 to 3 */
+    VD_KEYBOARD_SCANCODE_SET = 7,   /* out: the set, 0 to 3 */
+    VD_KEYBOARD_DETECT = 8,         /* out: a vd_keyboard_type */
+    VD_KEYBOARD_REPEAT = 9,         /* of the byte, 0 to 255 */
+    VD_KEYBOARD_WAITS = 10,         /* out: 0 or 1 */
+    VD_KEYBOARD_READ_SCANCODE = 11, /* out: the byte */
+    VD_MOUSE_RESET = 12,
+    VD_MOUSE_START_PACKETS = 13,
+    VD_MOUSE_STOP_PACKETS = 14,
+    VD_MOUSE_IDENTITY = 15,         /* out: a vd_identity */
+    VD_MOUSE_SET_IDENTITY = 16,     /* of the identity that is known; out: the one that is known afterwards, after a refusal too */
+    VD_MOUSE_COMMAND = 17,          /* of the command byte; vd_step_kept has what was thrown away */
+    VD_MOUSE_SAMPLING_RATE = 18,    /* of the rate */
+    VD_MOUSE_RESOLUTION = 19,       /* of the resolution, 0 to 3 */
+    VD_MOUSE_WAITS = 20             /* out: 0 or 1 */
+};
+
+/* What is to be done next: VD_DONE, as vd_refusal has it, says that the operation has ended. */
+enum vd_request_kind { VD_READ = 1, VD_WRITE = 2 };
 
 /* Lamps, added up. */
 enum vd_lamp { VD_SCROLL_LAMP = 1, VD_NUM_LAMP = 2, VD_CAPS_LAMP = 4 };
@@ -305,6 +339,16 @@ typedef struct vd_step {
     vd_packet packet;
 } vd_step;
 
+/* What is to be done next at the ports: a read of `port`, a write of `byte` to it, or nothing
+   more (VD_DONE). `refusal` is that of the operation that has ended, never 2 or 3; what a
+   request has no use for is 0. */
+typedef struct vd_request {
+    uint32_t kind;
+    uint32_t port;
+    uint32_t byte;
+    uint32_t refusal;
+} vd_request;
+
 /* What a conversion answers: stream bytes used, output bytes written. Both count after a refusal too. */
 typedef struct vd_converted {
     uint32_t refusal;
@@ -384,6 +428,43 @@ typedef struct vd_mean {
     int64_t quotient;
     uint64_t remainder;
 } vd_mean;
+
+/* ---- operations a byte at a time, in 256 numbers lent by the caller
+
+   For live ports: the library says what is to be done, the caller does it and says what came. No
+   call waits. An operation makes the reads and writes that its function makes, with a script of
+   what was read, and comes to the same.
+
+       uint64_t words[VD_STEP_WORDS];
+       vd_request it = vd_begin(words, VD_STEP_WORDS, VD_KEYBOARD_LAMPS, VD_CAPS_LAMP);
+       while (it.kind != VD_DONE) {
+           uint32_t byte = 0;
+           if (it.kind == VD_WRITE) outb(it.port, it.byte); else byte = inb(it.port);
+           it = vd_next(words, VD_STEP_WORDS, byte);
+       }
+
+   After that it.refusal tells how it ended, words[VD_OUTCOME_AT] what it gives. The other
+   numbers are the library's own: a program may copy, store and send them, and go on with the
+   copy. A handler call and a packet have no such form: a program makes them again on the bytes
+   that it has read so far, as examples/c/interrupt.c does. */
+
+/* Begins an operation, and gives what is to be done first. Any numbers may be lent: they are the
+   operation's then. VD_DONE with 255 where operation or argument stands for nothing, then with
+   21 where they are not 256: nothing has changed. */
+vd_request vd_begin(uint64_t *words, size_t words_length, uint32_t operation, uint64_t argument);
+
+/* Goes on: `byte` is what the read brought, 0 to 255 (255 otherwise); after a write it is not
+   looked at. Gives what is to be done next. VD_DONE with 21 where the numbers are of no
+   operation that goes on: none was begun, or it has ended. Nothing has changed then. */
+vd_request vd_next(uint64_t *words, size_t words_length, uint32_t byte);
+
+/* What is to be done next, once more; at the end how it ended.
+   VD_DONE with 21 where the numbers are of no operation. */
+vd_request vd_wanted(const uint64_t *words, size_t words_length);
+
+/* The bytes that were read and thrown away so far, as vd_kept has them; `port`, `used` and
+   `pairs` are 0. Refused 21 where the numbers are of no operation. */
+vd_kept vd_step_kept(const uint64_t *words, size_t words_length);
 
 /* ---- the controller */
 

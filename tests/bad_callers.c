@@ -213,7 +213,7 @@ static void go_on(int i, size_t whole)
 
 /* ---- what is counted */
 
-enum { FUNCTIONS = 44 };
+enum { FUNCTIONS = 48 };
 static struct count { const char *name; unsigned long calls; unsigned char seen[256]; } counts[FUNCTIONS];
 
 static void called(const char *of)
@@ -468,6 +468,138 @@ static void port_operation(int which, size_t script_bytes, size_t log_bytes)
         marks_stand(3);
         marks_stand(4);
         go_on(2, VD_DISPATCHER_WORDS);
+    }
+}
+
+/* ---- operations a byte at a time: slot 2 is the operation's numbers */
+
+enum { OPERATIONS = 20 };
+
+/* The operation that goes on from call to call: its numbers, and what it asked for last. */
+static struct { uint64_t words[VD_STEP_WORDS]; vd_request wanted; int was_begun; } step;
+
+/* Whether an operation has this argument. */
+static int is_argument(uint32_t operation, uint64_t n)
+{
+    switch (operation) {
+    case VD_CONTROLLER_INIT: return n <= 7;
+    case VD_KEYBOARD_COMMAND: return n <= 255 && is_keyboard_command((uint32_t)n);
+    case VD_KEYBOARD_LAMPS: return n <= 7;
+    case VD_KEYBOARD_SET_SCANCODE_SET: return 1 <= n && n <= 3;
+    case VD_KEYBOARD_REPEAT: return n <= 255;
+    case VD_MOUSE_SET_IDENTITY: return is_identity(n);
+    case VD_MOUSE_COMMAND: return n <= 255 && is_mouse_command((uint32_t)n);
+    case VD_MOUSE_SAMPLING_RATE: return n <= 255 && is_rate((uint32_t)n);
+    case VD_MOUSE_RESOLUTION: return n <= 3;
+    default: return 1 <= operation && operation <= OPERATIONS && n == 0;
+    }
+}
+
+static void request_asked(vd_request r)
+{
+    answered(r.refusal);
+    ask(r.kind <= VD_WRITE, "a request is a read, a write or the end");
+    ask(r.kind == VD_DONE ? r.port == 0 && r.byte == 0 : r.port == VD_DATA_PORT || r.port == VD_STATUS_PORT, "a request that is no end names a port");
+    ask(r.byte <= 255 && (r.kind == VD_WRITE || r.byte == 0), "a write has a byte");
+    ask(r.kind == VD_DONE || r.refusal == 0, "what goes on is not refused");
+    ask(r.refusal != VD_SCRIPT_ENDS && r.refusal != VD_LOG_FULL, "live ports lack nothing");
+    ask((r.refusal != VD_MALFORMED_RECORD && r.refusal != VD_MEANS_NOTHING) || unchanged_from(2, 0), "21 and 255 leave the numbers");
+    marks_stand(2);
+}
+
+static int same_request(vd_request a, vd_request b)
+{
+    return memcmp(&a, &b, sizeof a) == 0;
+}
+
+/* The numbers that go on, or these with one of them changed, or any; of the right number, or of another. */
+static uint64_t *put_step(int *is_same)
+{
+    size_t length = swept != SIZE_MAX ? swept : below(8) ? VD_STEP_WORDS : below(VD_STEP_WORDS + 20), k, mode = below(8);
+    uint64_t *words = (uint64_t *)lend(2, 8 * length);
+    for (k = 0; k < length; k++)
+        words[k] = mode == 0 ? number() : k < VD_STEP_WORDS ? step.words[k] : chance();
+    if (mode == 1 && length) {
+        k = below(length < 24 || below(2) ? length : 24);
+        words[k] = below(2) ? number() : words[k] ^ (uint64_t)1 << below(64);
+    }
+    remember(2);
+    *is_same = mode > 1 && length == VD_STEP_WORDS;
+    return words;
+}
+
+static void step_goes_on(const uint64_t *words, vd_request wanted)
+{
+    memcpy(step.words, words, sizeof step.words);
+    step.wanted = wanted;
+    step.was_begun = 1;
+}
+
+static void step_begin(void)
+{
+    static const uint64_t likely[] = {0, 0, 1, 2, 3, 4, 7, 10, 100, 200, 0xED, 0xF2, 0xF4, 0xFF};
+    uint32_t operation = below(8) ? 1 + (uint32_t)below(OPERATIONS) : (uint32_t)number();
+    uint64_t argument = below(8) ? likely[below(sizeof likely / sizeof *likely)] : number();
+    size_t length, k;
+    uint64_t *words;
+    int tries;
+    vd_request r;
+    for (tries = 0; tries < 8 && !is_argument(operation, argument); tries++)
+        argument = likely[below(sizeof likely / sizeof *likely)];
+    length = swept != SIZE_MAX ? swept : below(8) ? VD_STEP_WORDS : below(VD_STEP_WORDS + 20);
+    words = (uint64_t *)lend(2, 8 * length);
+    for (k = 0; k < length; k++)
+        words[k] = number();
+    remember(2);
+    called("vd_begin");
+    r = vd_begin(words, length, operation, argument);
+    request_asked(r);
+    ask((r.refusal == VD_MEANS_NOTHING) == !is_argument(operation, argument), "255 is answered where operation or argument stands for nothing, and only there");
+    ask(r.refusal == VD_MEANS_NOTHING || (r.refusal == VD_MALFORMED_RECORD) == (length != VD_STEP_WORDS), "21 is answered to another length, and only there");
+    if (r.refusal != VD_MEANS_NOTHING && r.refusal != VD_MALFORMED_RECORD)
+        step_goes_on(words, r);
+}
+
+static void stepped(void)
+{
+    static const uint8_t likely[] = {0x00, 0x01, 0x21, 0xFA, 0xFA, 0xAA, 0x55, 0x00, 0x03, 0xAB, 0x83, 0xFE, 0x1E, 0x3A};
+    int is_same, which = (int)below(8);
+    uint64_t *words;
+    vd_request r;
+    if (which == 0 || !step.was_begun) {
+        step_begin();
+        return;
+    }
+    words = put_step(&is_same);
+    if (which == 1) {
+        called("vd_wanted");
+        r = vd_wanted(words, slots[2].bytes / 8);
+        /* Numbers that no beginning made may say that an operation has ended with any refusal. */
+        if (!is_same && r.kind == VD_DONE && r.refusal < 256)
+            r.refusal = VD_MALFORMED_RECORD;
+        request_asked(r);
+        ask(unchanged_from(2, 0), "a look leaves the numbers");
+        ask(!is_same || same_request(r, step.wanted), "what is wanted is wanted again");
+    } else if (which == 2) {
+        vd_kept kept;
+        called("vd_step_kept");
+        kept = vd_step_kept(words, slots[2].bytes / 8);
+        answered(kept.refusal);
+        ask(kept.refusal == 0 || (kept.refusal == VD_MALFORMED_RECORD && !is_same && is_zero(&kept.count, sizeof kept - offsetof(vd_kept, count))), "21 alone is answered, and not to an operation");
+        ask(kept.port == 0 && kept.used == 0 && kept.pairs == 0, "a look reads and writes nothing");
+        ask(kept.count <= VD_KEPT_BYTES, "at most 16 are kept");
+        ask(!is_same || ((kept.others == 0 || kept.count == VD_KEPT_BYTES) && is_zero(kept.bytes + kept.count, VD_KEPT_BYTES - kept.count)), "others are those behind 16");
+        ask(unchanged_from(2, 0), "a look leaves the numbers");
+        marks_stand(2);
+    } else {
+        uint32_t byte = below(16) == 0 ? (uint32_t)number() : below(2) ? likely[below(sizeof likely)] : (uint32_t)below(256);
+        called("vd_next");
+        r = vd_next(words, slots[2].bytes / 8, byte);
+        request_asked(r);
+        ask((r.refusal == VD_MEANS_NOTHING) == (byte > 255), "255 is answered to what is no byte, and only there");
+        ask(byte > 255 || !is_same || (r.refusal == VD_MALFORMED_RECORD) == (step.wanted.kind == VD_DONE), "21 is answered behind the end, and not before it");
+        if (is_same && byte <= 255 && step.wanted.kind != VD_DONE)
+            step_goes_on(words, r);
     }
 }
 
@@ -726,6 +858,11 @@ static void sweep(void)
             for (which = 0; which < 3; which++)
                 other(which);
         }
+    for (swept = 0; swept < VD_STEP_WORDS + 10; swept++)
+        for (k = 0; k < 3; k++) {
+            step_begin();
+            stepped();
+        }
     swept = SIZE_MAX;
 }
 
@@ -742,7 +879,9 @@ int main(int argc, char **argv)
     make_areas();
     sweep();
     while (call_number < calls) {
-        if (below(2))
+        if (below(3) == 0)
+            stepped();
+        else if (below(2))
             port_operation((int)below(PORT_OPERATIONS), below(16) ? below(60) : below(4000), below(4) ? VD_LOG_BYTES : below(30));
         else
             other((int)below(OTHERS));

@@ -1,62 +1,34 @@
-/* Runs operations over live ports, as rust/vurdellow/src/drive.rs does, whose words on it hold here too.
-
-   An operation touches no port: it is lent the bytes that reads gave, and writes into a log. Run on the bytes read so far it writes nothing
-   that the whole run would not have written in that place, and where they are not enough it names the port that the whole run reads next
-   (`so_far`, docs/CUT-SCRIPTS.md). So the writes that are new can be made, that port read, and the operation run again. After 2 a record is
-   as it was passed, and can be lent again.
+/* Runs operations over live ports, as rust/vurdellow/src/drive.rs does: the library says what is to
+   be done next, a read or a write, and the program does it and says what came.
 
    The ports here are those of a keyboard that is made up; main prints what is read and written. */
 #include <stdio.h>
 #include "vurdellow.h"
 
-/* In a kernel: inb and outb. A read of the status may wait, up to a time limit, until the keyboard has done what is waited for; at a
-   time-out it gives the status as it is, and the operation, which polls some thousand times, gives up in the end. */
+/* In a kernel: inb and outb. Operations poll a number of times and know no clock: a read of the
+   status that follows another may first wait. */
 static uint8_t read_port(uint32_t port);
-static void write_port(uint8_t port, uint8_t value);
+static void write_port(uint32_t port, uint32_t value);
 
-/* An operation with its arguments: a function that runs it, and gives what is asked of every answer. */
-typedef struct run {
-    uint32_t refusal;
-    uint32_t port;
-    size_t pairs;
-} run;
-typedef run operation(void *arguments, const uint8_t *script, size_t script_length, uint8_t *log, size_t log_length);
-
-/* Runs an operation to its end. The bytes that are read are put into the script, whose room is lent; where it is used up, the operation ends
-   with 2. VD_LOG_BYTES are room enough for every log. */
-static run drive(operation *operation, void *arguments, uint8_t *script, size_t room)
+/* Runs an operation to its end: its refusal, 0 where it has none. What it gives is in the
+   numbers (VD_OUTCOME_AT). */
+static uint32_t drive(uint64_t words[VD_STEP_WORDS], uint32_t operation, uint64_t argument)
 {
-    uint8_t log[VD_LOG_BYTES];
-    size_t read = 0, written = 0;
+    vd_request it = vd_begin(words, VD_STEP_WORDS, operation, argument);
 
-    for (;;) {
-        run end = operation(arguments, script, read, log, sizeof log);
-        for (; written < end.pairs; written++)
-            write_port(log[2 * written], log[2 * written + 1]);
-        if (end.refusal != VD_SCRIPT_ENDS || read == room)
-            return end;
-        script[read++] = read_port(end.port);
+    while (it.kind != VD_DONE) {
+        uint32_t byte = 0;
+        if (it.kind == VD_WRITE)
+            write_port(it.port, it.byte);
+        else
+            byte = read_port(it.port);
+        it = vd_next(words, VD_STEP_WORDS, byte);
     }
+    return it.refusal;
 }
 
-/* The lamps of the keyboard, as an operation: `answer` is what the last run gave. */
-typedef struct lamps {
-    uint32_t lit;
-    vd_kept answer;
-} lamps;
-
-static run run_lamps(void *arguments, const uint8_t *script, size_t script_length, uint8_t *log, size_t log_length)
-{
-    lamps *call = arguments;
-    run end;
-    call->answer = vd_keyboard_lamps(call->lit, script, script_length, log, log_length);
-    end.refusal = call->answer.refusal;
-    end.port = call->answer.port;
-    end.pairs = call->answer.pairs;
-    return end;
-}
-
-/* The keyboard that is made up: it acknowledges each byte, but A is pressed before it has acknowledged the first. */
+/* The keyboard that is made up: it acknowledges each byte, but A is pressed before it has
+   acknowledged the first. */
 static uint8_t to_send[4];
 static size_t sends;
 
@@ -76,9 +48,9 @@ static uint8_t read_port(uint32_t port)
     return byte;
 }
 
-static void write_port(uint8_t port, uint8_t value)
+static void write_port(uint32_t port, uint32_t value)
 {
-    printf("write %02X to %02X\n", value, port);
+    printf("write %02X to %02X\n", (unsigned)value, (unsigned)port);
     if (value == 0xED)
         to_send[sends++] = 0x1E;
     to_send[sends++] = 0xFA;
@@ -86,14 +58,13 @@ static void write_port(uint8_t port, uint8_t value)
 
 int main(void)
 {
-    lamps call = { VD_CAPS_LAMP, { 0 } };
-    uint8_t script[64];
-    run end = drive(run_lamps, &call, script, sizeof script);
-    uint32_t i;
+    uint64_t words[VD_STEP_WORDS];
+    uint32_t refusal = drive(words, VD_KEYBOARD_LAMPS, VD_CAPS_LAMP), i;
+    vd_kept kept = vd_step_kept(words, VD_STEP_WORDS);
 
-    printf("refusal %u, thrown away:", (unsigned)end.refusal);
-    for (i = 0; i < call.answer.count; i++)
-        printf(" %02X", call.answer.bytes[i]);
+    printf("refusal %u, thrown away:", (unsigned)refusal);
+    for (i = 0; i < kept.count; i++)
+        printf(" %02X", kept.bytes[i]);
     puts("");
     return 0;
 }

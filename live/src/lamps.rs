@@ -3,8 +3,8 @@
 use crate::qemu::Qemu;
 use std::io;
 use std::time::Duration;
-use vurdellow::drive::{drive, Patient, Ports};
-use vurdellow::{Action, Controller, Event, Handler, Keyboards, Keycode, Port, Profile, Side};
+use vurdellow::drive::{drive, Patient, Ports, Recorded};
+use vurdellow::{Action, Controller, Event, Handler, Keyboards, Keycode, Port, Profile, Session, Side};
 
 /// How a key comes while the exchange runs.
 #[derive(Clone, Copy)]
@@ -75,27 +75,26 @@ impl Caught {
 /// Presses Caps Lock and has A come before each read and each write of the handler call, and behind the last.
 pub fn show(way: Way) -> io::Result<Vec<Caught>> {
     let mut qemu = Qemu::start()?;
-    let mut controller = Controller::default();
-    let begun = drive(&mut Patient::new(&mut qemu, Duration::from_millis(50)), |s, l| controller.initialize(s, l));
-    assert!(begun.outcome.is_ok() && controller.keyboard);
+    let mut patient = Patient::new(&mut qemu, Duration::from_millis(50));
+    let begun = drive(&mut patient, Session::controller_init(Controller::default()));
+    assert!(begun.is_ok_and(|done| done.value.keyboard));
     let mut all = Vec::new();
     loop {
         let mut handler = Handler::new(Keyboards::One, Profile::Any);
-        let fresh = drive(&mut qemu, |script, log| handler.initialize(Keyboards::One, Profile::Any, script, log));
-        assert!(fresh.outcome.is_ok());
+        assert!(drive(&mut qemu, Session::keyboard_init()).is_ok());
         qemu.inject("k.caps_lock.d");
-        let mut ports = Meddled { qemu: &mut qemu, left: all.len(), way };
-        let driven = drive(&mut ports, |script, log| handler.handle(Side::First, script, log));
-        assert!(driven.outcome.is_ok());
+        let mut ports = Recorded::new(Meddled { qemu: &mut qemu, left: all.len(), way });
+        assert!(drive(&mut ports, handler.handling(Side::First)).is_ok());
+        let Recorded { ports, script, .. } = ports;
         let came = ports.left > all.len();
         if !came {
             press(&mut qemu, way);
         }
         let waiting = handler.waiting_bytes(Side::First);
         while handler.waiting_bytes(Side::First) > 0 || qemu.read(Port::Status) & 1 != 0 {
-            assert!(drive(&mut qemu, |script, log| handler.handle(Side::First, script, log)).outcome.is_ok());
+            assert!(drive(&mut qemu, handler.handling(Side::First)).is_ok());
         }
-        all.push(Caught { script: driven.script, waiting, events: handler.events().collect() });
+        all.push(Caught { script, waiting, events: handler.events().collect() });
         qemu.inject("k.caps_lock.u+k.a.u");
         while qemu.read(Port::Status) & 1 != 0 {
             qemu.read(Port::Data);

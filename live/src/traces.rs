@@ -4,11 +4,11 @@
 use crate::qemu::Qemu;
 use std::collections::HashMap;
 use std::time::Duration;
-use vurdellow::drive::{drive, Driven, Patient, Ports};
-use vurdellow::keyboard::{self, KeyboardType, Lamps, ScancodeSet};
+use vurdellow::drive::{drive, Patient, Ports, Recorded};
+use vurdellow::keyboard::{KeyboardType, Lamps, ScancodeSet};
 use vurdellow::{
     Action, Controller, Event, Exchange, Handler, Identity, Keyboards, Mouse, Outcome, Port, Profile, Resolution,
-    SamplingRate, Side,
+    SamplingRate, Session, Side, Steps,
 };
 
 /// Calls whose scripts are longer poll until they give up; a short run ends before the first of them.
@@ -153,6 +153,19 @@ struct Live {
     ports: Patient<Qemu>,
 }
 
+/// A call that was made, with what it read and wrote.
+struct Driven<R> {
+    outcome: R,
+    script: Vec<u8>,
+    log: Vec<u8>,
+}
+
+fn driven<S: Steps>(ports: &mut Patient<Qemu>, steps: S) -> Driven<S::Outcome> {
+    let mut ports = Recorded::new(ports);
+    let outcome = drive(&mut ports, steps);
+    Driven { outcome, script: ports.script, log: ports.log }
+}
+
 /// A call that answers nothing but its end.
 fn told<T>(driven: &Driven<Exchange<T>>, value: impl Fn(&T) -> String, record: &str) -> String {
     let said = driven.outcome.as_ref().ok().map(|done| value(&done.value)).unwrap_or_default();
@@ -231,22 +244,23 @@ impl Live {
         let (script, answer) = match call.name {
             "init" => {
                 let has = |name| call.state(name) == Some("1");
-                let mut controller = Controller { initialized: has("init"), keyboard: has("kbd"), mouse: has("mouse") };
-                let driven = drive(ports, |script, log| controller.initialize(script, log));
-                let Controller { initialized, keyboard, mouse } = controller;
+                let passed = Controller { initialized: has("init"), keyboard: has("kbd"), mouse: has("mouse") };
+                let driven = driven(ports, Session::controller_init(passed));
+                let left = driven.outcome.map_or(passed, |done| done.value);
+                let Controller { initialized, keyboard, mouse } = left;
                 let [initialized, keyboard, mouse] = [initialized, keyboard, mouse].map(u8::from);
                 let record = format!("init:{initialized},kbd:{keyboard},mouse:{mouse}");
-                (driven.script.clone(), told(&driven, nothing, &record))
+                (driven.script.clone(), told(&driven, |_| String::new(), &record))
             }
             "keyboard_init" => {
                 let mut handler = Handler::new(Keyboards::One, Profile::Any);
-                let driven = drive(ports, |script, log| handler.initialize(Keyboards::One, Profile::Any, script, log));
+                let driven = driven(ports, Session::keyboard_init());
                 let record = if driven.outcome.is_ok() { record(&mut handler) } else { "none".to_string() };
                 (driven.script.clone(), told(&driven, nothing, &record))
             }
-            "keyboard_reset" => plain(ports, &named, keyboard::reset),
+            "keyboard_reset" => plain(ports, &named, Session::keyboard_reset()),
             "keyboard_detect" => {
-                let driven = drive(ports, keyboard::detect);
+                let driven = driven(ports, Session::keyboard_detect());
                 let name = |found: &KeyboardType| {
                     let name = match found {
                         KeyboardType::Mf2Keyboard => "plain",
@@ -261,51 +275,49 @@ impl Live {
                 let lamps = [Lamps::SCROLL, Lamps::NUM, Lamps::CAPS].into_iter();
                 let lamps =
                     lamps.filter(|lamp| call.number() & lamp.bits() != 0).fold(Lamps::NONE, |all, one| all | one);
-                let driven = drive(ports, |script, log| keyboard::lamps(lamps, script, log));
+                let driven = driven(ports, Session::keyboard_lamps(lamps));
                 (driven.script.clone(), line(&driven, "", "-"))
             }
             "set_keyboard_scancode_set" => {
                 let sets = [ScancodeSet::Set1, ScancodeSet::Set2, ScancodeSet::Set3];
                 let set = sets.into_iter().find(|set| *set as u8 == call.number())?;
-                plain(ports, &named, |script, log| keyboard::set_scancode_set(set, script, log))
+                plain(ports, &named, Session::keyboard_set_scancode_set(set))
             }
             "get_keyboard_scancode_set" => {
-                let driven = drive(ports, keyboard::scancode_set);
+                let driven = driven(ports, Session::keyboard_scancode_set());
                 (driven.script.clone(), told(&driven, |set| format!("{set:02X}"), "-"))
             }
-            "mouse_reset" => plain(ports, &named, Mouse::reset),
-            "mouse_enable" => plain(ports, &named, Mouse::start_packets),
-            "mouse_disable" => plain(ports, &named, Mouse::stop_packets),
+            "mouse_reset" => plain(ports, &named, Session::mouse_reset()),
+            "mouse_enable" => plain(ports, &named, Session::mouse_start_packets()),
+            "mouse_disable" => plain(ports, &named, Session::mouse_stop_packets()),
             "mouse_id" => {
-                let driven = drive(ports, Mouse::read_identity);
+                let driven = driven(ports, Session::mouse_identity());
                 (driven.script.clone(), told(&driven, |id| format!("{:02X}", id.number()), &named))
             }
             "set_mouse_id" => {
-                let mut mouse = Mouse { identity: id? };
-                let driven = drive(ports, |script, log| mouse.set_identity(script, log));
-                let record = format!("id:{}", mouse.identity.number());
-                (driven.script.clone(), told(&driven, |_| String::new(), &record))
+                let driven = driven(ports, Session::mouse_set_identity(id?));
+                let left = driven.outcome.unwrap_or_else(|refused| refused.done).value;
+                (driven.script.clone(), line(&driven, "", &format!("id:{}", left.number())))
             }
             "set_mouse_sampling_rate" => {
                 use SamplingRate::*;
                 let rates = [Hz10, Hz20, Hz40, Hz60, Hz80, Hz100, Hz200];
                 let rate = rates.into_iter().find(|rate| *rate as u8 == call.number())?;
-                plain(ports, &named, |script, log| Mouse::set_sampling_rate(rate, script, log))
+                plain(ports, &named, Session::mouse_sampling_rate(rate))
             }
             "mouse_resolution" => {
                 use Resolution::*;
                 let all = [Counts1, Counts2, Counts4, Counts8];
                 let resolution = all.into_iter().find(|resolution| *resolution as u8 == call.number())?;
-                plain(ports, &named, |script, log| Mouse::set_resolution(resolution, script, log))
+                plain(ports, &named, Session::mouse_resolution(resolution))
             }
             "read_mouse_packet" => {
-                let mouse = Mouse { identity: id? };
-                let driven = drive(ports, |script, _| mouse.read_packet(script));
+                let driven = driven(ports, Mouse { identity: id? }.reading());
                 let packet = driven.outcome.ok()?.value;
                 let [left, right, middle, b4, b5] =
                     [packet.left(), packet.right(), packet.middle(), packet.fourth(), packet.fifth()].map(u8::from);
                 // Read with a sign (request 2.1); the recorded call has none at identity 4.
-                let unsigned = mouse.identity == Identity::FiveButtons;
+                let unsigned = id == Some(Identity::FiveButtons);
                 let wheel = if unsigned { i32::from(packet.wheel) & 15 } else { packet.wheel.into() };
                 let (one, x, y) = (driven.script[0] >> 3 & 1, packet.x, packet.y);
                 let value = format!(
@@ -341,7 +353,7 @@ impl Live {
         for at_once in moves.split(',') {
             self.ports().inject(at_once);
             while handler.waiting_bytes(Side::First) > 0 || self.ports().read(Port::Status) & 0x21 == 0x01 {
-                let driven = drive(&mut self.ports, |script, log| handler.handle(Side::First, script, log));
+                let driven = driven(&mut self.ports, handler.handling(Side::First));
                 let (end, done) = match driven.outcome {
                     Ok(done) => ("ok".to_string(), done),
                     Err(refused) => (refused.number().to_string(), refused.done),
@@ -363,11 +375,7 @@ impl Live {
     }
 }
 
-fn plain(
-    ports: &mut Patient<Qemu>,
-    record: &str,
-    operation: impl FnMut(&[u8], &mut [u8]) -> Exchange<()>,
-) -> (Vec<u8>, String) {
-    let driven = drive(ports, operation);
+fn plain(ports: &mut Patient<Qemu>, record: &str, session: Session<Exchange<()>>) -> (Vec<u8>, String) {
+    let driven = driven(ports, session);
     (driven.script.clone(), told(&driven, |()| String::new(), record))
 }

@@ -48,7 +48,7 @@ class Controller {
   }
 }
 
-// One handler call over ports: run on the bytes read so far, and again with one more, as `drive` of
+// One handler call over ports: run on the bytes read so far, and again with one more, as `Handling` of
 // rust/vurdellow does. That this is sound is proved (docs/CUT-SCRIPTS.md). `heard` is told each
 // byte that is read and each pair that is written.
 function driven(library, side, script, ports, heard = () => {}) {

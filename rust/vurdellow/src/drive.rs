@@ -1,26 +1,18 @@
 //! A live controller: operations over real ports.
 //!
-//! An operation touches no port. It is lent a script, the bytes that reads gave, and a log, into which it writes what is to be written; with
-//! a script that is too short it is refused 2 and names the port that it would read next. [`drive`] makes a live exchange of that: it runs
-//! the operation on the bytes read so far, makes the writes that are new, reads the port that is named, and runs the operation again.
-//!
-//! That this is sound is proved, of every operation, with any script and log (docs/CUT-SCRIPTS.md of the repository):
-//!
-//! - `so_far` (crates/cut_scripts/proofs/SoFar.antt): run on the bytes read so far, it writes no pair that the run on all bytes would not
-//!   have written in that place. Where the bytes are not enough, the lack names the port that the whole run reads next; where they are, it
-//!   has ended as the whole run ends. The law behind it is `play_cut` (crates/exchange/proofs/Cut.antt).
-//! - `cut_short` (crates/cut_scripts/proofs/CutShort.antt) carries it to all that a call hands back: after 2 a record is as passed in.
-//! - `with_room` (crates/cut_scripts/proofs/Room.antt): in a log with more room the same pairs come first.
-//!
-//! So the device sees the reads and writes of one uncut run, each once and in its place.
+//! A [`Session`](crate::Session), or a [`Handling`](crate::Handling), says what is to be done at
+//! the ports. [`drive`] does it, one read or write after the other, until the operation has ended.
+//! Nothing is kept of what was read, so no room is needed: [`Recorded`] keeps it. That a session
+//! makes the reads and writes of its operation is proved; that these loops do what it says is
+//! tested.
 
-use crate::refusal::{Outcome, Port};
-#[cfg(feature = "std")]
-use crate::{Refusal, LOG_BYTES};
+use crate::step::{Request, Steps};
+use crate::Port;
 #[cfg(feature = "std")]
 use std::time::{Duration, Instant};
 
-/// The ports of a controller. A read of [`Port::Status`] gives the status; a write to it is a command to the controller.
+/// The ports of a controller. A read of [`Port::Status`] gives the status; a write to it is a
+/// command to the controller.
 pub trait Ports {
     /// Reads a byte of a port: the data port (60) or the status port (64).
     fn read(&mut self, port: Port) -> u8;
@@ -38,29 +30,11 @@ impl<P: Ports + ?Sized> Ports for &mut P {
     }
 }
 
-/// An operation that was driven to its end.
-#[cfg(feature = "std")]
-#[derive(Clone, Debug, PartialEq, Eq)]
-pub struct Driven<R> {
-    /// What its last run came to.
-    pub outcome: R,
-    /// The bytes that were read: on this script the operation comes to the same again.
-    pub script: Vec<u8>,
-    /// The pairs that were written, each the port and the value.
-    pub log: Vec<u8>,
-}
-
 /// Runs an operation over ports, to its end.
-///
-/// `operation` is called with the bytes read so far and with a log: the same operation each time, with the same arguments. A record that it
-/// changes may be lent again as it is, since after a lack a record is as it was passed in.
-///
-/// A script of n bytes takes n + 1 runs, which together read about n²/2 bytes. That is nothing where n is the length of an exchange, a few
-/// tens; where tens of thousands of polls find nothing, it is seconds. [`Patient`] ports wait instead, and so keep scripts short.
 ///
 /// ```
 /// use vurdellow::drive::{drive, Ports};
-/// use vurdellow::{keyboard, keyboard::Lamps, Port};
+/// use vurdellow::{keyboard::Lamps, Port, Session};
 ///
 /// /// A keyboard that acknowledges what it is sent.
 /// struct Willing {
@@ -84,150 +58,195 @@ pub struct Driven<R> {
 /// }
 ///
 /// let mut ports = Willing { acknowledges: false, sent: Vec::new() };
-/// let driven = drive(&mut ports, |script, log| keyboard::lamps(Lamps::CAPS, script, log));
-/// assert!(driven.outcome.is_ok());
+/// let done = drive(&mut ports, Session::keyboard_lamps(Lamps::CAPS))?;
+/// assert_eq!((done.used, done.pairs), (6, 2));
 /// assert_eq!(ports.sent, [0xED, 0x04]);
-/// assert_eq!(driven.script, [0x00, 0x01, 0xFA, 0x00, 0x01, 0xFA]);
+/// # Ok::<(), vurdellow::Refused<vurdellow::keyboard::Commanded>>(())
+/// ```
+pub fn drive<S: Steps>(ports: &mut (impl Ports + ?Sized), mut steps: S) -> S::Outcome {
+    loop {
+        match steps.wanted() {
+            Request::Read(port) => steps.next(ports.read(port)),
+            Request::Write(port, value) => {
+                ports.write(port, value);
+                steps.next(0)
+            }
+            Request::Done(outcome) => return outcome,
+        }
+    }
+}
+
+/// The same, with so many reads at most: `None` if the operation needs more. It goes on where it
+/// is, when it is driven again.
+///
+/// ```
+/// # use vurdellow::drive::{drive_within, Ports};
+/// # use vurdellow::{keyboard::KeyboardCommand, Port, Session};
+/// # struct Silent;
+/// # impl Ports for Silent {
+/// #     fn read(&mut self, _port: Port) -> u8 {
+/// #         0
+/// #     }
+/// #     fn write(&mut self, _port: Port, _value: u8) {}
+/// # }
+/// // A silent keyboard is given up after 65,536 reads.
+/// let mut session = Session::keyboard_command(KeyboardCommand::EnableScanning);
+/// assert!(drive_within(&mut Silent, 65_535, &mut session).is_none());
+/// let ended = drive_within(&mut Silent, 1, &mut session).expect("that was the last");
+/// assert_eq!(ended.unwrap_err().number(), 5);
+/// ```
+pub fn drive_within<S: Steps>(
+    ports: &mut (impl Ports + ?Sized),
+    mut reads: usize,
+    steps: &mut S,
+) -> Option<S::Outcome> {
+    loop {
+        match steps.wanted() {
+            Request::Read(_) if reads == 0 => return None,
+            Request::Read(port) => {
+                reads -= 1;
+                steps.next(ports.read(port))
+            }
+            Request::Write(port, value) => {
+                ports.write(port, value);
+                steps.next(0)
+            }
+            Request::Done(outcome) => return Some(outcome),
+        }
+    }
+}
+
+/// Ports whose reads and writes are kept: the script and the log on which the operation comes to
+/// the same.
+///
+/// ```
+/// # use vurdellow::drive::{drive, Ports, Recorded};
+/// # use vurdellow::{keyboard, keyboard::Lamps, Port, Session};
+/// # struct Willing(bool);
+/// # impl Ports for Willing {
+/// #     fn read(&mut self, port: Port) -> u8 {
+/// #         match port {
+/// #             Port::Status => self.0.into(),
+/// #             Port::Data => std::mem::take(&mut self.0) as u8 * 0xFA,
+/// #         }
+/// #     }
+/// #     fn write(&mut self, _port: Port, _value: u8) {
+/// #         self.0 = true;
+/// #     }
+/// # }
+/// let mut ports = Recorded::new(Willing(false));
+/// let done = drive(&mut ports, Session::keyboard_lamps(Lamps::CAPS));
+/// assert_eq!(ports.script, [0x00, 0x01, 0xFA, 0x00, 0x01, 0xFA]);
+/// assert_eq!(ports.log, [0x60, 0xED, 0x60, 0x04]);
+/// let mut log = [0; 4];
+/// assert_eq!(keyboard::lamps(Lamps::CAPS, &ports.script, &mut log), done);
 /// ```
 #[cfg(feature = "std")]
-pub fn drive<R: Outcome>(ports: &mut impl Ports, mut operation: impl FnMut(&[u8], &mut [u8]) -> R) -> Driven<R> {
-    let (mut script, mut log) = (vec![0; 64], vec![0; LOG_BYTES]);
-    let mut so_far = SoFar::default();
-    loop {
-        let outcome = so_far.on(ports, &mut script, &mut log, &mut operation);
-        match outcome.refusal() {
-            Some(Refusal::ScriptEnds(_)) => script.resize(2 * script.len(), 0),
-            // `with_room`: the pairs that were written are the first ones in a longer log too.
-            Some(Refusal::LogFull) => log.resize(2 * log.len(), 0),
-            _ => {
-                script.truncate(so_far.read);
-                log.truncate(2 * so_far.written);
-                return Driven { outcome, script, log };
-            }
-        }
+#[derive(Clone, Debug, Default)]
+pub struct Recorded<P> {
+    /// The ports that are read and written.
+    pub ports: P,
+    /// The bytes that were read.
+    pub script: Vec<u8>,
+    /// The pairs that were written, each the port and the value.
+    pub log: Vec<u8>,
+}
+
+#[cfg(feature = "std")]
+impl<P: Ports> Recorded<P> {
+    /// Nothing was read or written yet.
+    pub fn new(ports: P) -> Recorded<P> {
+        Recorded { ports, script: Vec::new(), log: Vec::new() }
     }
 }
 
-/// The same in lent room, where nothing can be allocated. Gives how many bytes were read, too.
-///
-/// It also ends, with the operation's lack, where the script has no room for one byte more, or the log for one pair more
-/// ([`crate::LOG_BYTES`] suffice always). The device is then left in the middle of the exchange.
-pub fn drive_within<R: Outcome>(
-    ports: &mut impl Ports,
-    script: &mut [u8],
-    log: &mut [u8],
-    operation: impl FnMut(&[u8], &mut [u8]) -> R,
-) -> (R, usize) {
-    let mut so_far = SoFar::default();
-    let outcome = so_far.on(ports, script, log, operation);
-    (outcome, so_far.read)
-}
+#[cfg(feature = "std")]
+impl<P: Ports> Ports for Recorded<P> {
+    fn read(&mut self, port: Port) -> u8 {
+        let byte = self.ports.read(port);
+        self.script.push(byte);
+        byte
+    }
 
-/// How many bytes were read and how many pairs were written, on the ports.
-#[derive(Default)]
-struct SoFar {
-    read: usize,
-    written: usize,
-}
-
-impl SoFar {
-    fn on<R: Outcome>(
-        &mut self,
-        ports: &mut impl Ports,
-        script: &mut [u8],
-        log: &mut [u8],
-        mut operation: impl FnMut(&[u8], &mut [u8]) -> R,
-    ) -> R {
-        loop {
-            let outcome = operation(&script[..self.read], log);
-            // `so_far`: what was written is the first of these pairs, so those behind it are new; and the whole run writes each of them
-            // before it reads another byte.
-            for pair in log[2 * self.written..2 * outcome.pairs()].chunks_exact(2) {
-                ports.write(if pair[0] == Port::Data.number() { Port::Data } else { Port::Status }, pair[1]);
-            }
-            self.written = outcome.pairs();
-            match outcome.lacks() {
-                // `so_far`: this is the port that the whole run reads next.
-                Some(port) if self.read < script.len() => script[self.read] = ports.read(port),
-                _ => return outcome,
-            }
-            self.read += 1;
-        }
+    fn write(&mut self, port: Port, value: u8) {
+        self.ports.write(port, value);
+        self.log.extend([port.number(), value]);
     }
 }
 
-/// Ports that wait for the device, so that a script tells what came and not how often nothing did.
+/// Ports that wait between polls, since operations poll a number of times and know no clock.
 ///
-/// - A read of the status waits where the operation asks again: where it was given the status, and has neither read data nor written since.
-///   What it was given was not what it looks for, so it is given the next status with a change in a bit that matters: 0 (a byte can be
-///   read), 1 (a byte that was written is not yet taken) or 5 (the byte is the mouse's).
-/// - A read of data waits until bit 0 of the status says that a byte is there. Initialisation, packets and resets read without asking.
+/// - A read of the status that directly follows another waits first, a sixteenth of the time for
+///   which the device has been silent: so 255 reads, the most that are made before a byte is sent,
+///   last half a minute, and a reply is noticed a sixteenth too late at most.
+/// - A read of data waits until bit 0 of the status says that a byte is there. Initialisation,
+///   packets and resets read without asking.
 ///
-/// Waits take at most the limit together, counted anew when a byte was there to be read and when something is written. **After a time-out
-/// what is read is given as it is**, a status without the bit that is hoped for or the data port's old byte, and nothing more is waited for:
-/// the operation polls as often as it does, and is refused in the end, as it would be without the waiting.
+/// A silence is waited for within the limit. **Then what is read is given as it is**, a status
+/// without the bit that is hoped for or the data port's old byte, and nothing more is waited for:
+/// the operation polls as often as it does, and is refused in the end. A silence ends when a byte
+/// was there to be read, and when something is written.
 ///
-/// While it waits it reads the status more often than the operation does, which changes nothing in the controller.
+/// A read of data reads the status more often than the operation does, which changes nothing in the
+/// controller.
 #[cfg(feature = "std")]
 #[derive(Clone, Debug)]
 pub struct Patient<P> {
     /// The ports that are read and written.
     pub ports: P,
     limit: Duration,
-    left: Duration,
-    /// The status that the operation was given, if it has done nothing since.
-    given: Option<u8>,
+    /// When the device was first waited for in this silence.
+    since: Option<Instant>,
+    /// Whether the last that was done is a read of the status.
+    polled: bool,
 }
 
-/// Bits of the status.
+/// The bit of the status that says that a byte can be read.
 #[cfg(feature = "std")]
 const BYTE_TO_READ: u8 = 1 << 0;
-#[cfg(feature = "std")]
-const THAT_MATTER: u8 = BYTE_TO_READ | 1 << 1 | 1 << 5;
 
 #[cfg(feature = "std")]
 impl<P: Ports> Patient<P> {
-    /// A keyboard takes up to 20 milliseconds for a reply, and after a reset up to three quarters of a second for its self test.
+    /// A keyboard takes up to 20 milliseconds for a reply, and after a reset up to three quarters
+    /// of a second for its self test.
     pub fn new(ports: P, limit: Duration) -> Patient<P> {
-        Patient { ports, limit, left: limit, given: None }
+        Patient { ports, limit, since: None, polled: false }
     }
 
-    /// Reads the status until it is one that is waited for, or no time is left, and gives the last.
-    fn status_when(&mut self, awaited: impl Fn(u8) -> bool) -> u8 {
-        let begin = Instant::now();
-        loop {
-            let status = self.ports.read(Port::Status);
-            let left = self.left.saturating_sub(begin.elapsed());
-            if awaited(status) || left.is_zero() {
-                self.left = left;
-                return status;
-            }
-            std::thread::yield_now();
-        }
+    /// Waits a sixteenth of the silence so far, a microsecond at least: whether time was left.
+    fn pause(&mut self) -> bool {
+        let silence = self.since.get_or_insert_with(Instant::now).elapsed();
+        let left = self.limit.saturating_sub(silence);
+        std::thread::sleep((silence / 16).max(Duration::from_micros(1)).min(left));
+        !left.is_zero()
     }
 }
 
 #[cfg(feature = "std")]
 impl<P: Ports> Ports for Patient<P> {
     fn read(&mut self, port: Port) -> u8 {
-        let given = self.given.take();
-        if port == Port::Data {
-            if self.status_when(|status| status & BYTE_TO_READ != 0) & BYTE_TO_READ != 0 {
-                self.left = self.limit;
+        if port == Port::Status {
+            if self.polled {
+                self.pause();
             }
-            return self.ports.read(Port::Data);
+            self.polled = true;
+            return self.ports.read(Port::Status);
         }
-        let status = match given {
-            Some(given) => self.status_when(|status| (status ^ given) & THAT_MATTER != 0),
-            None => self.ports.read(Port::Status),
-        };
-        self.given = Some(status);
-        status
+        self.polled = false;
+        loop {
+            if self.ports.read(Port::Status) & BYTE_TO_READ != 0 {
+                self.since = None;
+                break;
+            }
+            if !self.pause() {
+                break;
+            }
+        }
+        self.ports.read(Port::Data)
     }
 
     fn write(&mut self, port: Port, value: u8) {
-        self.given = None;
-        self.left = self.limit;
+        (self.since, self.polled) = (None, false);
         self.ports.write(port, value)
     }
 }

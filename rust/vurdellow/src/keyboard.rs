@@ -45,11 +45,14 @@ impl Counted for Commanded {
 /// The result of a command.
 pub type Command = Result<Commanded, Refused<Commanded>>;
 
+pub(crate) fn kept(answer: &raw::vd_kept) -> Kept {
+    let raw::vd_kept { count, others, bytes, .. } = *answer;
+    Kept { bytes, count: (count as usize).min(bytes.len()), others }
+}
+
 pub(crate) fn commanded(answer: raw::vd_kept) -> Command {
-    let raw::vd_kept { refusal, port, used, pairs, count, others, bytes } = answer;
-    let kept = Kept { bytes, count: (count as usize).min(bytes.len()), others };
-    let done = Commanded { used, pairs, kept };
-    settled(Refusal::answered(refusal, port), done, done)
+    let done = Commanded { used: answer.used, pairs: answer.pairs, kept: kept(&answer) };
+    settled(Refusal::answered(answer.refusal, answer.port), done, done)
 }
 
 /// The lamps of a keyboard.
@@ -101,6 +104,16 @@ pub enum KeyboardType {
     Mf2KeyboardTranslated = 2,
     /// An AT keyboard, which answers no identity.
     AncientAtKeyboard = 3,
+}
+
+impl KeyboardType {
+    pub(crate) fn of(number: u64) -> KeyboardType {
+        match number {
+            1 => KeyboardType::Mf2Keyboard,
+            2 => KeyboardType::Mf2KeyboardTranslated,
+            _ => KeyboardType::AncientAtKeyboard,
+        }
+    }
 }
 
 /// The commands to a keyboard, each one byte.
@@ -161,11 +174,7 @@ pub fn scancode_set(script: &[u8], log: &mut [u8]) -> Exchange<u8> {
 
 /// Asks what keyboard this is.
 pub fn detect(script: &[u8], log: &mut [u8]) -> Exchange<KeyboardType> {
-    exchanged(raw::vd_keyboard_detect(script, log), |kind| match kind {
-        1 => KeyboardType::Mf2Keyboard,
-        2 => KeyboardType::Mf2KeyboardTranslated,
-        _ => KeyboardType::AncientAtKeyboard,
-    })
+    exchanged(raw::vd_keyboard_detect(script, log), KeyboardType::of)
 }
 
 /// Sets repeat rate and delay.

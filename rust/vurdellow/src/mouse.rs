@@ -55,6 +55,11 @@ pub struct Packet {
 }
 
 impl Packet {
+    /// A packet's numbers fit: movements have nine bits, a wheel eight.
+    fn of(buttons: u32, x: i32, y: i32, wheel: i32) -> Packet {
+        Packet { buttons: buttons as u8, x: x as i16, y: y as i16, wheel: wheel as i8 }
+    }
+
     /// The buttons as bits: 0 left, 1 right, 2 middle, 3 fourth, 4 fifth.
     #[must_use]
     pub const fn buttons(&self) -> u8 {
@@ -94,8 +99,7 @@ impl Packet {
 
 pub(crate) fn packet(answer: raw::vd_packet) -> Exchange<Packet> {
     let raw::vd_packet { refusal, port, used, buttons, x, y, wheel } = answer;
-    // A packet's numbers fit: movements have nine bits, a wheel eight.
-    let value = Packet { buttons: buttons as u8, x: x as i16, y: y as i16, wheel: wheel as i8 };
+    let value = Packet::of(buttons, x, y, wheel);
     settled(Refusal::answered(refusal, port), Done { value, used, pairs: 0 }, Counts { used, pairs: 0 })
 }
 

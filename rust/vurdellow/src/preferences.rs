@@ -37,7 +37,7 @@ pub enum Preferences {
 }
 
 impl Preferences {
-    fn numbers(self) -> raw::vd_preferences {
+    pub(crate) fn numbers(self) -> raw::vd_preferences {
         let (version, Fields { set, rate, resolution, lamps }, repeat) = match self {
             Preferences::Version1(fields) => (1, fields, 0),
             Preferences::Version2(fields, repeat) => (2, fields, repeat),

@@ -116,6 +116,15 @@ pub(crate) struct vd_step {
 
 #[repr(C)]
 #[derive(Clone, Copy, Debug, PartialEq, Eq)]
+pub(crate) struct vd_request {
+    pub kind: u32,
+    pub port: u32,
+    pub byte: u32,
+    pub refusal: u32,
+}
+
+#[repr(C)]
+#[derive(Clone, Copy, Debug, PartialEq, Eq)]
 pub(crate) struct vd_converted {
     pub refusal: u32,
     pub used: usize,
@@ -227,6 +236,11 @@ functions! {
     fn vd_mouse_resolution(resolution: u32, script: &[u8], log: &mut [u8]) -> vd_answer;
     fn vd_mouse_waits(script: &[u8]) -> vd_answer;
     fn vd_mouse_read_packet(identity: u32, script: &[u8]) -> vd_packet;
+
+    fn vd_begin(words: &mut [u64], operation: u32, argument: u64) -> vd_request;
+    fn vd_next(words: &mut [u64], byte: u32) -> vd_request;
+    fn vd_wanted(words: &[u64]) -> vd_request;
+    fn vd_step_kept(words: &[u64]) -> vd_kept;
 
     fn vd_handler_fresh(words: &mut [u64], keyboards: u32, profile: u32) -> u32;
     fn vd_handle(words: &mut [u64], side: u32, script: &[u8], log: &mut [u8]) -> vd_handled;

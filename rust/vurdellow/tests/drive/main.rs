@@ -1,21 +1,22 @@
-//! Every operation through `drive`, over devices made up by chance, held to a driver that talks to the ports itself (`direct`) and to the
-//! operation's own uncut run.
+//! Every operation a byte at a time through `drive`, over devices made up by chance, held to a driver that talks to the ports itself
+//! (`direct`) and to the operation's own uncut run.
 //!
 //! Such a device is a number generator with a seed: what it answers hangs on all that was read and written before, port by port. So a read
 //! of another port, or a write that is left out, made twice, too early or too late, makes all that follows another. `direct` reads and writes
-//! without script or log; what `drive` reads and writes must be the same, one by one. The operation is then run once on all the bytes: it
+//! without the library; what a session reads and writes must be the same, one by one. The operation is then run once on all the bytes: it
 //! must use them all, write what was written, and come to the same.
 
 mod direct;
 
 use direct::{Direct, Refused, Remembered, Way, IDENTITIES};
 use std::fmt::Debug;
-use std::time::Duration;
-use vurdellow::drive::{drive, drive_within, Driven, Patient, Ports};
+use std::time::{Duration, Instant};
+use vurdellow::drive::{drive, drive_within, Patient, Ports, Recorded};
 use vurdellow::keyboard::{self, Command, KeyboardCommand, Lamps, ScancodeSet};
 use vurdellow::{
-    Controller, Counted, Counts, Fields, Handler, Identity, Keyboards, Mouse, MouseCommand, Outcome, Port, Preferences,
-    Profile, Refusal, Refused as RefusedWith, Resolution, SamplingRate, Side,
+    Controller, Counts, Done, Exchange, Fields, Handler, Handling, Identity, IdentitySet, Keyboards, Mouse,
+    MouseCommand, Outcome, Port, Preferences, Profile, Refusal, Refused as RefusedWith, Request, Resolution,
+    SamplingRate, Session, Side, Steps,
 };
 
 #[derive(Clone, Copy, Debug, PartialEq)]
@@ -104,41 +105,32 @@ impl Ports for Device {
     }
 }
 
-/// The bytes of the reads, and the pairs of the writes.
-fn script_and_log(seen: &[Access]) -> (Vec<u8>, Vec<u8>) {
-    let (mut script, mut log) = (Vec::new(), Vec::new());
-    for access in seen {
-        match *access {
-            Access::Read(_, byte) => script.push(byte),
-            Access::Wrote(port, value) => log.extend([port.number(), value]),
-        }
-    }
-    (script, log)
-}
-
-/// Drives an operation over a device, and compares with what `direct` made of the same device, and with the uncut run. `operation` begins
-/// each time with the same record.
-fn driven<R: Outcome + PartialEq + Debug>(
+/// Drives a session over a device, and compares with what `direct` made of the same device, and with the uncut run, the `operation`.
+fn driven<S: Steps>(
     what: &str,
     device: &Device,
     direct: &Device,
-    mut operation: impl FnMut(&[u8], &mut [u8]) -> R,
-) -> R {
-    let mut ports = device.clone();
-    let Driven { outcome, script, log } = drive(&mut ports, &mut operation);
+    session: S,
+    operation: impl FnOnce(&[u8], &mut [u8]) -> S::Outcome,
+) -> S::Outcome
+where
+    S::Outcome: Outcome + PartialEq + Debug,
+{
+    let mut ports = Recorded::new(device.clone());
+    let outcome = drive(&mut ports, session);
+    let Recorded { ports, script, log } = ports;
     assert_eq!(ports.seen, direct.seen, "{what}: the reads and writes");
-    assert_eq!((script.clone(), log.clone()), script_and_log(&ports.seen), "{what}: what is said of them");
 
     let mut room = vec![0xCC; log.len() + 6];
     let uncut = operation(&script, &mut room);
     assert_eq!(uncut, outcome, "{what}: what the uncut run comes to");
-    assert_eq!(uncut.used(), script.len(), "{what}: the bytes of the uncut run");
+    assert_eq!((uncut.used(), 2 * uncut.pairs()), (script.len(), log.len()), "{what}: its counts");
     assert_eq!((&room[..log.len()], &room[log.len()..]), (&log[..], &[0xCC; 6][..]), "{what}: its log");
     outcome
 }
 
 /// What an operation comes to, without the counts.
-fn without_counts<T: Copy>(outcome: vurdellow::Exchange<T>) -> Result<T, Refused> {
+fn without_counts<T>(outcome: Exchange<T>) -> Result<T, Refused> {
     outcome.map(|done| done.value).map_err(|refused| refused.number())
 }
 
@@ -151,36 +143,58 @@ fn kept(what: &str, command: Command, direct: Result<(), Refused>, thrown: &[u8]
     assert_eq!((number, done.kept.bytes(), done.kept.others as usize), (direct, first, others.len()), "{what}");
 }
 
-/// The operations that are lent a script and a log and nothing else, by number: the operation, and what `direct` makes.
+/// The operations that give nothing, by number: what `direct` makes, the session, and the call.
 const PLAIN: usize = 11;
 
-fn plain(kind: usize, direct: &mut Direct, arguments: Arguments) -> (Result<(), Refused>, Plain) {
+fn plain(kind: usize, direct: &mut Direct, arguments: Arguments) -> (Result<(), Refused>, Plain, Call) {
     let Arguments { set, rate, resolution, byte, .. } = arguments;
     match kind {
-        0 => (direct.reset(Way::First), Box::new(keyboard::reset)),
-        1 => (direct.set_scancode_set(set as u8), Box::new(move |s, l| keyboard::set_scancode_set(set, s, l))),
-        2 => (direct.pair(Way::First, 0xF3, byte), Box::new(move |s, l| keyboard::repeat(byte, s, l))),
-        3 => (direct.reset(Way::Second), Box::new(Mouse::reset)),
-        4 => (direct.start_packets(), Box::new(Mouse::start_packets)),
-        5 => (direct.stop_packets(), Box::new(Mouse::stop_packets)),
-        6 => (direct.sampling_rate(rate as u8), Box::new(move |s, l| Mouse::set_sampling_rate(rate, s, l))),
-        7 => (direct.resolution(resolution as u8), Box::new(move |s, l| Mouse::set_resolution(resolution, s, l))),
-        8 | 9 => {
+        0 => (direct.reset(Way::First), Box::new(Session::keyboard_reset()), Box::new(keyboard::reset)),
+        1 => (
+            direct.set_scancode_set(set as u8),
+            Box::new(Session::keyboard_set_scancode_set(set)),
+            Box::new(move |s, l| keyboard::set_scancode_set(set, s, l)),
+        ),
+        2 => (
+            direct.pair(Way::First, 0xF3, byte),
+            Box::new(Session::keyboard_repeat(byte)),
+            Box::new(move |s, l| keyboard::repeat(byte, s, l)),
+        ),
+        3 => (direct.reset(Way::Second), Box::new(Session::mouse_reset()), Box::new(Mouse::reset)),
+        4 => (direct.start_packets(), Box::new(Session::mouse_start_packets()), Box::new(Mouse::start_packets)),
+        5 => (direct.stop_packets(), Box::new(Session::mouse_stop_packets()), Box::new(Mouse::stop_packets)),
+        6 => (
+            direct.sampling_rate(rate as u8),
+            Box::new(Session::mouse_sampling_rate(rate)),
+            Box::new(move |s, l| Mouse::set_sampling_rate(rate, s, l)),
+        ),
+        7 => (
+            direct.resolution(resolution as u8),
+            Box::new(Session::mouse_resolution(resolution)),
+            Box::new(move |s, l| Mouse::set_resolution(resolution, s, l)),
+        ),
+        _ => {
             let fields = [set as u8, rate as u8, resolution as u8, byte & 7];
             let [set, rate, resolution, lamps] = fields.map(u32::from);
-            let four = Fields { set, rate, resolution, lamps };
             let repeat = (kind == 9).then_some(byte & 0x7F);
-            let preferences = repeat.map_or(Preferences::Version1(four), |r| Preferences::Version2(four, r.into()));
-            (direct.apply(fields, repeat), Box::new(move |s, l| preferences.apply(s, l)))
-        }
-        _ => {
-            let outside = Preferences::Version1(Fields { set: 4, rate: 10, resolution: 0, lamps: 0 });
-            (Err(28), Box::new(move |s, l| outside.apply(s, l)))
+            // 28 is answered before anything is read or written.
+            let outside = [(4, 10, 0, 0), (1, 300, 0, 0), (1, 10, 256, 0), (1, 10, 0, u32::MAX)];
+            let (wrong_set, wrong_rate, wrong_resolution, wrong_lamps) = outside[usize::from(byte & 3)];
+            let (expected, fields) = match kind {
+                8 | 9 => (direct.apply(fields, repeat), Fields { set, rate, resolution, lamps }),
+                _ => (
+                    Err(28),
+                    Fields { set: wrong_set, rate: wrong_rate, resolution: wrong_resolution, lamps: wrong_lamps },
+                ),
+            };
+            let preferences = repeat.map_or(Preferences::Version1(fields), |r| Preferences::Version2(fields, r.into()));
+            (expected, Box::new(preferences.applying()), Box::new(move |s, l| preferences.apply(s, l)))
         }
     }
 }
 
-type Plain = Box<dyn FnMut(&[u8], &mut [u8]) -> vurdellow::Exchange<()>>;
+type Plain = Box<dyn Steps<Outcome = Exchange<()>>>;
+type Call = Box<dyn FnOnce(&[u8], &mut [u8]) -> Exchange<()>>;
 
 #[derive(Clone, Copy)]
 struct Arguments {
@@ -205,6 +219,13 @@ impl Arguments {
     }
 }
 
+const MOUSE_COMMANDS: [(MouseCommand, u8); 4] = [
+    (MouseCommand::SetScaling, 0xE6),
+    (MouseCommand::StatusRequest, 0xE9),
+    (MouseCommand::SetDefaults, 0xF6),
+    (MouseCommand::Reset, 0xFF),
+];
+
 /// All operations but the handler call, which needs a record that others made.
 const KINDS: usize = PLAIN + 12;
 
@@ -219,27 +240,26 @@ fn one(kind: usize, seed: u64) -> usize {
     let mut other = device.clone();
     let mut direct = Direct { ports: &mut other, thrown: Vec::new() };
     if kind < PLAIN {
-        let (expected, operation) = plain(kind, &mut direct, arguments);
-        assert_eq!(without_counts(driven(what, &device, &other, operation)), expected, "{what}");
+        let (expected, mut steps, call) = plain(kind, &mut direct, arguments);
+        assert_eq!(without_counts(driven(what, &device, &other, &mut *steps, call)), expected, "{what}");
         return other.seen.len();
     }
     match kind - PLAIN {
         0 => {
-            let passed = Controller { initialized: false, keyboard: byte & 1 == 0, mouse: byte & 2 == 0 };
-            let expected = direct.init();
-            let mut left = passed;
-            let outcome = driven(what, &device, &other, |script, log| {
-                left = passed;
-                left.initialize(script, log)
+            let passed = Controller { initialized: byte & 12 == 0, keyboard: byte & 1 == 0, mouse: byte & 2 == 0 };
+            let expected = if passed.initialized { Err(1) } else { direct.init() };
+            let outcome = driven(what, &device, &other, Session::controller_init(passed), |script, log| {
+                let mut left = passed;
+                let run = left.initialize(script, log);
+                run.map(|Done { used, pairs, .. }| Done { value: left, used, pairs })
             });
-            assert_eq!(without_counts(outcome), expected.map(drop), "{what}");
             let ready = |(keyboard, mouse)| Controller { initialized: true, keyboard, mouse };
-            assert_eq!(left, expected.map_or(passed, ready), "{what}");
+            assert_eq!(without_counts(outcome), expected.map(ready), "{what}");
         }
         1 => {
             let expected = direct.keyboard_init();
             let mut handler = Handler::new(Keyboards::One, Profile::Any);
-            let outcome = driven(what, &device, &other, |script, log| {
+            let outcome = driven(what, &device, &other, Session::keyboard_init(), |script, log| {
                 handler.initialize(Keyboards::Two, Profile::Tournament, script, log)
             });
             assert_eq!(without_counts(outcome), expected, "{what}");
@@ -259,7 +279,9 @@ fn one(kind: usize, seed: u64) -> usize {
             let (command, byte) = chance.pick(&commands);
             let expected = direct.command(Way::First, byte);
             let thrown = std::mem::take(&mut direct.thrown);
-            let outcome = driven(what, &device, &other, |script, log| keyboard::command(command, script, log));
+            let outcome = driven(what, &device, &other, Session::keyboard_command(command), |script, log| {
+                keyboard::command(command, script, log)
+            });
             kept(what, outcome, expected, &thrown);
         }
         3 => {
@@ -267,56 +289,71 @@ fn one(kind: usize, seed: u64) -> usize {
             let lamps = lamps.fold(Lamps::NONE, |all, (bit, lamp)| if byte >> bit & 1 == 1 { all | lamp } else { all });
             let expected = direct.lamps(Way::First, byte & 7);
             let thrown = std::mem::take(&mut direct.thrown);
-            let outcome = driven(what, &device, &other, |script, log| keyboard::lamps(lamps, script, log));
+            let outcome = driven(what, &device, &other, Session::keyboard_lamps(lamps), |script, log| {
+                keyboard::lamps(lamps, script, log)
+            });
             kept(what, outcome, expected, &thrown);
         }
         4 => {
             let expected = direct.scancode_set();
-            assert_eq!(without_counts(driven(what, &device, &other, keyboard::scancode_set)), expected, "{what}");
+            let outcome = driven(what, &device, &other, Session::keyboard_scancode_set(), keyboard::scancode_set);
+            assert_eq!(without_counts(outcome), expected, "{what}");
         }
         5 => {
             let expected = direct.detect();
-            assert_eq!(without_counts(driven(what, &device, &other, keyboard::detect)), expected, "{what}");
+            let outcome = driven(what, &device, &other, Session::keyboard_detect(), keyboard::detect);
+            assert_eq!(without_counts(outcome), expected, "{what}");
         }
         6 => {
             let expected = direct.ports.read(Port::Status) & 1 != 0;
-            let outcome = driven(what, &device, &other, |script, _| keyboard::waits(script));
+            let outcome = driven(what, &device, &other, Session::keyboard_waits(), |script, _| keyboard::waits(script));
             assert_eq!(without_counts(outcome), Ok(expected), "{what}");
         }
         7 => {
             let expected = direct.data();
-            let outcome = driven(what, &device, &other, |script, _| keyboard::read_scancode(script));
+            let outcome = driven(what, &device, &other, Session::keyboard_read_scancode(), |script, _| {
+                keyboard::read_scancode(script)
+            });
             assert_eq!(without_counts(outcome), Ok(expected), "{what}");
         }
         8 => {
             let expected = direct.identity();
-            assert_eq!(without_counts(driven(what, &device, &other, Mouse::read_identity)), expected, "{what}");
+            let outcome = driven(what, &device, &other, Session::mouse_identity(), Mouse::read_identity);
+            assert_eq!(without_counts(outcome), expected, "{what}");
         }
         9 => {
             let (expected, left) = direct.set_identity(identity);
-            let mut mouse = Mouse { identity };
-            let outcome = driven(what, &device, &other, |script, log| {
-                mouse = Mouse { identity };
-                mouse.set_identity(script, log)
-            });
-            assert_eq!((without_counts(outcome), mouse.identity), (expected.map(|()| left), left), "{what}");
+            let outcome: IdentitySet =
+                driven(what, &device, &other, Session::mouse_set_identity(identity), |script, log| {
+                    let mut mouse = Mouse { identity };
+                    let run = mouse.set_identity(script, log);
+                    let left = |Counts { used, pairs }| Done { value: mouse.identity, used, pairs };
+                    run.map_err(|RefusedWith { refusal, done }| RefusedWith { refusal, done: left(done) })
+                });
+            let (number, done) = match outcome {
+                Ok(done) => (Ok(()), done),
+                Err(refused) => (Err(refused.number()), refused.done),
+            };
+            assert_eq!((number, done.value), (expected, left), "{what}");
         }
         10 => {
             let expected = direct.ports.read(Port::Status) & 0x21 == 0x21;
-            let outcome = driven(what, &device, &other, |script, _| Mouse::waits(script));
+            let outcome = driven(what, &device, &other, Session::mouse_waits(), |script, _| Mouse::waits(script));
             assert_eq!(without_counts(outcome), Ok(expected), "{what}");
         }
         _ if byte & 1 == 0 => {
             let bytes = direct.packet(identity);
             let mouse = Mouse { identity };
-            let outcome = driven(what, &device, &other, |script, _| mouse.read_packet(script));
+            let outcome = driven(what, &device, &other, mouse.reading(), |script, _| mouse.read_packet(script));
             assert_eq!(outcome, mouse.read_packet(&bytes), "{what}");
         }
         _ => {
-            let expected = direct.command(Way::Second, 0xE9);
+            let (command, byte) = chance.pick(&MOUSE_COMMANDS);
+            let expected = direct.command(Way::Second, byte);
             let thrown = std::mem::take(&mut direct.thrown);
-            let outcome =
-                driven(what, &device, &other, |script, log| Mouse::command(MouseCommand::StatusRequest, script, log));
+            let outcome = driven(what, &device, &other, Session::mouse_command(command), |script, log| {
+                Mouse::command(command, script, log)
+            });
             kept(what, outcome, expected, &thrown);
         }
     }
@@ -336,7 +373,6 @@ fn every_operation_over_devices_by_chance() {
             *accesses += one(kind, seed);
         }
     }
-    // 28 is the one answer before anything is read or written.
     assert!(accesses.iter().enumerate().all(|(kind, &accesses)| (accesses > 0) == (kind != PLAIN - 1)));
 }
 
@@ -353,15 +389,18 @@ fn handler_calls_over_devices_by_chance() {
             let mut other = device.clone();
             let expected = remembered[at].handle(way, &mut other);
             let mut left = handler.clone();
-            let outcome = driven(what, &device, &other, |script, log| {
-                left = handler.clone();
-                left.handle(side, script, log)
-            });
+            let call = Handling::begin(handler.clone(), side);
+            let outcome = driven(what, &device, &other, call, |script, log| left.handle(side, script, log));
             let done = outcome.unwrap_or_else(|refused| refused.done);
             assert_eq!((done.lamps_failed, done.dropped), expected, "{what}");
-            // The record lent again and again, and not put back before each run: after 2 it is as passed in.
-            let again = drive(&mut device, |script, log| handler.handle(side, script, log));
-            assert_eq!((again.outcome, &handler), (outcome, &left), "{what}: one record for all runs");
+            // The record is as it was until the call has ended, and then the one that the uncut run leaves.
+            let mut call = Handling::begin(handler.clone(), side);
+            let half = device.chance.clone().below(done.used + 1);
+            if drive_within(&mut device.clone(), half, &mut call).is_none() {
+                assert_eq!(call.into_handler(), handler, "{what}: a call that has not ended");
+            }
+            assert_eq!(drive(&mut device, handler.handling(side)), outcome, "{what}");
+            assert_eq!(handler, left, "{what}: the record");
             handler.events().for_each(drop);
             device.seen.clear();
         }
@@ -371,48 +410,55 @@ fn handler_calls_over_devices_by_chance() {
 /// Drivers that do it wrong, each in one way.
 #[derive(Clone, Copy, Debug)]
 enum Wrong {
-    /// All writes are made at the end.
+    /// A write is made behind the read that follows it.
     Late,
-    /// All pairs of each run are written, not the new ones.
+    /// A write is made twice.
     Twice,
-    /// The status is read whatever port is named.
+    /// A write is left out.
+    Never,
+    /// The status is read whatever port is wanted.
     Port,
-    /// A byte is read before the writes are made that come before it.
+    /// A byte is read and thrown away before a write.
     Early,
 }
 
-fn drive_wrongly<R: Outcome>(wrong: Wrong, ports: &mut Device, operation: impl Fn(&[u8], &mut [u8]) -> R) {
-    let (mut script, mut log, mut written) = (Vec::new(), [0; 160], 0);
-    loop {
-        let outcome = operation(&script, &mut log);
-        let lack = outcome.lacks();
-        if let (Wrong::Early, Some(port)) = (wrong, lack) {
-            script.push(ports.read(port));
-        }
-        if lack.is_none() || !matches!(wrong, Wrong::Late) {
-            let from = if matches!(wrong, Wrong::Twice) { 0 } else { written };
-            for pair in log[2 * from..2 * outcome.pairs()].chunks_exact(2) {
-                ports.write(Port::from_number(pair[0]).unwrap(), pair[1]);
+fn drive_wrongly(wrong: Wrong, ports: &mut Device, mut session: impl Steps) {
+    let mut late = None;
+    for _ in 0..1_000 {
+        match session.wanted() {
+            Request::Read(port) => {
+                let port = if matches!(wrong, Wrong::Port) { Port::Status } else { port };
+                let byte = ports.read(port);
+                if let Some((port, value)) = late.take() {
+                    ports.write(port, value);
+                }
+                session.next(byte);
             }
-            written = outcome.pairs();
-        }
-        match (wrong, lack) {
-            (_, None) => return,
-            _ if script.len() > 1_000 => return,
-            (Wrong::Early, _) => {}
-            (Wrong::Port, _) => script.push(ports.read(Port::Status)),
-            (_, Some(port)) => script.push(ports.read(port)),
+            Request::Write(port, value) => {
+                match wrong {
+                    Wrong::Late => late = Some((port, value)),
+                    Wrong::Never => {}
+                    Wrong::Twice => (0..2).for_each(|_| ports.write(port, value)),
+                    Wrong::Early => {
+                        ports.read(Port::Data);
+                        ports.write(port, value);
+                    }
+                    Wrong::Port => ports.write(port, value),
+                }
+                session.next(0);
+            }
+            Request::Done(_) => return,
         }
     }
 }
 
 #[test]
 fn wrong_drivers_are_found() {
-    for wrong in [Wrong::Late, Wrong::Twice, Wrong::Port, Wrong::Early] {
+    for wrong in [Wrong::Late, Wrong::Twice, Wrong::Never, Wrong::Port, Wrong::Early] {
         let found = |seed: &u64| {
             let (mut device, mut other) = (Device::new(*seed), Device::new(*seed));
             let _ = Direct { ports: &mut other, thrown: Vec::new() }.lamps(Way::First, 4);
-            drive_wrongly(wrong, &mut device, |script, log| keyboard::lamps(Lamps::CAPS, script, log));
+            drive_wrongly(wrong, &mut device, Session::keyboard_lamps(Lamps::CAPS));
             device.seen != other.seen
         };
         assert!((0..100).filter(found).count() > 90, "{wrong:?}");
@@ -420,106 +466,168 @@ fn wrong_drivers_are_found() {
 }
 
 #[test]
-fn in_lent_room() {
+fn so_many_reads_at_a_time() {
     for seed in 0..200 {
-        let mut whole = Device::new(seed);
-        let Driven { outcome, script, log } = drive(&mut whole, keyboard::detect);
-        for room in [script.len(), script.len().saturating_sub(1), script.len() / 2, 0] {
-            let mut device = Device::new(seed);
-            let (mut bytes, mut pairs) = (vec![0xCC; room], vec![0xCC; log.len()]);
-            let (ended, read) = drive_within(&mut device, &mut bytes, &mut pairs, keyboard::detect);
-            assert_eq!((read, &bytes[..]), (room, &script[..room]));
-            assert_eq!(device.seen[..], whole.seen[..device.seen.len()]);
-            if room == script.len() {
-                assert_eq!((ended, &pairs), (outcome, &log));
-            } else {
-                let Access::Read(port, _) = whole.seen[device.seen.len()] else { panic!("a write is left out") };
-                assert_eq!(ended.lacks(), Some(port));
+        let mut whole = Recorded::new(Device::new(seed));
+        let outcome = drive(&mut whole, Session::keyboard_detect());
+        let reads = whole.script.len();
+        for at_a_time in [1, 2, 7, reads / 2 + 1, reads] {
+            let (mut device, mut session) = (Device::new(seed), Session::keyboard_detect());
+            let (mut times, mut ended) = (0, None);
+            while ended.is_none() && times <= reads {
+                // What is wanted is wanted again after a suspension, and by a copy.
+                assert_eq!(session.wanted(), session.clone().wanted());
+                ended = drive_within(&mut device, at_a_time, &mut session);
+                times += 1;
             }
+            assert_eq!((ended, &device.seen), (Some(outcome), &whole.ports.seen));
+            assert_eq!(times, reads.div_ceil(at_a_time).max(1));
+            // After the end nothing is done.
+            session.next(0xFA);
+            assert_eq!(session.wanted(), Request::Done(outcome));
         }
     }
 }
 
-/// A controller that takes its time: a byte that was written is taken after some looks at the status, and answered by FA after more.
+/// A controller that takes its time: a byte that was written is taken after some, and answered by FA after more.
 struct Slow {
-    looks: u32,
-    taken_after: u32,
-    answered_after: Option<u32>,
-    answer: Option<u8>,
+    taken_after: Duration,
+    answered_after: Duration,
+    written: Option<Instant>,
+}
+
+impl Slow {
+    fn new(taken_after: u64, answered_after: u64) -> Slow {
+        let [taken_after, answered_after] = [taken_after, answered_after].map(Duration::from_millis);
+        Slow { taken_after, answered_after, written: None }
+    }
 }
 
 impl Ports for Slow {
     fn read(&mut self, port: Port) -> u8 {
+        let Some(age) = self.written.map(|at| at.elapsed()) else {
+            return if port == Port::Data { 0x77 } else { 0 };
+        };
         if port == Port::Data {
-            return self.answer.take().unwrap_or(0x77);
+            if age < self.answered_after {
+                return 0x77;
+            }
+            self.written = None;
+            return 0xFA;
         }
-        self.looks += 1;
-        if Some(self.looks) == self.answered_after {
-            self.answer = Some(0xFA);
-        }
-        u8::from(self.answer.is_some()) | if self.looks < self.taken_after { 2 } else { 0 }
+        u8::from(age >= self.answered_after) | if age < self.taken_after { 2 } else { 0 }
     }
 
     fn write(&mut self, _port: Port, _value: u8) {
-        self.looks = 0;
+        self.written = Some(Instant::now());
     }
 }
 
 #[test]
-fn patience_keeps_scripts_short() {
-    let slow = Slow { looks: 1_000, taken_after: 100, answered_after: Some(300), answer: None };
-    let mut patient = Patient::new(slow, Duration::from_secs(60));
-    let driven = drive(&mut patient, |script, log| keyboard::lamps(Lamps::CAPS, script, log));
-    assert!(driven.outcome.is_ok());
-    // The status before a byte is sent; after it busy, then no more, then a byte; its data: for ED, and for the lamps.
-    assert_eq!(driven.script, [0, 2, 0, 1, 0xFA, 0, 2, 0, 1, 0xFA]);
-    assert_eq!(driven.log, [0x60, 0xED, 0x60, 0x04]);
-    // Without patience every look is in the script.
-    let mut slow = Slow { looks: 1_000, taken_after: 100, answered_after: Some(300), answer: None };
-    let impatient = drive(&mut slow, |script, log| keyboard::lamps(Lamps::CAPS, script, log));
-    assert_eq!((impatient.outcome.is_ok(), impatient.script.len(), impatient.log), (true, 604, driven.log));
+fn patience_waits_by_time() {
+    let begin = Instant::now();
+    let mut ports = Recorded::new(Patient::new(Slow::new(20, 60), Duration::from_secs(60)));
+    assert!(drive(&mut ports, Session::keyboard_lamps(Lamps::CAPS)).is_ok());
+    assert!(begin.elapsed() >= Duration::from_millis(120));
+    assert_eq!(ports.log, [0x60, 0xED, 0x60, 0x04]);
+    // Every poll is in the script, and waits are a sixteenth of the silence, so they are few: so many that 255 last longer.
+    assert!(ports.script.len() < 2 * 255, "{} reads", ports.script.len());
+    let shown = |byte: &u8| ports.script.iter().filter(|at| *at == byte).count();
+    assert_eq!((shown(&0xFA), shown(&0x01), shown(&0x77)), (2, 2, 0));
+
+    // A data byte that is read without asking is waited for: a self test's, after its acknowledgement.
+    let slow = Slow { written: Some(Instant::now()), ..Slow::new(0, 30) };
+    let mut ports = Patient::new(slow, Duration::from_secs(60));
+    assert_eq!(drive(&mut ports, Session::keyboard_read_scancode()).map(|done| done.value), Ok(0xFA));
 }
 
 #[test]
 fn a_silent_device_is_given_up() {
-    let mut patient =
-        Patient::new(Slow { looks: 0, taken_after: 0, answered_after: None, answer: None }, Duration::from_millis(20));
-    let begin = std::time::Instant::now();
-    let driven = drive(&mut patient, |script, log| keyboard::lamps(Lamps::CAPS, script, log));
+    let limit = Duration::from_millis(50);
+    let mut ports = Recorded::new(Patient::new(Slow::new(0, 1_000_000_000), limit));
+    let begin = Instant::now();
+    let outcome = drive(&mut ports, Session::keyboard_lamps(Lamps::CAPS));
+    assert!(begin.elapsed() >= limit);
     // One look before ED is sent, and 65,535 polls that find nothing.
-    assert_eq!(driven.outcome.map_err(|refused| refused.refusal).err(), Some(Refusal::LedsNotSet));
-    assert_eq!(driven.script, [0; 65_536]);
+    assert_eq!(outcome.map_err(|refused| refused.refusal).err(), Some(Refusal::LedsNotSet));
+    assert_eq!(ports.script, [0; 65_536]);
     println!("a silent keyboard was given up after {:?}", begin.elapsed());
 
     // Data that is not there is the port's old byte.
-    assert_eq!(patient.read(Port::Data), 0x77);
+    assert_eq!(ports.read(Port::Data), 0x77);
 }
 
-/// An operation made up by chance that writes more than any of the library: `drive` gives it the room.
-#[test]
-fn a_log_that_grows() {
-    fn operation(script: &[u8], log: &mut [u8]) -> Result<Counts, RefusedWith> {
-        let mut chance = Chance(1);
-        let mut done = Counts { used: 0, pairs: 0 };
-        for _ in 0..2_000 {
-            let port = chance.pick(&[Port::Data, Port::Status]);
-            if chance.below(3) == 0 {
-                let lack = RefusedWith { refusal: Refusal::ScriptEnds(port), done };
-                chance.0 ^= u64::from(*script.get(done.used).ok_or(lack)?);
-                done.used += 1;
-            } else {
-                let lack = RefusedWith { refusal: Refusal::LogFull, done };
-                let pair = log.get_mut(2 * done.pairs..2 * done.pairs + 2).ok_or(lack)?;
-                pair.copy_from_slice(&[port.number(), chance.next() as u8]);
-                done.pairs += 1;
+/// Keyboards with which a command takes longest.
+struct Bad {
+    manner: Manner,
+    sends: u32,
+    polls: u32,
+    sent: bool,
+}
+
+#[derive(Clone, Copy, Debug, PartialEq)]
+enum Manner {
+    /// It acknowledges at once.
+    Willing,
+    /// No byte ever comes.
+    Silent,
+    /// A byte that is no response can be read at every poll.
+    StuckFull,
+    /// It takes each byte at the last look, and asks for it again by FE at the last poll.
+    Longest,
+}
+
+impl Ports for Bad {
+    fn read(&mut self, port: Port) -> u8 {
+        match (self.manner, port) {
+            (Manner::Silent, _) => 0,
+            (Manner::Willing, Port::Status) => self.sent.into(),
+            (Manner::Willing, Port::Data) => {
+                self.sent = false;
+                0xFA
+            }
+            (Manner::StuckFull, Port::Status) => 1,
+            (Manner::StuckFull, Port::Data) => 0x55,
+            (Manner::Longest, Port::Status) if self.sent => {
+                self.polls += 1;
+                1
+            }
+            (Manner::Longest, Port::Status) => {
+                self.sends += 1;
+                if self.sends < 255 {
+                    2
+                } else {
+                    0
+                }
+            }
+            (Manner::Longest, Port::Data) if self.polls < 65_535 => 0x55,
+            (Manner::Longest, Port::Data) => {
+                self.sent = false;
+                0xFE
             }
         }
-        Ok(done)
     }
-    let mut device = Device::new(3);
-    let Driven { outcome, script, log } = drive(&mut device, operation);
-    assert_eq!(outcome.map(|done| (done.used() > 500, done.pairs() > 1_000)), Ok((true, true)));
-    assert_eq!((script.clone(), log.clone()), script_and_log(&device.seen));
-    let mut room = vec![0; log.len()];
-    assert_eq!((operation(&script, &mut room), room), (outcome, log));
+
+    fn write(&mut self, _port: Port, _value: u8) {
+        (self.sends, self.polls, self.sent) = (0, 0, true);
+    }
+}
+
+/// Shown with `cargo test --release longest -- --nocapture`.
+#[test]
+fn the_longest_exchanges() {
+    for (manner, reads, writes, refusal) in [
+        (Manner::Willing, 3, 1, None),
+        (Manner::Silent, 65_536, 1, Some(5)),
+        (Manner::StuckFull, 131_071, 1, Some(5)),
+        (Manner::Longest, 525_300, 4, Some(7)),
+    ] {
+        let mut ports = Bad { manner, sends: 0, polls: 0, sent: false };
+        let begin = Instant::now();
+        let outcome = drive(&mut ports, Session::keyboard_command(KeyboardCommand::EnableScanning));
+        let took = begin.elapsed();
+        println!("{manner:?}: {reads} reads, {writes} writes, {took:?}, {} ns a read", took.as_nanos() / reads as u128);
+        let number = outcome.refusal().map(Refusal::number);
+        assert_eq!((outcome.used(), outcome.pairs(), number), (reads, writes, refusal), "{manner:?}");
+    }
 }
