@@ -1,7 +1,9 @@
-/* A keyboard and a mouse with no operating system: every byte that the 8042 gives goes through the proved library. What is here is not proved:
-   it asks whose byte waits, lends the bytes, and shows what comes of them on the screen and the serial line.
+/* A keyboard and a mouse with no operating system: every byte that the 8042 gives goes through the
+   proved library. What is here is not proved: it asks whose byte waits, does at the ports what the
+   library's operations want, and shows what comes of them on the screen and the serial line.
 
-   Built with -DINTERRUPTS it sleeps until interrupt 1 or 12 comes; without, it polls with interrupts off. */
+   Built with -DINTERRUPTS it sleeps until an interrupt comes, and a call goes on from one to the
+   next; without, it polls with interrupts off. */
 #include <stddef.h>
 #include <stdint.h>
 #include "interrupts.h"
@@ -10,9 +12,9 @@
 #include "vurdellow.h"
 
 static _Alignas(128) uint64_t record[VD_HANDLER_WORDS];
+static exchange ports;
 static vd_controller controller;
 static uint32_t identity, buttons;
-static exchange ports;
 static int is_taking = 1; /* whether events are taken as they come: F1 stops it, and F1 again goes on */
 static uint64_t lost;     /* events that met a full queue */
 
@@ -107,12 +109,12 @@ static void say(unsigned colour, const text *it)
         show_line(colour, it);
 }
 
-/* The script that a call read and the log that it wrote, as the recorded calls of tests/traces have them. */
-static void put_call(text *to, const char *name, const uint8_t *script, size_t used, size_t pairs, uint32_t refusal)
+/* The script that the call read and the log that it wrote, as the recorded calls of tests/traces have them. */
+static void put_call(text *to, const char *name)
 {
-    put_text(to, name), put_text(to, " script="), put_bytes(to, script, used);
-    put_text(to, " log="), put_bytes(to, ports.log, 2 * pairs);
-    put_text(to, " refused="), put_number(to, refusal);
+    put_text(to, name), put_text(to, " script="), put_bytes(to, ports.script, ports.read);
+    put_text(to, " log="), put_bytes(to, ports.log, 2 * ports.written);
+    put_text(to, " refused="), put_number(to, ports.wanted.refusal);
 }
 
 extern uint8_t stack_bottom[], stack_top[];
@@ -185,6 +187,8 @@ enum { MOUSE_OFF = 0xA7, MOUSE_ON = 0xA8 };
 
 static void mouse_port(uint8_t command)
 {
+    if (!controller.mouse)
+        return;
     while (in8(VD_STATUS_PORT) & 2)
         ;
     out8(VD_STATUS_PORT, command);
@@ -194,48 +198,70 @@ static void mouse_port(uint8_t command)
         mouse_byte(in8(VD_DATA_PORT));
 }
 
-/* One handler call, on a byte of the keyboard or, with none, on one that waits in the record. */
-static void keyboard_call(const uint8_t *script, size_t length)
-{
-    vd_handled call = vd_handle(record, VD_HANDLER_WORDS, VD_SIDE_1, script, length, NULL, 0);
-    text it = { .length = 0 };
-    if (call.refusal == VD_SCRIPT_ENDS) {
-        if (controller.mouse)
-            mouse_port(MOUSE_OFF);
-        exchange_begin(&ports, script, length);
-        DRIVE(&ports, call, vd_handle(record, VD_HANDLER_WORDS, VD_SIDE_1, LENT(&ports)));
-        script = ports.script;
-        if (controller.mouse)
-            mouse_port(MOUSE_ON);
-    }
-    put_call(&it, "handle", script, call.used, call.pairs, call.refusal);
-    if (call.lamps)
-        put_text(&it, " lamps="), put_number(&it, call.lamps);
-    if (call.dropped)
-        put_text(&it, " dropped="), put_number(&it, call.dropped);
-    if (call.refusal == VD_QUEUE_FULL)
-        lost++, put_text(&it, " flags="), put_hex(&it, (uint32_t)record[VD_FIRST_FLAGS], 3);
-    say(call.refusal ? ON(BRIGHT_RED, BLACK) : call.pairs ? ON(YELLOW, BLACK) : 0, &it);
-    show_record();
-}
-
 enum { F1_RELEASED = 0xBB };
 
-static void keyboard_byte(uint8_t byte)
+/* How many interrupts the call took. */
+static unsigned interrupts;
+
+/* What a handler call came to. */
+static void tell_handled(void)
 {
-    saw(VD_DATA_PORT, byte, 0);
-    keyboard_call(&byte, 1);
-    while (record[VD_FIRST_WAITING] > 0)
-        keyboard_call(NULL, 0);
-    if (byte == F1_RELEASED) {
-        text it = { .length = 0 };
+    uint32_t refusal = ports.wanted.refusal, lamps = ports.call.lamps, dropped = ports.call.dropped;
+    text it = { .length = 0 };
+    put_call(&it, "handle");
+    if (interrupts > 1)
+        put_text(&it, " interrupts="), put_number(&it, interrupts);
+    interrupts = 0;
+    if (lamps)
+        put_text(&it, " lamps="), put_number(&it, lamps);
+    if (dropped)
+        put_text(&it, " dropped="), put_number(&it, dropped);
+    if (refusal == VD_QUEUE_FULL)
+        lost++, put_text(&it, " flags="), put_hex(&it, (uint32_t)record[VD_FIRST_FLAGS], 3);
+    say(refusal ? ON(BRIGHT_RED, BLACK) : ports.written ? ON(YELLOW, BLACK) : 0, &it);
+    show_record();
+    if (ports.read == 1 && ports.script[0] == F1_RELEASED) {
         if (is_taking)
             take_all();
         is_taking = !is_taking;
-        put_text(&it, is_taking ? "events are taken; stack used so far " : "nobody takes events; stack used so far ");
+        it.length = 0, put_text(&it, is_taking ? "events are taken; stack used so far " : "nobody takes events; stack used so far ");
         put_number(&it, (int64_t)stack_used());
         say(ON(WHITE, BLACK), &it);
     }
+}
+
+static int is_quiet; /* whether the mouse is, for a lamp exchange */
+
+/* Goes on with a handler call; when it has ended, with those of the bytes that wait in the
+   record. An interrupt leaves to the next what the keyboard has yet to answer. */
+static void keyboard_goes_on(unsigned polls)
+{
+    for (;;) {
+        interrupts++;
+        if (ports.wanted.kind != VD_DONE && !is_quiet)
+            mouse_port(MOUSE_OFF), is_quiet = 1;
+#ifdef INTERRUPTS
+        if (!exchange_goes_on(&ports, polls))
+            return;
+#else
+        (void)polls;
+        exchange_finish(&ports);
+#endif
+        if (is_quiet)
+            mouse_port(MOUSE_ON), is_quiet = 0;
+        tell_handled();
+        if (record[VD_FIRST_WAITING] == 0)
+            return;
+        exchange_handle(&ports, record);
+    }
+}
+
+/* A byte of the keyboard can be read. */
+static void keyboard_byte(void)
+{
+    exchange_handle(&ports, record);
+    exchange_step(&ports);
+    keyboard_goes_on(1);
 }
 
 /* Whoever's byte waits: whether one did. */
@@ -248,51 +274,42 @@ static int serve(void)
     if (status & 0x20)
         mouse_byte(in8(VD_DATA_PORT));
     else
-        keyboard_byte(in8(VD_DATA_PORT));
+        keyboard_byte();
     pointer_show();
     return 1;
 }
 
 /* ---- the start */
 
-static void tell_call(const char *name, size_t used, size_t pairs, uint32_t refusal)
+static uint64_t *run(const char *name, uint32_t operation, uint64_t argument)
 {
     text it = { .length = 0 };
-    put_call(&it, name, ports.script, used, pairs, refusal);
+    exchange_begin(&ports, operation, argument);
+    exchange_finish(&ports);
+    put_call(&it, name);
     serial_line(it.letters);
+    return ports.words + VD_OUTCOME_AT;
 }
 
 static void devices_begin(void)
 {
-    vd_initialized found;
-    vd_answer answer;
+    uint64_t *outcome = run("init", VD_CONTROLLER_INIT, 0);
     text it = { .length = 0 };
-
-    exchange_begin(&ports, NULL, 0);
-    DRIVE(&ports, found, vd_controller_init(controller, LENT(&ports)));
-    controller = found.controller;
-    tell_call("init", found.used, found.pairs, found.refusal);
-    put_text(&it, "controller: refused "), put_number(&it, found.refusal);
+    controller.initialized = (uint32_t)outcome[0], controller.keyboard = (uint32_t)outcome[1], controller.mouse = (uint32_t)outcome[2];
+    put_text(&it, "controller: refused "), put_number(&it, ports.wanted.refusal);
     put_text(&it, ", keyboard "), put_number(&it, controller.keyboard), put_text(&it, ", mouse "), put_number(&it, controller.mouse);
     say(ON(WHITE, BLACK), &it);
 
-    exchange_begin(&ports, NULL, 0);
-    DRIVE(&ports, answer, vd_keyboard_init(record, VD_HANDLER_WORDS, VD_ONE_KEYBOARD, VD_ANY_KEYS, LENT(&ports)));
-    tell_call("keyboard_init", answer.used, answer.pairs, answer.refusal);
+    run("keyboard_init", VD_KEYBOARD_INIT, 0);
+    vd_handler_fresh(record, VD_HANDLER_WORDS, VD_ONE_KEYBOARD, VD_ANY_KEYS);
     if (controller.mouse) {
-        exchange_begin(&ports, NULL, 0);
-        DRIVE(&ports, answer, vd_mouse_set_identity(VD_NO_WHEEL, LENT(&ports)));
-        identity = (uint32_t)answer.value;
-        tell_call("set_mouse_id", answer.used, answer.pairs, answer.refusal);
-        exchange_begin(&ports, NULL, 0);
-        DRIVE(&ports, answer, vd_mouse_start_packets(LENT(&ports)));
-        tell_call("mouse_enable", answer.used, answer.pairs, answer.refusal);
+        identity = (uint32_t)*run("set_mouse_id", VD_MOUSE_SET_IDENTITY, VD_NO_WHEEL);
+        run("mouse_enable", VD_MOUSE_START_PACKETS, 0);
         it.length = 0, put_text(&it, "mouse: identity "), put_number(&it, identity);
         say(ON(WHITE, BLACK), &it);
     }
-    it.length = 0, put_number(&it, (int64_t)traffic_so_far.runs), put_text(&it, " runs, "), put_number(&it, (int64_t)traffic_so_far.reads);
-    put_text(&it, " reads, "), put_number(&it, (int64_t)traffic_so_far.writes), put_text(&it, " writes; stack used so far ");
-    put_number(&it, (int64_t)stack_used());
+    it.length = 0, put_number(&it, (int64_t)traffic_so_far.reads), put_text(&it, " reads, "), put_number(&it, (int64_t)traffic_so_far.writes);
+    put_text(&it, " writes; stack used so far "), put_number(&it, (int64_t)stack_used());
     say(ON(WHITE, BLACK), &it);
 }
 
@@ -306,10 +323,22 @@ static void screen_heads(void)
 }
 
 #ifdef INTERRUPTS
-/* A byte an interrupt; none is there where an exchange has read it. */
-static void on_interrupt(void)
+/* A call goes on, if there is one. Otherwise a byte an interrupt; none is there where a call has
+   read it. */
+static void on_byte(void)
 {
-    serve();
+    if (ports.wanted.kind == VD_DONE)
+        serve();
+    else
+        pointer_hide(), keyboard_goes_on(1), pointer_show();
+}
+
+/* Some 18 times a second: a keyboard that says nothing is given up when the script's room is
+   used up, in about a second. */
+static void on_tick(void)
+{
+    if (ports.wanted.kind != VD_DONE)
+        pointer_hide(), keyboard_goes_on(SCRIPT_ROOM / 16), pointer_show();
 }
 #endif
 
@@ -321,7 +350,7 @@ void kernel(void)
     serial_begin();
     screen_heads();
 #ifdef INTERRUPTS
-    interrupts_begin(on_interrupt, on_interrupt);
+    interrupts_begin(on_byte, on_byte, on_tick);
 #endif
     devices_begin();
     serial_line("ready");
@@ -334,7 +363,8 @@ void kernel(void)
         if (!serve())
             __asm__ volatile("pause");
 #endif
-        if (is_taking && record[VD_EVENTS_WAITING] > 0)
+        /* While a call goes on the record is the call's. */
+        if (is_taking && ports.wanted.kind == VD_DONE && record[VD_EVENTS_WAITING] > 0)
             pointer_hide(), take_all(), pointer_show();
     }
 }

@@ -2,52 +2,104 @@
 #include "ports.h"
 #include "machine.h"
 
-/* Status reads that are waited for at most. At about a microsecond each, as on an ISA port, that is a second; a reset's self test takes up to
-   three quarters of one. */
-enum { MOST_WAITS = 1000000 };
+/* How long a device may be silent: a second, and a reset's self test takes up to three quarters
+   of one. A read of port 80, which has nothing to read, takes about a microsecond on an ISA
+   port. */
+enum { MOST_SILENCE = 1000000, NOTHING = 0x80 };
+
+/* Bits of the status: a byte can be read; a byte that was written is not yet taken. */
+enum { FULL = 0x01, BUSY = 0x02 };
 
 traffic traffic_so_far;
 
-/* A status is given again only if it has changed in a bit that is waited for (output full, input full, whose byte waits), or if nothing comes. */
-static uint8_t status_for(exchange *it)
+/* What the handler call wants, which is made again where it has a byte more. */
+static vd_request handled(exchange *it, int has_more)
 {
-    unsigned waits;
-    uint8_t status = in8(VD_STATUS_PORT);
-    for (waits = 0; it->is_given && waits < MOST_WAITS && ((status ^ it->status) & 0x23) == 0; waits++)
-        status = in8(VD_STATUS_PORT);
-    it->is_given = 1;
-    return it->status = status;
+    vd_request next = { VD_DONE, 0, 0, 0 };
+    const uint8_t *pair = it->log + 2 * it->written;
+    if (has_more)
+        it->call = vd_handle(it->record, VD_HANDLER_WORDS, VD_SIDE_1, it->script, it->read,
+                             it->log, sizeof it->log);
+    if (it->written < it->call.pairs)
+        next.kind = VD_WRITE, next.port = pair[0], next.byte = pair[1];
+    else if (it->call.refusal == VD_SCRIPT_ENDS && it->read < sizeof it->script)
+        next.kind = VD_READ, next.port = it->call.port;
+    else
+        next.refusal = it->call.refusal;
+    return next;
 }
 
-static uint8_t data_for(exchange *it)
+void exchange_begin(exchange *it, uint32_t operation, uint64_t argument)
 {
-    unsigned waits;
-    for (waits = 0; waits < MOST_WAITS && !(in8(VD_STATUS_PORT) & 1); waits++)
-        ;
-    it->is_given = 0;
-    return in8(VD_DATA_PORT);
+    it->record = NULL, it->read = it->written = 0;
+    it->wanted = vd_begin(it->words, VD_STEP_WORDS, operation, argument);
 }
 
-void exchange_begin(exchange *it, const uint8_t *script, size_t length)
+void exchange_handle(exchange *it, uint64_t *record)
 {
-    size_t i;
-    it->read = it->made = 0, it->is_given = 0;
-    for (i = 0; i < length && i < sizeof it->script; i++)
-        it->script[it->read++] = script[i];
+    it->record = record, it->read = it->written = 0;
+    it->wanted = handled(it, 1);
 }
 
-int exchange_goes_on(exchange *it, uint32_t refusal, uint32_t port, size_t pairs)
+void exchange_step(exchange *it)
 {
-    traffic_so_far.runs++;
-    for (; it->made < pairs; it->made++, traffic_so_far.writes++, it->is_given = 0) {
-        const uint8_t *pair = it->log + 2 * it->made;
-        saw(pair[0], pair[1], 1);
-        out8(pair[0], pair[1]);
+    uint8_t port = (uint8_t)it->wanted.port, byte = (uint8_t)it->wanted.byte;
+    int is_write = it->wanted.kind == VD_WRITE;
+    if (is_write) {
+        if (2 * it->written + 1 < sizeof it->log)
+            it->log[2 * it->written] = port, it->log[2 * it->written + 1] = byte, it->written++;
+        traffic_so_far.writes++;
+        out8(port, byte);
+    } else {
+        byte = in8(port);
+        if (it->read < sizeof it->script)
+            it->script[it->read++] = byte;
+        traffic_so_far.reads++;
     }
-    if (refusal != VD_SCRIPT_ENDS || it->read == sizeof it->script)
+    saw(port, byte, is_write);
+    it->wanted = it->record ? handled(it, !is_write) : vd_next(it->words, VD_STEP_WORDS, byte);
+}
+
+int exchange_goes_on(exchange *it, unsigned polls)
+{
+    while (it->wanted.kind == VD_READ) {
+        if ((in8(VD_STATUS_PORT) & (FULL | BUSY)) == 0 && polls-- == 0)
+            return 0;
+        exchange_step(it);
+    }
+    if (it->wanted.kind == VD_WRITE)
+        exchange_step(it);
+    return it->wanted.kind == VD_DONE;
+}
+
+/* Waits a sixteenth of the silence so far, so that 255 polls, the most before a byte is sent,
+   last long enough: whether time was left. */
+static int waits(uint32_t *silence)
+{
+    uint32_t n = *silence / 16 + 1;
+    if (*silence >= MOST_SILENCE)
         return 0;
-    it->script[it->read] = port == VD_DATA_PORT ? data_for(it) : status_for(it);
-    saw((uint8_t)port, it->script[it->read++], 0);
-    traffic_so_far.reads++;
+    for (*silence += n; n > 0; n--)
+        in8(NOTHING);
     return 1;
+}
+
+void exchange_finish(exchange *it)
+{
+    uint32_t silence = 0;
+    int polled = 0; /* whether the last that was done is a read of the status */
+    for (; it->wanted.kind != VD_DONE; exchange_step(it)) {
+        if (it->wanted.kind == VD_WRITE) {
+            silence = 0, polled = 0;
+        } else if (it->wanted.port == VD_STATUS_PORT) {
+            if (polled)
+                waits(&silence);
+            polled = 1;
+        } else {
+            /* Initialisation, packets and resets read without asking. */
+            while (!(in8(VD_STATUS_PORT) & FULL) && waits(&silence))
+                ;
+            silence = silence < MOST_SILENCE ? 0 : silence, polled = 0;
+        }
+    }
 }

@@ -1,8 +1,6 @@
-/* Live ports for the library's operations, each of which is lent a script and a log and touches no port itself.
-
-   An operation that is run on the bytes read so far writes nothing that the whole run would not have written in that place, and where
-   the bytes are not enough (VD_SCRIPT_ENDS) it names the port that the whole run reads next: docs/CUT-SCRIPTS.md. So what is new is
-   written, that port is read, and the operation is run again. */
+/* Live ports for the library's operations a byte at a time: the library says what is to be done
+   next, and this does it. A handler call has no such form. It goes on by being made again on all
+   bytes so far: it changes nothing until it has them all (docs/CUT-SCRIPTS.md). */
 #ifndef PORTS_H
 #define PORTS_H
 
@@ -13,32 +11,40 @@
 enum { SCRIPT_ROOM = 4096 };
 
 typedef struct exchange {
+    uint64_t words[VD_STEP_WORDS]; /* an operation .. */
+    uint64_t *record;              /* .. or a handler call on this record, .. */
+    vd_handled call;               /* .. which answered this last */
+    vd_request wanted; /* VD_DONE: it has ended */
+    /* What was read and written, as much as there is room for: for the serial line, and a
+       handler call's script and log. */
     uint8_t script[SCRIPT_ROOM], log[VD_LOG_BYTES];
-    size_t read, made; /* script bytes that were read, and pairs of the log that were written to the ports */
-    uint8_t status;    /* the status that was given last .. */
-    int is_given;      /* .. and whether giving it is the last thing that was done */
+    size_t read, written;
 } exchange;
 
 /* What all exchanges came to. */
 typedef struct traffic {
-    uint64_t runs, reads, writes;
+    uint64_t reads, writes;
 } traffic;
 extern traffic traffic_so_far;
 
 /* Told of every byte that crosses a port. */
 void saw(uint8_t port, uint8_t value, int is_write);
 
-/* Begins with bytes that are there already. */
-void exchange_begin(exchange *it, const uint8_t *script, size_t length);
+/* Begins an operation. */
+void exchange_begin(exchange *it, uint32_t operation, uint64_t argument);
 
-/* Makes the writes that are new and, where the operation lacks a read, that read: whether it is to be run again. */
-int exchange_goes_on(exchange *it, uint32_t refusal, uint32_t port, size_t pairs);
+/* Begins a handler call for the first side. */
+void exchange_handle(exchange *it, uint64_t *record);
 
-/* Runs a call to its end: `it` has begun, and `call` names LENT(it) where the call is lent its script and log. */
-#define LENT(it) (it)->script, (it)->read, (it)->log, sizeof (it)->log
-#define DRIVE(it, answer, call) \
-    do                          \
-        answer = call;          \
-    while (exchange_goes_on(it, (answer).refusal, (answer).port, (answer).pairs))
+/* Does the one read or write that is wanted. */
+void exchange_step(exchange *it);
+
+/* Goes on until it has written, since an answer brings an interrupt of its own, or has found so
+   many times that no byte is there and is to look again: whether the operation has ended. It
+   waits for nothing. */
+int exchange_goes_on(exchange *it, unsigned polls);
+
+/* Goes on to the end, and waits between polls. */
+void exchange_finish(exchange *it);
 
 #endif
