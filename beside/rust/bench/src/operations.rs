@@ -4,6 +4,7 @@
 use crate::handler::made;
 use crate::measure::{Row, Side};
 use beside::answer::Answer;
+use beside::by_bytes::{operation, through};
 use beside::call::{self, Call, Hex, Op, ALL_FLAGS, LAST_KEYCODE, PORT_FLAGS};
 use beside::device::Rng;
 use beside::library::{self as vd, ControllerWords, PreferencesWords};
@@ -320,6 +321,14 @@ pub fn led_command(script: &[u8], log: &mut [u8]) -> (u32, usize, usize) {
     (answer.refusal, answer.used, answer.pairs)
 }
 
+/// The same a byte at a time.
+fn led_by_bytes(script: &[u8], log: &mut [u8]) -> (u32, usize, usize) {
+    through(operation::KEYBOARD_COMMAND, 0xED, script, log)
+}
+
+/// The lamps of a keyboard that acknowledges at once.
+const LAMPS: &str = "set_keyboard_led 4 script=0001FA0001FA log=8";
+
 /// Initialisation on the script of a machine with both devices.
 const INIT: &str = "init script=0333551D001D001C1DFAAA1C3DFAAA0003 log=64";
 
@@ -345,6 +354,44 @@ fn ports() -> Vec<Row> {
             "525,300 reads and 4 writes: four attempts, each busy 254 times, then 55 at 65,534 \
             polls, then FE; refused 7",
             led_command,
+        ),
+        on_ports(
+            &oracle,
+            "`vd_keyboard_lamps`, a willing keyboard",
+            LAMPS,
+            "6 reads and 2 writes",
+            |script, log| {
+                let answer = vd::keyboard_lamps(4, script, log);
+                (answer.refusal, answer.used, answer.pairs)
+            },
+        ),
+        on_ports(
+            &oracle,
+            "`vd_next`, the lamps, a willing keyboard",
+            LAMPS,
+            "the same a byte at a time",
+            |script, log| through(operation::KEYBOARD_LAMPS, 4, script, log),
+        ),
+        on_ports(
+            &oracle,
+            "`vd_next`, command ED, a silent device",
+            "keyboard_command ED script=1C*65536 log=8",
+            "65,536 reads and 1 write, a byte at a time; refused 5",
+            led_by_bytes,
+        ),
+        on_ports(
+            &oracle,
+            "`vd_next`, command ED, a device stuck full",
+            "keyboard_command ED script=01,0155*65535 log=8",
+            "131,071 reads and 1 write: each poll finds 55; refused 5",
+            led_by_bytes,
+        ),
+        on_ports(
+            &oracle,
+            "`vd_next`, command ED, a device that sends 55",
+            &prattling,
+            "525,300 reads and 4 writes, the longest; refused 7",
+            led_by_bytes,
         ),
         on_ports(
             &oracle,

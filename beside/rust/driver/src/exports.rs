@@ -1,6 +1,7 @@
 //! Calls of every export, of the library and of the small one for tests, beside the Rust; and beside plain Rust where the Rust has no such call.
 
 use crate::answer::{Answer, Record, Value};
+use crate::by_bytes::operation as by;
 use crate::call::{self, Call, MouseOp, Op, ALL_FLAGS};
 use crate::chance;
 use crate::compare::{changed, count_answers, listed, shares, Damage, FEW};
@@ -208,10 +209,28 @@ impl Comparison {
     fn glance(&mut self, rust: &mut Oracle, rng: &mut Rng) {
         type Reading = fn(&[u8]) -> vd::PortWords;
         type Mirrored = fn(&[u8], &mut [u8]) -> vd::NotedWords;
-        let (what, name, export, mirrored): (_, _, Reading, Mirrored) = match rng.below(3) {
-            0 => (Glance::KeyboardWaits, "vd_keyboard_waits", vd::keyboard_waits, rusts::keyboard_waits),
-            1 => (Glance::MouseWaits, "vd_mouse_waits", vd::mouse_waits, rusts::mouse_waits),
-            _ => (Glance::Scancode, "vd_keyboard_read_scancode", vd::keyboard_read_scancode, rusts::keyboard_read_scancode),
+        let (what, name, told, export, mirrored): (_, _, _, Reading, Mirrored) = match rng.below(3) {
+            0 => (
+                Glance::KeyboardWaits,
+                "vd_keyboard_waits",
+                by::KEYBOARD_WAITS,
+                vd::keyboard_waits,
+                rusts::keyboard_waits,
+            ),
+            1 => (
+                Glance::MouseWaits,
+                "vd_mouse_waits",
+                by::MOUSE_WAITS,
+                vd::mouse_waits,
+                rusts::mouse_waits,
+            ),
+            _ => (
+                Glance::Scancode,
+                "vd_keyboard_read_scancode",
+                by::KEYBOARD_READ_SCANCODE,
+                vd::keyboard_read_scancode,
+                rusts::keyboard_read_scancode,
+            ),
         };
         self.begin(true);
         let script: Vec<u8> = (0..rng.below(3)).map(|_| rng.next() as u8).collect();
@@ -227,6 +246,11 @@ impl Comparison {
                 "the Rust",
                 &format!("{expected:?}"),
             )
+        }
+        if let Err(why) =
+            self.port.alike_by_bytes((told, 0), &script, answer, &[], &[answer.value])
+        {
+            differ(self.calls, &format!("{name} {script:02X?}"), &why, "and that is wrong", "")
         }
         let mirrors = mirrored(&script, &mut []).answer;
         if mirrors != expected {
@@ -244,6 +268,10 @@ impl Comparison {
         let room = if rng.once_in(3) { rng.below(12) } else { 20 };
         let mut log = vec![0; room];
         let answer = self.port.note("vd_keyboard_repeat", vd::keyboard_repeat(byte as u32, &script, &mut log));
+        let told = (by::KEYBOARD_REPEAT, byte.into());
+        if let Err(why) = self.port.alike_by_bytes(told, &script, answer, &log, &[]) {
+            differ(self.calls, &format!("vd_keyboard_repeat {byte} {script:02X?}"), &why, "and that is wrong", "")
+        }
         let (end, used, logged) = plain_handler::repeat(rust, byte, &script, room);
         let port = if end == 2 { rust.port_lacked() as u32 } else { 0 };
         let expected = vd::PortWords { refusal: end as u32, port, used, pairs: logged.len() / 2, value: 0 };

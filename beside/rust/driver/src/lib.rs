@@ -1,6 +1,7 @@
 //! The parts of the driver, which programs that measure have too: see ../../../README.md.
 
 pub mod answer;
+pub mod by_bytes;
 pub mod call;
 pub mod chance;
 pub mod compare;

@@ -38,6 +38,7 @@ words! {
     HandledWords { refusal: u32, lamps: u32, used: usize, pairs: usize, dropped: u32, port: u32 }
     TakenWords { refusal: u32, side: u32, keycode: u32, action: u32, flags: u32 }
     StepWords { refusal: u32, source: u32, call: HandledWords, packet: PacketWords }
+    RequestWords { kind: u32, port: u32, byte: u32, refusal: u32 }
     ConvertedWords { refusal: u32, used: usize, written: usize }
     WrittenWords { refusal: u32, written: usize }
     SalvagedWords { refusal: u32, used: usize, packet_bytes: usize, dropped: usize }
@@ -112,6 +113,10 @@ exports! {
     vd_mouse_resolution mouse_resolution(resolution: u32, script: &[u8], log: &mut [u8],) -> PortWords;
     vd_mouse_waits mouse_waits(script: &[u8],) -> PortWords;
     vd_mouse_read_packet mouse_read_packet(identity: u32, script: &[u8],) -> PacketWords;
+    vd_begin begin(words: &mut [u64], operation: u32, argument: u64,) -> RequestWords;
+    vd_next next(words: &mut [u64], byte: u32,) -> RequestWords;
+    vd_wanted wanted(words: &[u64],) -> RequestWords;
+    vd_step_kept step_kept(words: &[u64],) -> KeptWords;
     vd_handler_fresh handler_fresh(words: &mut [u64], keyboards: u32, profile: u32,) -> u32;
     vd_handle handle(words: &mut [u64], side: u32, script: &[u8], log: &mut [u8],) -> HandledWords;
     vd_take take(words: &mut [u64],) -> TakenWords;

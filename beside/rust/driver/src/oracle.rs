@@ -274,6 +274,13 @@ impl Oracle {
                     let _ = black_box(reach::command_to_keyboard(&keyboard, byte));
                 })
             }
+            Op::Keyboard(KeyboardOp::SetLed(bits)) => {
+                let keyboard = PS2Keyboard::new(c);
+                (0..times).for_each(|_| {
+                    again();
+                    let _ = black_box(keyboard.set_keyboard_led(black_box(leds(bits))));
+                })
+            }
             Op::ToAscii(keycode, flags) => drop(answer_to_ascii(keycode, flags, times)),
             ref op if op.takes_bytes() => plain::repeat(call, times),
             _ => unreachable!("{} is not measured", call.op.name()),

@@ -1,6 +1,7 @@
 //! A call made by the port's exports, those of the library and those for tests alone: its answer. What an answer says too much is an error.
 
 use crate::answer::{Answer, Done, Keyboard, Packet, Record, Value};
+use crate::by_bytes::operation as by;
 use crate::call::{Call, Controller, Handler, KeyEvent, KeyboardOp, MouseOp, Op, Side, Step, MOST_CALLS};
 use crate::device::Rng;
 use crate::dispatch::{Dispatch, Dispatched, Made, Move};
@@ -328,6 +329,12 @@ impl Port {
             mouse: is(controller.mouse)?,
         };
         let answer = PortWords { refusal, port, used, pairs, value: 0 };
+        let [init, kbd, mouse] = [init, kbd, mouse].map(u64::from);
+        let came = self.by_bytes(by::CONTROLLER_INIT, init | kbd << 1 | mouse << 2, script, log.bytes.len())?;
+        came.is_as(answer, &log.bytes)?;
+        if !matches!(refusal, 2 | 3) {
+            came.gives(&[left.init, left.kbd, left.mouse].map(u64::from))?;
+        }
         self.call_answer(answer, log, Value::Nothing, Record::Controller(left))
     }
 
@@ -373,6 +380,14 @@ impl Port {
             _ => return Err("there is no export".to_string()),
         };
         answer = self.note(name, answer);
+        if let Some(told) = Self::told_by_bytes(op) {
+            let came = self.by_bytes(told.0, told.1, script, room)?;
+            came.is_as(answer, &log.bytes)?;
+            // The identity that is left is told after a refusal too.
+            if !matches!(answer.refusal, 2 | 3) {
+                came.gives(&[answer.value])?;
+            }
+        }
         let number = answer.value;
         let value = match op {
             Op::Mouse(M::SetId, _) => {
@@ -392,6 +407,29 @@ impl Port {
             _ => Value::Nothing,
         };
         self.call_answer(answer, log, value, record)
+    }
+
+    /// The operation a byte at a time, and its argument.
+    fn told_by_bytes(op: &Op) -> Option<(u32, u64)> {
+        use KeyboardOp as K;
+        use MouseOp as M;
+        Some(match *op {
+            Op::Keyboard(K::Reset) => (by::KEYBOARD_RESET, 0),
+            Op::Keyboard(K::SetScancodeSet(set)) if set > 0 => (by::KEYBOARD_SET_SCANCODE_SET, set.into()),
+            Op::Keyboard(K::GetScancodeSet) => (by::KEYBOARD_SCANCODE_SET, 0),
+            Op::Keyboard(K::Detect) => (by::KEYBOARD_DETECT, 0),
+            Op::Keyboard(K::Command(byte)) => (by::KEYBOARD_COMMAND, byte.into()),
+            Op::Keyboard(K::SetLed(lamps)) => (by::KEYBOARD_LAMPS, lamps.into()),
+            Op::Mouse(M::Reset, _) => (by::MOUSE_RESET, 0),
+            Op::Mouse(M::Enable, _) => (by::MOUSE_START_PACKETS, 0),
+            Op::Mouse(M::Disable, _) => (by::MOUSE_STOP_PACKETS, 0),
+            Op::Mouse(M::Id, _) => (by::MOUSE_IDENTITY, 0),
+            Op::Mouse(M::SetId, id) => (by::MOUSE_SET_IDENTITY, id.unwrap_or(0).into()),
+            Op::Mouse(M::SetSamplingRate(rate), _) => (by::MOUSE_SAMPLING_RATE, rate.into()),
+            Op::Mouse(M::Resolution(resolution), _) => (by::MOUSE_RESOLUTION, resolution.into()),
+            Op::Mouse(M::Command(byte), _) => (by::MOUSE_COMMAND, byte.into()),
+            _ => return None,
+        })
     }
 
     fn packet(&mut self, op: &Op, id: u8, script: &[u8], room: usize) -> Result<Answer, String> {
@@ -448,7 +486,11 @@ impl Port {
             }
             _ => return Err(format!("{} hands back no bytes", op.name())),
         };
-        let (answer, bytes, others) = without_bytes(self.note(name, answer))?;
+        let answer = self.note(name, answer);
+        if let Some(told) = Self::told_by_bytes(op) {
+            self.kept_by_bytes(told, script, answer, &log.bytes)?;
+        }
+        let (answer, bytes, others) = without_bytes(answer)?;
         let record = match *op {
             Op::Mouse(_, Some(id)) => Record::Mouse(id),
             _ => Record::Nothing,
@@ -470,6 +512,7 @@ impl Port {
         if let Some(wrong) = words::first_wrong(&left, &words) {
             return Err(wrong);
         }
+        self.alike_by_bytes((by::KEYBOARD_INIT, 0), script, answer, &log.bytes, &[])?;
         let record = if answer.refusal == 0 { Record::Handler(shown(&words)) } else { Record::NoHandler };
         self.call_answer(answer, log, Value::Nothing, record)
     }

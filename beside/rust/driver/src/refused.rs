@@ -1,6 +1,7 @@
 //! Calls that the by-value functions can't be given: an argument that stands for nothing, 255, and a lent record of another length or
 //! with a start or a count that no line can tell, 21. All else is 0, a report as it was, and nothing is changed.
 
+use crate::by_bytes::{operation, STEP_WORDS};
 use crate::call::{KEYBOARD_COMMANDS, LAST_KEYCODE, MOUSE_COMMANDS, RATES, RELEASE_KEYCODES};
 use crate::device::{Rng, TELLING};
 use crate::library::{self as vd, *};
@@ -91,7 +92,7 @@ fn length(rng: &mut Rng, right: usize, is_wrong: bool) -> usize {
 }
 
 /// How many kinds of such calls there are.
-pub const KINDS: usize = 35;
+pub const KINDS: usize = 39;
 
 pub fn check(kind: usize, port: &mut Port) -> Result<(), String> {
     let mut rng = port.rng.clone();
@@ -266,6 +267,63 @@ pub fn check(kind: usize, port: &mut Port) -> Result<(), String> {
             let (bench, number) = (plain(rng), none_of(rng, &identities));
             let answer = port.note("vdt_mouse_read_packet", vd::mouse_read_rust_packet(number, &bench.script));
             bench.ended("vdt_mouse_read_packet", answer, refusing(RustPacketWords::zero(), MEANS_NOTHING))
+        }
+        // A byte at a time: operation and argument are asked before the length.
+        35 | 36 => {
+            let length = length(rng, STEP_WORDS, false);
+            let mut bench = Bench::new(rng, length);
+            let known: Vec<u32> = (1..=operation::LAST).collect();
+            let (told, argument) = if kind == 35 {
+                (none_of(rng, &known), rng.below(4) as u64)
+            } else {
+                let arguments = [
+                    (operation::CONTROLLER_INIT, (0..8).collect()),
+                    (operation::KEYBOARD_RESET, vec![0]),
+                    (operation::KEYBOARD_COMMAND, KEYBOARD_COMMANDS.map(u32::from).to_vec()),
+                    (operation::KEYBOARD_LAMPS, (0..8).collect()),
+                    (operation::KEYBOARD_SET_SCANCODE_SET, vec![1, 2, 3]),
+                    (operation::KEYBOARD_REPEAT, (0..256).collect()),
+                    (operation::MOUSE_SET_IDENTITY, identities.to_vec()),
+                    (operation::MOUSE_COMMAND, MOUSE_COMMANDS.map(u32::from).to_vec()),
+                    (operation::MOUSE_SAMPLING_RATE, RATES.map(u32::from).to_vec()),
+                    (operation::MOUSE_RESOLUTION, (0..4).collect()),
+                ];
+                let (told, meant) = &arguments[rng.below(arguments.len())];
+                // A number that is meant, with a bit above its 32, is not.
+                let wide = u64::from(rng.pick(meant)) | 1 << (32 + rng.below(32));
+                (*told, if rng.once_in(4) { wide } else { none_of(rng, meant).into() })
+            };
+            let answer = port.note("vd_begin", vd::begin(&mut bench.words, told, argument));
+            bench.ended(&format!("vd_begin {told} {argument}"), answer, refusing(RequestWords::zero(), MEANS_NOTHING))
+        }
+        37 => {
+            let length = length(rng, STEP_WORDS, true);
+            let mut bench = Bench::new(rng, length);
+            let answer = port.note("vd_begin", vd::begin(&mut bench.words, operation::KEYBOARD_LAMPS, 1));
+            bench.ended("vd_begin", answer, refusing(RequestWords::zero(), MALFORMED))
+        }
+        // Numbers by chance are no operation's, nor are those of one that has another length; 256 is no byte.
+        38 => {
+            let mut bench = Bench::new(rng, STEP_WORDS);
+            let (is_begun, is_byte) = (rng.once_in(2), rng.once_in(2));
+            if is_begun {
+                vd::begin(&mut bench.words, operation::KEYBOARD_LAMPS, 4);
+                if is_byte {
+                    bench.words.pop();
+                }
+                bench.before.clone_from(&bench.words);
+            }
+            let byte = if is_byte { rng.below(256) as u32 } else { none_of(rng, &(0..256).collect::<Vec<_>>()) };
+            let refusal = if is_byte { MALFORMED } else { MEANS_NOTHING };
+            if is_byte {
+                let wanted = port.note("vd_wanted", vd::wanted(&bench.words));
+                let kept = port.note("vd_step_kept", vd::step_kept(&bench.words));
+                if (wanted, kept) != (refusing(RequestWords::zero(), refusal), refusing(KeptWords::zero(), refusal)) {
+                    return Err(format!("numbers that are no operation's: {wanted:?} and {kept:?}"));
+                }
+            }
+            let answer = port.note("vd_next", vd::next(&mut bench.words, byte));
+            bench.ended(&format!("vd_next {byte}"), answer, refusing(RequestWords::zero(), refusal))
         }
         _ => {
             let (bench, number) = (plain(rng), none_of(rng, &identities));
