@@ -58,12 +58,7 @@ fn call_by_value(
 }
 
 // A handler call on the state alone: whoever holds the places stores the event.
-fn call_on_state(
-    mut state: HandlerState,
-    side: Side,
-    script: &[u8],
-    log: &mut [u8],
-) -> HandlerState
+fn call_on_state(mut state: HandlerState, side: Side, script: &[u8], log: &mut [u8]) -> HandlerState
     ensures { (result ≡ (effects keyboard_lamps side state script.now log.old).state) × (log.new ≡ log_left keyboard_lamps side state script.now log.old) }
 {
     handle_state(&mut state, side, script, log);

@@ -9,7 +9,7 @@ use Rattle.std.proofs.lemmas.Slice.Eq.{bytes_eq-Decides}
 
 pub another : (a b : List ℕ) → false ≡ bytes_eq a b → bytes_eq b a ≡ false
 another a b e = by (bytes_eq b a) refl
-    where
-      by : (x : Bool) → bytes_eq b a ≡ x → x ≡ false
-      by true q = absurd (true≢false (sym ((bytes_eq-Decides a b).1 (sym ((bytes_eq-Decides b a).0 q))) ∙ sym e))
-      by false q = refl
+  where
+    by : (x : Bool) → bytes_eq b a ≡ x → x ≡ false
+    by true q = absurd (true≢false (sym ((bytes_eq-Decides a b).1 (sym ((bytes_eq-Decides b a).0 q))) ∙ sym e))
+    by false q = refl

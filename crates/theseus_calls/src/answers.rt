@@ -145,10 +145,7 @@ fn with_bytes(answer: PortWords, kept: KeptBytes) -> NotedWords
 }
 
 // What a function of the Rust answered, and how it left its recording.
-pub fn recorded_words<V: Value>(
-    rusts: Result<V, &'static str>,
-    left: &Recording<'_>,
-) -> NotedWords
+pub fn recorded_words<V: Value>(rusts: Result<V, &'static str>, left: &Recording<'_>) -> NotedWords
     ensures { result ≡ told_recorded V.worth (said rusts.entry) left.now }
 {
     let answer = run_words(rusts, left.short, left.asked, left.used, left.pairs);

@@ -15,8 +15,8 @@ use crate::arguments::set_of;
 use argument_words::MEANS_NOTHING;
 use ps2_bytes::{HostToDevice, HostToKeyboardCommandOrData, ScancodeSet};
 use ps2_layouts::ControllerConfigurationByte;
-use theseus_ps2::both_controller::{rusts_polling_receive, rusts_polling_send};
 use theseus_ps2::Recording;
+use theseus_ps2::both_controller::{rusts_polling_receive, rusts_polling_send};
 
 /// Has the controller test itself.
 #[unsafe(no_mangle)]
@@ -65,11 +65,7 @@ pub extern "C" fn vdr_configuration_read(script: &[u8], log: &mut [u8]) -> Noted
     configuration_words(config, &controller.hardware)
 }
 
-fn written(
-    configuration: ControllerConfigurationByte,
-    script: &[u8],
-    log: &mut [u8],
-) -> NotedWords
+fn written(configuration: ControllerConfigurationByte, script: &[u8], log: &mut [u8]) -> NotedWords
     ensures { TellsNoted no_value (write_config configuration) script.now log.old result }
 {
     let mut controller = begun(script, log);
@@ -86,7 +82,11 @@ pub extern "C" fn vdr_configuration_write(
 ) -> NotedWords
     ensures { TellsNoted no_value (write_config (record { bits = configuration })) script.now log.old result }
 {
-    written(ControllerConfigurationByte::from(configuration), script, log)
+    written(
+        ControllerConfigurationByte::from(configuration),
+        script,
+        log,
+    )
 }
 
 fn polling_send(set: ScancodeSet, script: &[u8], log: &mut [u8]) -> NotedWords

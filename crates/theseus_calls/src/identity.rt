@@ -17,8 +17,8 @@ use port_words::{PortWords, Value, packet_words};
 use ps2_answers::Counted;
 use ps2_bytes::MouseId;
 use ps2_packet::{MousePacket, SignedPacket};
-use theseus_ps2::both_identity::{rusts_read_mouse_packet, rusts_set_mouse_id};
 use theseus_ps2::Recording;
+use theseus_ps2::both_identity::{rusts_read_mouse_packet, rusts_set_mouse_id};
 
 // What setting the identity of a record answered, and the identity that is left: as passed in where the run fell short.
 fn identified_words(
@@ -29,7 +29,11 @@ fn identified_words(
 ) -> NotedWords
     ensures { result ≡ identified_recorded passed (said answer.entry) id left.now }
 {
-    let value = if left.short { passed.number() } else { id.number() };
+    let value = if left.short {
+        passed.number()
+    } else {
+        id.number()
+    };
     let words = recorded_words(answer, left);
     NotedWords {
         answer: PortWords {
@@ -51,11 +55,7 @@ fn set_identity(id: MouseId, script: &[u8], log: &mut [u8]) -> NotedWords
 /// Sets the identity of a record that has this one to the highest that the mouse takes on. The value is
 /// the identity of the record that is left, after a refusal too.
 #[unsafe(no_mangle)]
-pub extern "C" fn vdr_mouse_set_identity(
-    identity: u32,
-    script: &[u8],
-    log: &mut [u8],
-) -> NotedWords
+pub extern "C" fn vdr_mouse_set_identity(identity: u32, script: &[u8], log: &mut [u8]) -> NotedWords
     ensures { TellsIdentifiedAt (identity_at identity) script.now log.old result }
 {
     match identity_of(identity) {
@@ -113,7 +113,11 @@ fn packet_noted_words(packet: MousePacket, left: &Recording<'_>) -> PacketNotedW
     ensures { result ≡ packet_recorded packet left.now }
 {
     PacketNotedWords {
-        packet: if left.short { NO_PACKET } else { packet_fields(packet) },
+        packet: if left.short {
+            NO_PACKET
+        } else {
+            packet_fields(packet)
+        },
         run: recorded_words(Ok(()), left),
     }
 }

@@ -68,11 +68,7 @@ pub extern "C" fn vdr_keyboard_data_set(set: u32, script: &[u8], log: &mut [u8])
     ensures { TellsNotedAt no_value commanding_set (set_at set) script.now log.old result }
 {
     match set_of(set) {
-        Some(known) => command(
-            HostToKeyboardCommandOrData::ScancodeSet(known),
-            script,
-            log,
-        ),
+        Some(known) => command(HostToKeyboardCommandOrData::ScancodeSet(known), script, log),
         None => refusing_noted_words(MEANS_NOTHING),
     }
 }

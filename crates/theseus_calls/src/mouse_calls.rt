@@ -138,11 +138,7 @@ fn set_resolution(resolution: MouseResolution, script: &[u8], log: &mut [u8]) ->
 
 /// Sets the mouse's resolution.
 #[unsafe(no_mangle)]
-pub extern "C" fn vdr_mouse_resolution(
-    resolution: u32,
-    script: &[u8],
-    log: &mut [u8],
-) -> NotedWords
+pub extern "C" fn vdr_mouse_resolution(resolution: u32, script: &[u8], log: &mut [u8]) -> NotedWords
     ensures { TellsNotedAt no_value set_resolution (resolution_at resolution) script.now log.old result }
 {
     match resolution_of(resolution) {

@@ -178,7 +178,9 @@ pub fn both_keyboard_detect<'a>(
     }
 }
 
-pub fn rusts_keyboard_output_buffer_full<H: Hardware + Drop>(controller: &mut PS2Controller<H>) -> bool
+pub fn rusts_keyboard_output_buffer_full<H: Hardware + Drop>(
+    controller: &mut PS2Controller<H>,
+) -> bool
     ensures { ran (gives result) controller.new ≡ run (on_controller H.device) keyboard_output_buffer_full controller.old }
 {
     PS2Keyboard::new(controller).is_output_buffer_full()

@@ -7,7 +7,7 @@ use Rattle.theseus_calls.proofs.Left.{initialized, now_told}
 use Rattle.theseus_calls.proofs.initialization.initialized.Goals as goal
 
 pub returns : goal.returns
-returns c = 
+returns c =
     let i = c.init-answer.ensures in
     let p = c.args.passed in
     initialized c.args.numbers (initialize p) _ _ c.new.ensures

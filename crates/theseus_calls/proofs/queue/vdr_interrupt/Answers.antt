@@ -2,7 +2,7 @@
 use Rattle.theseus_calls.proofs.queue.vdr_interrupt.Goals as goal
 
 pub returns : goal.returns
-returns c = 
+returns c =
     record {
       begun = c.begun-controller.result;
       left = c.interrupted.new.controller;
