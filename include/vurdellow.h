@@ -6,10 +6,10 @@
    too), and that what it writes overlaps nothing else that it is lent. Any contents will do.
 
    A script holds the bytes that are read from ports 0x60 and 0x64, in the order of the reads. A log takes two bytes for each write, the
-   port and the value; what lies behind the pairs that were written is left as it was. Answers tell how many script bytes were used, and
+   port and the value; the log behind the pairs that were written is left as it was. Answers tell how many script bytes were used, and
    how many pairs were written.
 
-   A refusal is a number: 0 none, 1 to 33 as in docs/REFUSALS.md, and 255 where an argument stands for nothing (no such side, identity,
+   A refusal is a number: 0 none, 1 to 33 as in docs/REFUSALS.md, and 255 if an argument means nothing (no such side, identity,
    table ..): then nothing was read, written or changed, and all other fields of the answer are 0, but that a report comes back as it was. */
 #ifndef VURDELLOW_H
 #define VURDELLOW_H
@@ -29,10 +29,10 @@ extern "C" {
 /* ---- sizes */
 
 /* How many numbers a handler's record has, and a dispatcher's state, which begins with a handler's record. Aligned to 128 bytes, its first
-   sixteen lie on one page; elsewhere a call can take longer, and is otherwise the same (docs/USING.md). */
+   sixteen are on one page; elsewhere a call can take longer, and is otherwise the same (docs/USING.md). */
 #define VD_HANDLER_WORDS 144
 #define VD_DISPATCHER_WORDS 149
-/* Where in them it says the flags of either side and how many of its bytes wait, and how many events wait .. */
+/* The places in them of the flags of either side, of how many of its bytes wait, and of how many events wait .. */
 #define VD_FIRST_FLAGS 1
 #define VD_FIRST_WAITING 2
 #define VD_SECOND_FLAGS 6
@@ -42,7 +42,7 @@ extern "C" {
 #define VD_IDENTITY_AT 144
 #define VD_PLACES_AT 145
 #define VD_LAST_SERVED_AT 148
-/* How many events wait at most, and of one side where there are two keyboards. */
+/* How many events wait at most, and of one side if there are two keyboards. */
 #define VD_QUEUE_LENGTH 128
 #define VD_SIDE_LENGTH 96
 /* Bytes that a command threw away and hands back; keys that a report counts. */
@@ -259,8 +259,8 @@ enum vd_keycode {
 
 /* ---- answers and records */
 
-/* What an operation on the ports answers. `port` is VD_DATA_PORT or VD_STATUS_PORT where `refusal` is 2, the port of the read that the
-   script was too short for, and otherwise 0. `value` is what the operation gives, 0 where it gives nothing or is refused. */
+/* What an operation on the ports answers. `port` is VD_DATA_PORT or VD_STATUS_PORT if `refusal` is 2, the port of the read that the
+   script was too short for, and otherwise 0. `value` is what the operation gives, 0 if it gives nothing or is refused. */
 typedef struct vd_answer {
     uint32_t refusal;
     uint32_t port;
@@ -282,7 +282,7 @@ typedef struct vd_kept {
 } vd_kept;
 
 /* A mouse packet that was read: buttons by vd_button, x and y from -256 to 255, and the wheel, signed at every identity.
-   All are 0 where it is refused. */
+   All are 0 if it is refused. */
 typedef struct vd_packet {
     uint32_t refusal;
     uint32_t port;
@@ -301,7 +301,7 @@ typedef struct vd_controller {
     uint32_t mouse;
 } vd_controller;
 
-/* What initialisation answers, with the record that it leaves: as it was passed, number by number, where it is refused. */
+/* What initialisation answers, with the record that it leaves: as it was passed, number by number, if it is refused. */
 typedef struct vd_initialized {
     uint32_t refusal;
     uint32_t port;
@@ -310,7 +310,7 @@ typedef struct vd_initialized {
     vd_controller controller;
 } vd_initialized;
 
-/* What a handler call answers. `lamps` is 14 where a lock's lamp exchange failed, which changes nothing else, and otherwise 0; `dropped`
+/* What a handler call answers. `lamps` is 14 if a lock's lamp exchange failed, which changes nothing else, and otherwise 0; `dropped`
    is how many bytes of the exchange were lost for want of room. */
 typedef struct vd_handled {
     uint32_t refusal;
@@ -321,7 +321,7 @@ typedef struct vd_handled {
     uint32_t port;
 } vd_handled;
 
-/* An event that was taken: its side, keycode, action and flags. `side` is 0, as all other fields, where none waited or it is refused. */
+/* An event that was taken: its side, keycode, action and flags. `side` is 0, as all other fields, if none waited or it is refused. */
 typedef struct vd_taken {
     uint32_t refusal;
     uint32_t side;
@@ -330,8 +330,8 @@ typedef struct vd_taken {
     uint32_t flags;
 } vd_taken;
 
-/* What a step answers: who was served, by vd_source, and what the one call that was made answered. `call` is all 0 where no side was
-   served, `packet` where no packet was read; `refusal` is that of the call. */
+/* What a step answers: who was served, by vd_source, and what the one call that was made answered. `call` is all 0 if no side was
+   served, `packet` if no packet was read; `refusal` is that of the call. */
 typedef struct vd_step {
     uint32_t refusal;
     uint32_t source;
@@ -356,7 +356,7 @@ typedef struct vd_converted {
     size_t written;
 } vd_converted;
 
-/* What a writing answers: how many bytes of the output were written, none where it is refused. */
+/* What a writing answers: how many bytes of the output were written, none if it is refused. */
 typedef struct vd_written {
     uint32_t refusal;
     size_t written;
@@ -381,13 +381,13 @@ typedef struct vd_preferences {
     uint32_t repeat;
 } vd_preferences;
 
-/* Preferences that were read, all 0 where the reading is refused. */
+/* Preferences that were read, all 0 if the reading is refused. */
 typedef struct vd_preferences_read {
     uint32_t refusal;
     vd_preferences preferences;
 } vd_preferences_read;
 
-/* What the writing of preferences answers: how many bytes were written, none where it is refused. */
+/* What the writing of preferences answers: how many bytes were written, none if it is refused. */
 typedef struct vd_preferences_written {
     uint32_t refusal;
     size_t written;
@@ -401,7 +401,7 @@ typedef struct vd_report {
     int32_t y;
 } vd_report;
 
-/* A report with a session more, or as it was where that is refused. */
+/* A report with a session more, or as it was if that is refused. */
 typedef struct vd_report_added {
     uint32_t refusal;
     vd_report report;
@@ -415,14 +415,14 @@ typedef struct vd_long_report {
     int64_t y;
 } vd_long_report;
 
-/* A long report with a session more, or as it was where that is refused. */
+/* A long report with a session more, or as it was if that is refused. */
 typedef struct vd_long_added {
     uint32_t refusal;
     vd_long_report report;
 } vd_long_added;
 
 /* A mean movement: packets * quotient + remainder is the sum, and the remainder is below the packets and never negative.
-   `present` is 1, or 0 where there are no packets: then both numbers are 0. */
+   `present` is 1, or 0 if there are no packets: then both numbers are 0. */
 typedef struct vd_mean {
     uint32_t present;
     int64_t quotient;
@@ -475,7 +475,7 @@ vd_initialized vd_controller_init(vd_controller controller, const uint8_t *scrip
 /* ---- the keyboard */
 
 /* Makes the record fresh for a table (1 or 2 keyboards, profile 0 or 1), detects the first keyboard and asks it for scancode set 1.
-   After 255, 21 (not 144 numbers), 2 and 3 the numbers are as they were; otherwise the record is fresh, also where the keyboard didn't
+   After 255, 21 (not 144 numbers), 2 and 3 the numbers are as they were; otherwise the record is fresh, also if the keyboard didn't
    do what it was asked: 4 to 7, 11, 18. */
 vd_answer vd_keyboard_init(uint64_t *words, size_t words_length, uint32_t keyboards, uint32_t profile, const uint8_t *script, size_t script_length, uint8_t *log, size_t log_length);
 
@@ -507,7 +507,7 @@ vd_answer vd_keyboard_detect(const uint8_t *script, size_t script_length, uint8_
    Refused 2 to 7. */
 vd_answer vd_keyboard_repeat(uint32_t byte, const uint8_t *script, size_t script_length, uint8_t *log, size_t log_length);
 
-/* Reads the status once: the value is 1 where the keyboard has a byte to read, and otherwise 0.
+/* Reads the status once: the value is 1 if the keyboard has a byte to read, and otherwise 0.
    Refused 2. */
 vd_answer vd_keyboard_waits(const uint8_t *script, size_t script_length);
 
@@ -549,7 +549,7 @@ vd_answer vd_mouse_sampling_rate(uint32_t rate, const uint8_t *script, size_t sc
    Refused 2, 3 and 15. */
 vd_answer vd_mouse_resolution(uint32_t resolution, const uint8_t *script, size_t script_length, uint8_t *log, size_t log_length);
 
-/* Reads the status once: the value is 1 where the mouse has a byte to read, and otherwise 0.
+/* Reads the status once: the value is 1 if the mouse has a byte to read, and otherwise 0.
    Refused 2. */
 vd_answer vd_mouse_waits(const uint8_t *script, size_t script_length);
 
@@ -560,25 +560,25 @@ vd_packet vd_mouse_read_packet(uint32_t identity, const uint8_t *script, size_t 
 /* ---- the handler, whose record is 144 numbers lent by the caller */
 
 /* Makes the numbers a fresh record for a table with 1 keyboard or 2, under profile 0 (any keys) or 1 (tournament keys).
-   Gives the refusal: 255, or 21 where they are not 144. Then they are as they were. */
+   Gives the refusal: 255, or 21 if they are not 144. Then they are as they were. */
 uint32_t vd_handler_fresh(uint64_t *words, size_t words_length, uint32_t keyboards, uint32_t profile);
 
 /* Handles one byte of a side, its oldest waiting one or otherwise the next of the script; a lock also runs its lamp exchange.
    Refused 2, 3, 21 with the record as it was; after 19, 20, 31, 33 flags and prefix have moved on and the queue has not changed. */
 vd_handled vd_handle(uint64_t *words, size_t words_length, uint32_t side, const uint8_t *script, size_t script_length, uint8_t *log, size_t log_length);
 
-/* Takes the oldest event out of the record; `side` is 0 where none waits.
+/* Takes the oldest event out of the record; `side` is 0 if none waits.
    Refused 21, with the record as it was. */
 vd_taken vd_take(uint64_t *words, size_t words_length);
 
 /* ---- bytes */
 
-/* The ASCII character of a key under flags, 0 where it has none.
-   255 where the keycode is none or the flags are above 65535. */
+/* The ASCII character of a key under flags, 0 if it has none.
+   255 if the keycode is none or the flags are above 65535. */
 uint32_t vd_character(uint32_t keycode, uint32_t flags);
 
-/* The byte by which a report takes an event: the keycode where it is a press, and from 128 on where it is a release.
-   255 where the keycode or the action is none. */
+/* The byte by which a report takes an event: the keycode if it is a press, and from 128 on if it is a release.
+   255 if the keycode or the action is none. */
 uint32_t vd_event_code(uint32_t keycode, uint32_t action);
 
 /* Converts scancodes of set 2 to set 1, from the start of `stream` to the start of `out`.
@@ -590,13 +590,13 @@ vd_converted vd_convert_set2(const uint8_t *stream, size_t stream_length, uint8_
 vd_written vd_type_text(const uint8_t *text, size_t text_length, uint8_t *out, size_t out_length);
 
 /* Brings recorded mouse bytes back into step: whole packets go to `packets`, the positions of bytes between them to `positions`.
-   Refused 30 where one has no more room: what was written stays, and a pass from byte `used` on goes on. A cut last packet is left unused. */
+   Refused 30 if one has no more room: what was written stays, and a pass from byte `used` on goes on. A cut last packet is left unused. */
 vd_salvaged vd_salvage(uint32_t identity, const uint8_t *bytes, size_t bytes_length, uint8_t *packets, size_t packets_length, uint64_t *positions, size_t positions_length);
 
 /* ---- preferences */
 
 /* Writes preferences as bytes.
-   Refused 28, then 23, with the output as it was; 255 where the version is not 1 or 2. */
+   Refused 28, then 23, with the output as it was; 255 if the version is not 1 or 2. */
 vd_preferences_written vd_preferences_write(vd_preferences preferences, uint8_t *output, size_t output_length);
 
 /* Reads the four fields that records of both versions have: version is 1 in the answer, and repeat 0.
@@ -617,7 +617,7 @@ vd_answer vd_preferences_apply(vd_preferences preferences, const uint8_t *script
 vd_report vd_report_empty(void);
 
 /* Adds a session: its events, a byte each (vd_event_code), and its mouse bytes, in packets of one identity.
-   Refused 32 where a number would be outside its range, with the report as it was. */
+   Refused 32 if a number would be outside its range, with the report as it was. */
 vd_report_added vd_report_add(vd_report report, uint32_t identity, const uint8_t *events, size_t events_length, const uint8_t *mouse, size_t mouse_length);
 
 /* The mean movement sideways, and up or down. */
@@ -631,7 +631,7 @@ vd_long_report vd_report_widen(vd_report report);
 vd_long_report vd_long_report_empty(void);
 
 /* Adds a session, as vd_report_add does, within the wider limits.
-   Refused 32 where a number would be outside its range, with the report as it was. */
+   Refused 32 if a number would be outside its range, with the report as it was. */
 vd_long_added vd_long_report_add(vd_long_report report, uint32_t identity, const uint8_t *events, size_t events_length, const uint8_t *mouse, size_t mouse_length);
 
 /* The mean movement sideways, and up or down. */
@@ -641,11 +641,11 @@ vd_mean vd_long_report_mean_y(vd_long_report report);
 /* ---- the dispatcher, whose state is 149 numbers lent by the caller */
 
 /* Makes the numbers a fresh state: a fresh record for this table, a mouse of this identity, and nobody served yet.
-   Gives the refusal: 255, or 21 where they are not 149. Then they are as they were. */
+   Gives the refusal: 255, or 21 if they are not 149. Then they are as they were. */
 uint32_t vd_dispatcher_fresh(uint64_t *words, size_t words_length, uint32_t keyboards, uint32_t profile, uint32_t identity);
 
 /* Serves one source that waits, by turns: side 1, side 2, the mouse. Their scripts are passed whole: the state knows how far each is used.
-   Refused as the call that was made; the turn is used then too. 21 without a source, and nothing changed, where the numbers are not 149,
+   Refused as the call that was made; the turn is used then too. 21 without a source, and nothing changed, if the numbers are not 149,
    the mouse's identity is not 0, 3 or 4, or who was served last is above 3. vd_take(words, 144) takes the events. */
 vd_step vd_dispatcher_step(uint64_t *words, size_t words_length, const uint8_t *first, size_t first_length, const uint8_t *second, size_t second_length, const uint8_t *third, size_t third_length, uint8_t *log, size_t log_length);
 

@@ -62,7 +62,7 @@ pub struct Salvaged {
 
 /// Brings recorded mouse bytes back into step: whole packets go to `packets`, the positions of the bytes between them to `positions`.
 ///
-/// Refused with 30 where one has no more room: what was written stays, and a pass from byte `used` on goes on.
+/// Refused with 30 if one has no more room: what was written stays, and a pass from byte `used` on goes on.
 ///
 /// ```
 /// use vurdellow::{salvage, Identity};

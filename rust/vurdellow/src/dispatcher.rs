@@ -9,7 +9,7 @@ use crate::{Event, Handler, Identity, Keyboards, Profile, Side};
 /// How many numbers a dispatcher's state has; the first are its handler's record.
 pub const DISPATCHER_WORDS: usize = 149;
 
-/// Where in a state it says the mouse's identity, the places of the three scripts, and who was served last.
+/// The places in a state of the mouse's identity, of how far the three scripts are used, and of who was served last.
 pub(crate) const IDENTITY: usize = 144;
 pub(crate) const PLACES: usize = 145;
 pub(crate) const LAST: usize = 148;
@@ -118,7 +118,7 @@ impl Dispatcher {
     }
 
     /// The dispatcher that a state's numbers stand for, as [`words`](Dispatcher::words) gave them.
-    /// Refused with [`Refusal::MalformedRecord`] where its first 144 can't be a handler's record.
+    /// Refused with [`Refusal::MalformedRecord`] if its first 144 can't be a handler's record.
     pub fn from_words(words: [u64; DISPATCHER_WORDS]) -> Result<Dispatcher, Refusal> {
         let mut record = [0; HANDLER_WORDS];
         record.copy_from_slice(&words[..HANDLER_WORDS]);

@@ -76,7 +76,7 @@ pub fn drive<S: Steps>(ports: &mut (impl Ports + ?Sized), mut steps: S) -> S::Ou
     }
 }
 
-/// The same, with so many reads at most: `None` if the operation needs more. It goes on where it
+/// The same, with so many reads at most: `None` if the operation needs more. It goes on if it
 /// is, when it is driven again.
 ///
 /// ```

@@ -13,7 +13,7 @@ pub const HANDLER_LOG: usize = 20;
 /// Log bytes with which no call at all ends in [`Refusal::LogFull`].
 pub const LOG_BYTES: usize = 160;
 
-/// Where in a record it says the flags and the number of waiting bytes of either side, and the number of waiting events.
+/// The places in a record of the flags and the number of waiting bytes of either side, and of the number of waiting events.
 pub(crate) const FIRST_FLAGS: usize = 1;
 pub(crate) const FIRST_WAITING: usize = 2;
 pub(crate) const SECOND_FLAGS: usize = 6;
@@ -63,7 +63,7 @@ impl Profile {
 /// What a handler call did, refused or not.
 #[derive(Clone, Copy, Debug, Default, PartialEq, Eq)]
 pub struct Handled {
-    /// Script bytes used; none where a waiting byte was taken.
+    /// Script bytes used; none if a waiting byte was taken.
     pub used: usize,
     /// Pairs written to the log.
     pub pairs: usize,
@@ -126,7 +126,7 @@ impl Handler {
     }
 
     /// The handler that a record's numbers stand for, as [`words`](Handler::words) gave them.
-    /// Refused with [`Refusal::MalformedRecord`] where they can't be a record's.
+    /// Refused with [`Refusal::MalformedRecord`] if they can't be a record's.
     ///
     /// ```
     /// use vurdellow::{Handler, Keyboards, Profile, Refusal, HANDLER_WORDS};
@@ -135,7 +135,7 @@ impl Handler {
     /// assert_eq!(Handler::from_words([u64::MAX; HANDLER_WORDS]), Err(Refusal::MalformedRecord));
     /// ```
     pub fn from_words(words: [u64; HANDLER_WORDS]) -> Result<Handler, Refusal> {
-        // A taking is refused exactly where the record is malformed (`taken_number`); this one is from a copy.
+        // A taking is refused exactly if the record is malformed (`taken_number`); this one is from a copy.
         let mut tried = words;
         match Refusal::answered(raw::vd_take(&mut tried).refusal, 0) {
             None => Ok(Handler { words }),
@@ -164,7 +164,7 @@ impl Handler {
 
     /// Handles one byte of a side: the oldest that waits, or otherwise the next of the script. A lock also runs its lamp exchange.
     ///
-    /// After a lack (2, 3) and after 21, where the side is not at the table, the handler is as it was. After 19, 20, 31 and 33 flags and
+    /// After a lack (2, 3) and after 21 (the side is not at the table) the handler is as it was. After 19, 20, 31 and 33 flags and
     /// prefix have moved on, and no event was queued.
     pub fn handle(&mut self, side: Side, script: &[u8], log: &mut [u8]) -> Result<Handled, Refused<Handled>> {
         handled(raw::vd_handle(&mut self.words, side.number(), script, log))

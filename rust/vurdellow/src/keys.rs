@@ -220,7 +220,7 @@ pub enum Keycode {
     Unknown1 = 0x54,
     /// A key with no name, 55.
     Unknown2 = 0x55,
-    /// The key beside the left Shift on boards with 102 keys.
+    /// The key next to the left Shift on boards with 102 keys.
     NonUsBackslash = 0x56,
     /// F11.
     F11 = 0x57,
@@ -562,7 +562,7 @@ impl Event {
         raw::vd_event_code(u32::from(self.keycode.number()), self.action.number()) as u8
     }
 
-    /// The event that was taken; none where none waited or the taking was refused, which have side 0.
+    /// The event that was taken; none if none waited or the taking was refused, which have side 0.
     pub(crate) fn taken(taken: raw::vd_taken) -> Option<Event> {
         let side = match taken.side {
             1 => Side::First,

@@ -2,7 +2,7 @@
 //!
 //! There is no hardware in it. Each operation on the ports is a function of a *script*, the bytes that are read from ports 60 and 64 in
 //! order, and a *log*, which takes two bytes for each write: the port and the value. Its result tells how many script bytes were used and
-//! how many pairs were written. What lies behind them in the log is left as it was. A recording can be replayed so; `drive` runs an
+//! how many pairs were written. The log behind them is left as it was. A recording can be replayed so; `drive` runs an
 //! operation on real ports.
 //!
 //! A refusal is a [`Refusal`], whose [`number`](Refusal::number) the repository's docs/REFUSALS.md explains. Where a call was refused a

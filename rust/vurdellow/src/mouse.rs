@@ -4,7 +4,7 @@ use crate::keyboard::{commanded, Command};
 use crate::raw;
 use crate::refusal::{exchanged, settled, Counts, Done, Exchange, Refusal};
 
-/// A mouse's identity, which says what its packets hold.
+/// A mouse's identity, by which its packets have their form.
 #[derive(Clone, Copy, Debug, Default, PartialEq, Eq, Hash)]
 pub enum Identity {
     /// Packets of three bytes: three buttons and movement.
@@ -32,7 +32,7 @@ impl Identity {
         }
     }
 
-    /// The identity that a number stands for; as in a dispatcher's state any other stands for 0.
+    /// The identity of a number; as in a dispatcher's state any other number means 0.
     pub(crate) fn of(number: u64) -> Identity {
         match number {
             3 => Identity::Wheel,
@@ -173,7 +173,7 @@ pub enum Resolution {
 /// A mouse, with the identity that is known of it; the default is 0, as after a reset.
 #[derive(Clone, Copy, Debug, Default, PartialEq, Eq, Hash)]
 pub struct Mouse {
-    /// The identity, which says how long packets are.
+    /// The identity, by which packets have their length.
     pub identity: Identity,
 }
 

@@ -4,7 +4,7 @@
 
 #![allow(non_camel_case_types)]
 
-/// Declares functions of the library and makes a safe function of each, with slices where C has a pointer and a length.
+/// Declares functions of the library and makes a safe function of each, with a slice for each pointer and length of C.
 macro_rules! functions {
     ($(fn $name:ident($($arguments:tt)*) $(-> $answer:ty)?;)*) => {
         $(functions!(@ $name [$($answer)?] [] [] [] $($arguments)*);)*

@@ -1,4 +1,4 @@
-//! Why a call is refused, and what its answer has beside that.
+//! Why a call is refused, and what its answer has next to that.
 
 use core::error::Error;
 use core::fmt;
@@ -103,7 +103,7 @@ pub enum Refusal {
     OutOfRange,
     /// 33: the key is outside the tournament profile.
     OutsideProfile,
-    /// 255: an argument stands for nothing. The types here leave no such argument, so no function of this crate gives it.
+    /// 255: an argument means nothing. The types here leave no such argument, so no function of this crate gives it.
     MeansNothing,
 }
 
@@ -149,7 +149,7 @@ impl Refusal {
         }
     }
 
-    /// The refusal that an answer's numbers say, and none for 0. A `port` other than the two can't stand beside a 2.
+    /// The refusal of an answer's numbers, and none for 0. No `port` but the two comes with a 2.
     pub(crate) fn answered(refusal: u32, port: u32) -> Option<Refusal> {
         Some(match refusal {
             0 => return None,
@@ -314,7 +314,7 @@ pub trait Outcome {
     /// Pairs written to the log, after a refusal too.
     fn pairs(&self) -> usize;
 
-    /// The port that the whole run reads next, where the script ended before the call did.
+    /// The port that the whole run reads next, if the script ended before the call did.
     fn lacks(&self) -> Option<Port> {
         match self.refusal() {
             Some(Refusal::ScriptEnds(port)) => Some(port),

@@ -53,7 +53,7 @@ impl Report {
     }
 
     /// Adds a session: its events, a byte each ([`Event::code`](crate::Event::code)), and its mouse bytes, in packets of one identity.
-    /// Refused with 32 where a number would be outside its range, with the report as it was.
+    /// Refused with 32 if a number would be outside its range, with the report as it was.
     pub fn add(&mut self, identity: Identity, events: &[u8], mouse: &[u8]) -> Result<(), Refusal> {
         let raw::vd_report_added { refusal, report } =
             raw::vd_report_add(self.numbers(), identity.number(), events, mouse);
@@ -67,13 +67,13 @@ impl Report {
         self.presses.get(usize::from(keycode.number())).copied().unwrap_or(0)
     }
 
-    /// The mean movement sideways, where there are packets.
+    /// The mean movement sideways, if there are packets.
     #[must_use]
     pub fn mean_x(&self) -> Option<Mean> {
         mean(raw::vd_report_mean_x(self.numbers()))
     }
 
-    /// The mean movement up or down, where there are packets.
+    /// The mean movement up or down, if there are packets.
     #[must_use]
     pub fn mean_y(&self) -> Option<Mean> {
         mean(raw::vd_report_mean_y(self.numbers()))
@@ -123,7 +123,7 @@ impl LongReport {
     }
 
     /// Adds a session, as [`Report::add`] does, within the wider limits.
-    /// Refused with 32 where a number would be outside its range, with the report as it was.
+    /// Refused with 32 if a number would be outside its range, with the report as it was.
     pub fn add(&mut self, identity: Identity, events: &[u8], mouse: &[u8]) -> Result<(), Refusal> {
         let raw::vd_long_added { refusal, report } =
             raw::vd_long_report_add(self.numbers(), identity.number(), events, mouse);
@@ -137,13 +137,13 @@ impl LongReport {
         self.presses.get(usize::from(keycode.number())).copied().unwrap_or(0)
     }
 
-    /// The mean movement sideways, where there are packets.
+    /// The mean movement sideways, if there are packets.
     #[must_use]
     pub fn mean_x(&self) -> Option<Mean> {
         mean(raw::vd_long_report_mean_x(self.numbers()))
     }
 
-    /// The mean movement up or down, where there are packets.
+    /// The mean movement up or down, if there are packets.
     #[must_use]
     pub fn mean_y(&self) -> Option<Mean> {
         mean(raw::vd_long_report_mean_y(self.numbers()))
