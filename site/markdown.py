@@ -150,4 +150,6 @@ def listing(lines):
     while lines and not lines[-1].strip():
         lines = lines[:-1]
     edge = min((len(it) - len(it.lstrip()) for it in lines if it.strip()), default=0)
-    return f"<pre>{esc(chr(10).join(it[edge:] for it in lines), quote=False)}</pre>"
+    # The lines of a drawing are not broken: a reader moves it sideways.
+    opening = '<pre class="drawing" tabindex="0">' if any(sign in it for it in lines for sign in "│▶▼") else "<pre>"
+    return f"{opening}{esc(chr(10).join(it[edge:] for it in lines), quote=False)}</pre>"
