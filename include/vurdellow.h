@@ -70,10 +70,10 @@ enum vd_source { VD_NOBODY = 0, VD_FROM_SIDE_1 = 1, VD_FROM_SIDE_2 = 2, VD_FROM_
 enum vd_port { VD_DATA_PORT = 0x60, VD_STATUS_PORT = 0x64 };
 
 /* The operations that go a byte at a time (vd_begin). Each does what the function of its name
-   does. "of" tells its argument, which is 0 where nothing is told; "out" its outcome, which is 0
-   where nothing is told, and after a refusal but for those that tell otherwise. */
+   does. "of" names its argument, which is 0 if none is named. "out" names its outcome, which is 0
+   if none is named, and after a refusal unless the line tells otherwise. */
 enum vd_operation {
-    VD_CONTROLLER_INIT = 1,         /* of 1 where it is initialised + 2 with a keyboard + 4 with a mouse; out: these three, 0 or 1 each,
+    VD_CONTROLLER_INIT = 1,         /* of 1 if it is initialised + 2 with a keyboard + 4 with a mouse; out: these three, 0 or 1 each,
                                        and as they were passed after a refusal */
     VD_KEYBOARD_INIT = 2,           /* what vd_keyboard_init does at the ports; vd_handler_fresh makes the record */
     VD_KEYBOARD_RESET = 3,
@@ -96,7 +96,7 @@ enum vd_operation {
     VD_MOUSE_WAITS = 20             /* out: 0 or 1 */
 };
 
-/* What is to be done next: VD_DONE, as vd_refusal has it, says that the operation has ended. */
+/* What is to be done next. VD_DONE, the 0 of vd_refusal, means that the operation has ended. */
 enum vd_request_kind { VD_READ = 1, VD_WRITE = 2 };
 
 /* Lamps, added up. */
@@ -431,8 +431,8 @@ typedef struct vd_mean {
 
 /* ---- operations a byte at a time, in 256 numbers lent by the caller
 
-   For live ports: the library says what is to be done, the caller does it and says what came. No
-   call waits. An operation makes the reads and writes that its function makes, with a script of
+   For live ports: the library tells what is to be done, the caller does it and hands over what
+   came. No call waits. An operation makes the reads and writes that its function makes, with a script of
    what was read, and comes to the same.
 
        uint64_t words[VD_STEP_WORDS];
@@ -449,21 +449,22 @@ typedef struct vd_mean {
    that it has read so far, as examples/c/interrupt.c does. */
 
 /* Begins an operation, and gives what is to be done first. Any numbers may be lent: they are the
-   operation's then. VD_DONE with 255 where operation or argument stands for nothing, then with
-   21 where they are not 256: nothing has changed. */
+   operation's then. VD_DONE with 255 if the operation or its argument means nothing, then with
+   21 if there are not 256 numbers: nothing has changed. */
 vd_request vd_begin(uint64_t *words, size_t words_length, uint32_t operation, uint64_t argument);
 
-/* Goes on: `byte` is what the read brought, 0 to 255 (255 otherwise); after a write it is not
-   looked at. Gives what is to be done next. VD_DONE with 21 where the numbers are of no
-   operation that goes on: none was begun, or it has ended. Nothing has changed then. */
+/* Goes on: `byte` is what the read brought; after a write it is any byte, and changes nothing.
+   Gives what is to be done next. VD_DONE with 255 if `byte` is above 255, then with 21 if the
+   numbers are of no operation that goes on: none was begun, or it has ended. Nothing has changed
+   then. */
 vd_request vd_next(uint64_t *words, size_t words_length, uint32_t byte);
 
 /* What is to be done next, once more; at the end how it ended.
-   VD_DONE with 21 where the numbers are of no operation. */
+   VD_DONE with 21 if the numbers are of no operation. */
 vd_request vd_wanted(const uint64_t *words, size_t words_length);
 
 /* The bytes that were read and thrown away so far, as vd_kept has them; `port`, `used` and
-   `pairs` are 0. Refused 21 where the numbers are of no operation. */
+   `pairs` are 0. Refused 21 if the numbers are of no operation. */
 vd_kept vd_step_kept(const uint64_t *words, size_t words_length);
 
 /* ---- the controller */
