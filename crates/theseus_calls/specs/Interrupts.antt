@@ -72,8 +72,8 @@ interrupt_numbers left prefix flags queue waited =
       event = last_numbers queue waited;
     }
 
--- The numbers tell what the Rust's handler leaves, of which `Interrupted` says all, on a recording of this script and this log.
-pub record InterruptMade (prefix : Bool) (flags waited : ℕ) (script log : List ℕ) (words : InterruptWords) : Type 0 where
+-- The numbers tell what the Rust's handler leaves, of which `Interrupted` says all, on a recording of this script and this log; the log is the recording's.
+pub record InterruptMade (prefix : Bool) (flags waited : ℕ) (script log : List ℕ) (words : InterruptWords) (log' : List ℕ) : Type 0 where
   pub begun : PS2Controller Recording
   pub left : PS2Controller Recording
   pub prefix_left : Bool
@@ -85,3 +85,4 @@ pub record InterruptMade (prefix : Bool) (flags waited : ℕ) (script log : List
   pub interrupted : Interrupted (on_controller recording) begun prefix (renumbered flags) (our_events (waiting_in before))
       left prefix_left (renumbered flags_left) (our_events (waiting_in queue))
   pub answered : words ≡ interrupt_numbers left.hardware prefix_left flags_left queue waited
+  pub logged : log' ≡ left.hardware.log.now

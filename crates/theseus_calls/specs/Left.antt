@@ -18,14 +18,14 @@ use Rattle.ps2_mouse.specs.declared.PS2Mouse.{PS2Mouse}
 use Rattle.ps2_mouse_identity.specs.Identity.{set_mouse_id}
 use Rattle.port_words.specs.Told.{no_value}
 use Rattle.port_words.specs.ToldKept.{bytes_kept}
-use Rattle.port_words.specs.Tells.{AtArgument}
+use Rattle.port_words.specs.Tells.{Tells, AtArgument}
 use Rattle.mouse_words.specs.Left.{left_numbers}
 use Rattle.controller_words.specs.declared.ControllerWords.{ControllerWords}
 use Rattle.controller_words.specs.Controller.{numbers_by, numbers_left}
 use Rattle.theseus_ps2.specs.declared.recording.Recording.{Recording}
 use Rattle.theseus_calls.specs.declared.answers.NotedWords.{NotedWords}
 use Rattle.theseus_calls.specs.declared.initialization.InitializedNotedWords.{InitializedNotedWords}
-use Rattle.theseus_calls.specs.Recorded.{with_bytes, refusing_noted, ToldBy, told_recorded, told_noted}
+use Rattle.theseus_calls.specs.Recorded.{with_bytes, refusing_noted, told_recorded, told_noted}
 
 -- What the operation answers, without its record.
 abbrev pub answer_kept : {R : Type 0} → Kept KeptBytes (Left R Success) → Kept KeptBytes (Answer Success)
@@ -42,10 +42,10 @@ abbrev pub told_identified : MouseId → End (Kept KeptBytes (Left PS2Mouse Succ
 told_identified passed end used pairs =
     with_bytes (left_numbers (told_end (λ k. k.value.answer) end) used pairs (record_after (record { id = passed }) (told_end (λ k. k.value) end))) (bytes_kept end)
 
-abbrev pub TellsIdentifiedAt : Option MouseId → List ℕ → List ℕ → NotedWords → Type 0
-TellsIdentifiedAt argument script log answer =
-    AtArgument argument (answer ≡ refusing_noted means_nothing)
-    (λ id. ToldBy (told_identified id) (keeping_onto nothing_kept (set_mouse_id (record { id = id }))) script log answer)
+abbrev pub TellsIdentifiedAt : Option MouseId → List ℕ → List ℕ → NotedWords → List ℕ → Type 0
+TellsIdentifiedAt argument script log answer log' =
+    AtArgument argument ((answer ≡ refusing_noted means_nothing) × (log' ≡ log))
+    (λ id. Tells (told_identified id) (keeping_onto nothing_kept (set_mouse_id (record { id = id }))) script log answer log')
 
 -- ---- the controller
 

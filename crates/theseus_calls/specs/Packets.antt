@@ -14,13 +14,13 @@ use Rattle.ps2_kept.specs.Added.{keeping_onto}
 use Rattle.ps2_packet.specs.declared.MousePacket.{MousePacket}
 use Rattle.ps2_packet.specs.Packet.{always_one, common, x_movement, y_movement, wheel}
 use Rattle.ps2_packet_reading.specs.Reading.{read_mouse_packet}
-use Rattle.port_words.specs.Tells.{AtArgument}
+use Rattle.port_words.specs.Tells.{TellsAt}
 use Rattle.port_words.specs.Told.{given_or}
 use Rattle.port_words.specs.ToldPacket.{buttons_of}
 use Rattle.theseus_ps2.specs.declared.recording.Recording.{Recording}
 use Rattle.theseus_calls.specs.declared.identity.PacketFields.{PacketFields}
 use Rattle.theseus_calls.specs.declared.identity.PacketNotedWords.{PacketNotedWords}
-use Rattle.theseus_calls.specs.Recorded.{refusing_noted, ToldBy, told_recorded, told_noted}
+use Rattle.theseus_calls.specs.Recorded.{refusing_noted, told_recorded, told_noted}
 
 -- The buttons, the bit that is always one, and the movements, of which the wheel is the Rust's: unsigned at identity 4.
 abbrev pub packet_numbers : MousePacket → PacketFields
@@ -44,7 +44,6 @@ told_packet_noted end used pairs =
 abbrev pub refusing_packet_noted : ℕ → PacketNotedWords
 refusing_packet_noted n = record { run = refusing_noted n; packet = no_packet }
 
-abbrev pub TellsPacketAt : Option MouseId → List ℕ → List ℕ → PacketNotedWords → Type 0
-TellsPacketAt argument script log answer =
-    AtArgument argument (answer ≡ refusing_packet_noted means_nothing)
-    (λ id. ToldBy told_packet_noted (keeping_onto nothing_kept (read_mouse_packet id)) script log answer)
+abbrev pub TellsPacketAt : Option MouseId → List ℕ → List ℕ → PacketNotedWords → List ℕ → Type 0
+TellsPacketAt argument script log answer log' =
+    TellsAt (refusing_packet_noted means_nothing) told_packet_noted (λ id. keeping_onto nothing_kept (read_mouse_packet id)) argument script log answer log'

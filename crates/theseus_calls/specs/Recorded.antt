@@ -2,7 +2,7 @@
 -- Assumes nothing.
 use Rattle.std.specs.Prelude.{◌≡◌, ℕ, Bool, List, cond, eqb, drop}
 use Rattle.std.proofs.Math.Option.{Option}
-use Rattle.exchange.specs.Exchange.{Exchange, End, yields, told_end, play}
+use Rattle.exchange.specs.Exchange.{Exchange, End, yields, told_end}
 use Rattle.exchange.specs.Answer.{Answer, number_answered}
 use Rattle.exchange.specs.Keeping.{Kept}
 use Rattle.argument_words.specs.Arguments.{means_nothing}
@@ -12,7 +12,7 @@ use Rattle.ps2_kept.specs.Added.{keeping_onto}
 use Rattle.port_words.specs.declared.PortWords.{PortWords}
 use Rattle.port_words.specs.Told.{refusing, given_or, told}
 use Rattle.port_words.specs.ToldKept.{bytes_kept}
-use Rattle.port_words.specs.Tells.{AtArgument}
+use Rattle.port_words.specs.Tells.{Tells, TellsAt}
 use Rattle.theseus_ps2.specs.Messages.{messages}
 use Rattle.theseus_ps2.specs.declared.recording.Recording.{Recording}
 use Rattle.theseus_calls.specs.declared.answers.NotedWords.{NotedWords}
@@ -48,15 +48,11 @@ told_recorded value answer left =
 abbrev pub told_noted : {A : Type 0} → (A → ℕ) → End (Kept KeptBytes (Answer A)) → ℕ → ℕ → NotedWords
 told_noted value end used pairs = with_bytes (told value (told_end (λ k. k.value) end) used pairs) (bytes_kept end)
 
--- What the exports promise of their answer: it is that of the operation's play on the script and the log that were lent.
-abbrev pub ToldBy : {A R : Type 0} → (End A → ℕ → ℕ → R) → Exchange A → List ℕ → List ℕ → R → Type 0
-ToldBy tell operation script log answer = answer ≡ tell (play operation script log).end (play operation script log).used (play operation script log).pairs
-
--- With the bytes of data that it read and that are no response.
-abbrev pub TellsNoted : {A : Type 0} → (A → ℕ) → Exchange (Answer A) → List ℕ → List ℕ → NotedWords → Type 0
-TellsNoted value t script log answer = ToldBy (told_noted value) (keeping_onto nothing_kept t) script log answer
+-- What the exports promise: the answer, with the bytes of data that were read and are no response, and the log.
+abbrev pub TellsNoted : {A : Type 0} → (A → ℕ) → Exchange (Answer A) → List ℕ → List ℕ → NotedWords → List ℕ → Type 0
+TellsNoted value t script log answer log' = Tells (told_noted value) (keeping_onto nothing_kept t) script log answer log'
 
 -- The same of one with a number for its argument.
-abbrev pub TellsNotedAt : {X A : Type 0} → (A → ℕ) → (X → Exchange (Answer A)) → Option X → List ℕ → List ℕ → NotedWords → Type 0
-TellsNotedAt value operation argument script log answer =
-    AtArgument argument (answer ≡ refusing_noted means_nothing) (λ v. TellsNoted value (operation v) script log answer)
+abbrev pub TellsNotedAt : {X A : Type 0} → (A → ℕ) → (X → Exchange (Answer A)) → Option X → List ℕ → List ℕ → NotedWords → List ℕ → Type 0
+TellsNotedAt value operation argument script log answer log' =
+    TellsAt (refusing_noted means_nothing) (told_noted value) (λ v. keeping_onto nothing_kept (operation v)) argument script log answer log'

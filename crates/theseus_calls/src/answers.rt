@@ -83,21 +83,46 @@ fn later_number_of(text: &'static str) -> u32
     }
 }
 
-// A controller over a script and a log, of which nothing is used or written yet.
+// What a call answers by numbers, and the log that was lent to it.
+#[derive(Drop)]
+pub struct Run<'a, W: Copy> {
+    pub words: W,
+    pub log: &'a mut [u8],
+}
+
+// What the call answers, and the log that the recording had. A log on its own the prover follows to
+// its end, and one in a recording that was lent on it does not.
+pub fn run_of<'a, W: Copy>(words: W, left: Recording<'a>) -> Run<'a, W>
+    ensures words { result.words ≡ words }
+    ensures log { result.log ≡ left.entry.log }
+{
+    let log = left.log;
+    Run { words, log }
+}
+
+// A recording of a script and a log, of which nothing is used or written yet.
+pub fn begun_recording<'a>(script: &'a [u8], log: &'a mut [u8]) -> Recording<'a>
+    ensures starts { Starts script.now log.old result }
+    ensures same_log { result.log.ghost_name ≡ log.entry.ghost_name }
+{
+    Recording {
+        script,
+        log,
+        used: 0,
+        pairs: 0,
+        short: false,
+        asked: 0,
+        thrown: none_kept(),
+    }
+}
+
+// A controller over one.
 pub fn begun<'a>(script: &'a [u8], log: &'a mut [u8]) -> PS2Controller<Recording<'a>>
     ensures starts { Starts script.now log.old result.hardware }
     ensures same_log { result.hardware.log.ghost_name ≡ log.entry.ghost_name }
 {
     PS2Controller {
-        hardware: Recording {
-            script,
-            log,
-            used: 0,
-            pairs: 0,
-            short: false,
-            asked: 0,
-            thrown: none_kept(),
-        },
+        hardware: begun_recording(script, log),
         keyboard_attached: false,
         mouse_attached: false,
     }

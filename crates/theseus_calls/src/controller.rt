@@ -10,7 +10,7 @@ ghost use Rattle.theseus_calls.specs.Arguments.{set_at};
 ghost use Rattle.theseus_calls.specs.Operations.{configuration_value, sending_set};
 ghost use Rattle.theseus_calls.specs.Recorded.{told_recorded, TellsNoted, TellsNotedAt};
 
-use crate::answers::{NotedWords, begun, recorded_words, refusing_noted_words};
+use crate::answers::{NotedWords, Run, begun, recorded_words, refusing_noted_words, run_of};
 use crate::arguments::set_of;
 use argument_words::MEANS_NOTHING;
 use ps2_bytes::{HostToDevice, HostToKeyboardCommandOrData, ScancodeSet};
@@ -18,34 +18,58 @@ use ps2_layouts::ControllerConfigurationByte;
 use theseus_ps2::Recording;
 use theseus_ps2::both_controller::{rusts_polling_receive, rusts_polling_send};
 
-/// Has the controller test itself.
-#[unsafe(no_mangle)]
-pub extern "C" fn vdr_controller_test(script: &[u8], log: &mut [u8]) -> NotedWords
-    ensures { TellsNoted no_value test_controller script.now log.old result }
+fn controller_test<'a>(script: &'a [u8], log: &'a mut [u8]) -> Run<'a, NotedWords>
+    ensures told { TellsNoted no_value test_controller script.now log.old result.words result.log.now }
+    ensures same_log { result.log.ghost_name ≡ log.entry.ghost_name }
 {
     let mut controller = begun(script, log);
     let rusts = controller.test();
-    recorded_words(rusts, &controller.hardware)
+    let words = recorded_words(rusts, &controller.hardware);
+    run_of(words, controller.hardware)
+}
+
+/// Has the controller test itself.
+#[unsafe(no_mangle)]
+pub extern "C" fn vdr_controller_test(script: &[u8], log: &mut [u8]) -> NotedWords
+    ensures { TellsNoted no_value test_controller script.now log.old result log.new }
+{
+    controller_test(script, log).words
+}
+
+fn port1_test<'a>(script: &'a [u8], log: &'a mut [u8]) -> Run<'a, NotedWords>
+    ensures told { TellsNoted no_value (test_port TestPort1) script.now log.old result.words result.log.now }
+    ensures same_log { result.log.ghost_name ≡ log.entry.ghost_name }
+{
+    let mut controller = begun(script, log);
+    let rusts = controller.test_port1();
+    let words = recorded_words(rusts, &controller.hardware);
+    run_of(words, controller.hardware)
 }
 
 /// Has the controller test the keyboard's port.
 #[unsafe(no_mangle)]
 pub extern "C" fn vdr_port1_test(script: &[u8], log: &mut [u8]) -> NotedWords
-    ensures { TellsNoted no_value (test_port TestPort1) script.now log.old result }
+    ensures { TellsNoted no_value (test_port TestPort1) script.now log.old result log.new }
+{
+    port1_test(script, log).words
+}
+
+fn port2_test<'a>(script: &'a [u8], log: &'a mut [u8]) -> Run<'a, NotedWords>
+    ensures told { TellsNoted no_value (test_port TestPort2) script.now log.old result.words result.log.now }
+    ensures same_log { result.log.ghost_name ≡ log.entry.ghost_name }
 {
     let mut controller = begun(script, log);
-    let rusts = controller.test_port1();
-    recorded_words(rusts, &controller.hardware)
+    let rusts = controller.test_port2();
+    let words = recorded_words(rusts, &controller.hardware);
+    run_of(words, controller.hardware)
 }
 
 /// Has the controller test the mouse's port.
 #[unsafe(no_mangle)]
 pub extern "C" fn vdr_port2_test(script: &[u8], log: &mut [u8]) -> NotedWords
-    ensures { TellsNoted no_value (test_port TestPort2) script.now log.old result }
+    ensures { TellsNoted no_value (test_port TestPort2) script.now log.old result log.new }
 {
-    let mut controller = begun(script, log);
-    let rusts = controller.test_port2();
-    recorded_words(rusts, &controller.hardware)
+    port2_test(script, log).words
 }
 
 // A configuration that was read, by its byte.
@@ -55,22 +79,32 @@ fn configuration_words(config: ControllerConfigurationByte, left: &Recording<'_>
     recorded_words(Ok(u8::from(config)), left)
 }
 
-/// Reads the controller's configuration; the value is its byte.
-#[unsafe(no_mangle)]
-pub extern "C" fn vdr_configuration_read(script: &[u8], log: &mut [u8]) -> NotedWords
-    ensures { TellsNoted configuration_value read_config script.now log.old result }
+fn configuration_read<'a>(script: &'a [u8], log: &'a mut [u8]) -> Run<'a, NotedWords>
+    ensures told { TellsNoted configuration_value read_config script.now log.old result.words result.log.now }
+    ensures same_log { result.log.ghost_name ≡ log.entry.ghost_name }
 {
     let mut controller = begun(script, log);
     let config = controller.read_config();
-    configuration_words(config, &controller.hardware)
+    let words = configuration_words(config, &controller.hardware);
+    run_of(words, controller.hardware)
 }
 
-fn written(configuration: ControllerConfigurationByte, script: &[u8], log: &mut [u8]) -> NotedWords
-    ensures { TellsNoted no_value (write_config configuration) script.now log.old result }
+/// Reads the controller's configuration; the value is its byte.
+#[unsafe(no_mangle)]
+pub extern "C" fn vdr_configuration_read(script: &[u8], log: &mut [u8]) -> NotedWords
+    ensures { TellsNoted configuration_value read_config script.now log.old result log.new }
+{
+    configuration_read(script, log).words
+}
+
+fn written<'a>(configuration: u8, script: &'a [u8], log: &'a mut [u8]) -> Run<'a, NotedWords>
+    ensures told { TellsNoted no_value (write_config (record { bits = configuration })) script.now log.old result.words result.log.now }
+    ensures same_log { result.log.ghost_name ≡ log.entry.ghost_name }
 {
     let mut controller = begun(script, log);
-    controller.write_config(configuration);
-    recorded_words(Ok(()), &controller.hardware)
+    controller.write_config(ControllerConfigurationByte::from(configuration));
+    let words = recorded_words(Ok(()), &controller.hardware);
+    run_of(words, controller.hardware)
 }
 
 /// Writes the controller's configuration.
@@ -80,41 +114,47 @@ pub extern "C" fn vdr_configuration_write(
     script: &[u8],
     log: &mut [u8],
 ) -> NotedWords
-    ensures { TellsNoted no_value (write_config (record { bits = configuration })) script.now log.old result }
+    ensures { TellsNoted no_value (write_config (record { bits = configuration })) script.now log.old result log.new }
 {
-    written(
-        ControllerConfigurationByte::from(configuration),
-        script,
-        log,
-    )
+    written(configuration, script, log).words
 }
 
-fn polling_send(set: ScancodeSet, script: &[u8], log: &mut [u8]) -> NotedWords
-    ensures { TellsNoted no_value (sending_set set) script.now log.old result }
+fn polling_send<'a>(set: ScancodeSet, script: &'a [u8], log: &'a mut [u8]) -> Run<'a, NotedWords>
+    ensures told { TellsNoted no_value (sending_set set) script.now log.old result.words result.log.now }
+    ensures same_log { result.log.ghost_name ≡ log.entry.ghost_name }
 {
     let mut controller = begun(script, log);
     let byte = HostToDevice::Keyboard(HostToKeyboardCommandOrData::ScancodeSet(set));
     let rusts = rusts_polling_send(&mut controller, byte);
-    recorded_words(rusts, &controller.hardware)
+    let words = recorded_words(rusts, &controller.hardware);
+    run_of(words, controller.hardware)
 }
 
 /// Sends a scancode set, 0 to 3, as soon as the last byte was taken, and waits for no response.
 #[unsafe(no_mangle)]
 pub extern "C" fn vdr_polling_send(set: u32, script: &[u8], log: &mut [u8]) -> NotedWords
-    ensures { TellsNotedAt no_value sending_set (set_at set) script.now log.old result }
+    ensures { TellsNotedAt no_value sending_set (set_at set) script.now log.old result log.new }
 {
     match set_of(set) {
-        Some(known) => polling_send(known, script, log),
+        Some(known) => polling_send(known, script, log).words,
         None => refusing_noted_words(MEANS_NOTHING),
     }
+}
+
+fn received<'a>(script: &'a [u8], log: &'a mut [u8]) -> Run<'a, NotedWords>
+    ensures told { TellsNoted response_byte polling_receive script.now log.old result.words result.log.now }
+    ensures same_log { result.log.ghost_name ≡ log.entry.ghost_name }
+{
+    let mut controller = begun(script, log);
+    let rusts = rusts_polling_receive(&mut controller);
+    let words = recorded_words(rusts, &controller.hardware);
+    run_of(words, controller.hardware)
 }
 
 /// Receives a response; the value is its byte.
 #[unsafe(no_mangle)]
 pub extern "C" fn vdr_polling_receive(script: &[u8], log: &mut [u8]) -> NotedWords
-    ensures { TellsNoted response_byte polling_receive script.now log.old result }
+    ensures { TellsNoted response_byte polling_receive script.now log.old result log.new }
 {
-    let mut controller = begun(script, log);
-    let rusts = rusts_polling_receive(&mut controller);
-    recorded_words(rusts, &controller.hardware)
+    received(script, log).words
 }

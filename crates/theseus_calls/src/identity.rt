@@ -2,16 +2,16 @@
 ghost use Rattle.std.specs.Prelude.{◌≡◌};
 ghost use Rattle.exchange.specs.Answer.{gives};
 ghost use Rattle.argument_words.specs.Arguments.{means_nothing, identity_at};
+ghost use Rattle.port_words.specs.Tells.{Tells};
 ghost use Rattle.ps2_kept.specs.Kept.{nothing_kept};
 ghost use Rattle.ps2_kept.specs.Added.{keeping_onto};
 ghost use Rattle.ps2_mouse_identity.specs.Identity.{set_mouse_id};
 ghost use Rattle.ps2_packet_reading.specs.Reading.{read_mouse_packet};
 ghost use Rattle.theseus_ps2.specs.Messages.{said};
-ghost use Rattle.theseus_calls.specs.Recorded.{ToldBy};
 ghost use Rattle.theseus_calls.specs.Left.{told_identified, identified_recorded, TellsIdentifiedAt};
 ghost use Rattle.theseus_calls.specs.Packets.{packet_numbers, no_packet, packet_recorded, told_packet_noted, TellsPacketAt};
 
-use crate::answers::{NotedWords, begun, recorded_words, refusing_noted_words};
+use crate::answers::{NotedWords, Run, begun, recorded_words, refusing_noted_words, run_of};
 use argument_words::{MEANS_NOTHING, identity_of};
 use port_words::{PortWords, Value, packet_words};
 use ps2_answers::Counted;
@@ -44,22 +44,24 @@ fn identified_words(
     }
 }
 
-fn set_identity(id: MouseId, script: &[u8], log: &mut [u8]) -> NotedWords
-    ensures { ToldBy (told_identified id) (keeping_onto nothing_kept (set_mouse_id (record { id = id }))) script.now log.old result }
+fn set_identity<'a>(id: MouseId, script: &'a [u8], log: &'a mut [u8]) -> Run<'a, NotedWords>
+    ensures told { Tells (told_identified id) (keeping_onto nothing_kept (set_mouse_id (record { id = id }))) script.now log.old result.words result.log.now }
+    ensures same_log { result.log.ghost_name ≡ log.entry.ghost_name }
 {
     let mut controller = begun(script, log);
     let rusts = rusts_set_mouse_id(&mut controller, id);
-    identified_words(rusts.answer, rusts.id, &controller.hardware, id)
+    let words = identified_words(rusts.answer, rusts.id, &controller.hardware, id);
+    run_of(words, controller.hardware)
 }
 
 /// Sets the identity of a record that has this one to the highest that the mouse takes on. The value is
 /// the identity of the record that is left, after a refusal too.
 #[unsafe(no_mangle)]
 pub extern "C" fn vdr_mouse_set_identity(identity: u32, script: &[u8], log: &mut [u8]) -> NotedWords
-    ensures { TellsIdentifiedAt (identity_at identity) script.now log.old result }
+    ensures { TellsIdentifiedAt (identity_at identity) script.now log.old result log.new }
 {
     match identity_of(identity) {
-        Some(id) => set_identity(id, script, log),
+        Some(id) => set_identity(id, script, log).words,
         None => refusing_noted_words(MEANS_NOTHING),
     }
 }
@@ -122,12 +124,14 @@ fn packet_noted_words(packet: MousePacket, left: &Recording<'_>) -> PacketNotedW
     }
 }
 
-fn read_packet(id: MouseId, script: &[u8], log: &mut [u8]) -> PacketNotedWords
-    ensures { ToldBy told_packet_noted (keeping_onto nothing_kept (read_mouse_packet id)) script.now log.old result }
+fn read_packet<'a>(id: MouseId, script: &'a [u8], log: &'a mut [u8]) -> Run<'a, PacketNotedWords>
+    ensures told { Tells told_packet_noted (keeping_onto nothing_kept (read_mouse_packet id)) script.now log.old result.words result.log.now }
+    ensures same_log { result.log.ghost_name ≡ log.entry.ghost_name }
 {
     let mut controller = begun(script, log);
     let packet = rusts_read_mouse_packet(&mut controller, id);
-    packet_noted_words(packet, &controller.hardware)
+    let words = packet_noted_words(packet, &controller.hardware);
+    run_of(words, controller.hardware)
 }
 
 /// Reads the packet that a mouse of identity 0, 3 or 4 sends.
@@ -137,10 +141,10 @@ pub extern "C" fn vdr_mouse_read_packet(
     script: &[u8],
     log: &mut [u8],
 ) -> PacketNotedWords
-    ensures { TellsPacketAt (identity_at identity) script.now log.old result }
+    ensures { TellsPacketAt (identity_at identity) script.now log.old result log.new }
 {
     match identity_of(identity) {
-        Some(id) => read_packet(id, script, log),
+        Some(id) => read_packet(id, script, log).words,
         None => PacketNotedWords {
             run: refusing_noted_words(MEANS_NOTHING),
             packet: NO_PACKET,

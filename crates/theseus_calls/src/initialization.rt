@@ -5,10 +5,10 @@ ghost use Rattle.ps2_kept.specs.Added.{keeping_onto};
 ghost use Rattle.std.specs.Prelude.{◌≡◌};
 ghost use Rattle.controller_words.specs.Controller.{controller_of};
 ghost use Rattle.theseus_ps2.specs.Messages.{said};
-ghost use Rattle.theseus_calls.specs.Recorded.{ToldBy};
+ghost use Rattle.port_words.specs.Tells.{Tells};
 ghost use Rattle.theseus_calls.specs.Left.{told_initialized, initialized_recorded};
 
-use crate::answers::{NotedWords, recorded_words};
+use crate::answers::{NotedWords, Run, begun_recording, recorded_words, run_of};
 use controller_words::ControllerWords;
 use ps2_init::PS2Controller as Ours;
 use theseus_ps2::{PS2Controller, Recording, init};
@@ -41,16 +41,17 @@ fn initialized_words(
 }
 
 // Initialises the controller of this record, which these numbers stand for.
-fn initialized(
+fn initialized<'a>(
     passed: Ours,
     numbers: ControllerWords,
-    script: &[u8],
-    log: &mut [u8],
-) -> InitializedNotedWords
-    ensures { ToldBy (told_initialized numbers) (keeping_onto nothing_kept (initialize passed)) script.now log.old result }
+    script: &'a [u8],
+    log: &'a mut [u8],
+) -> Run<'a, InitializedNotedWords>
+    ensures told { Tells (told_initialized numbers) (keeping_onto nothing_kept (initialize passed)) script.now log.old result.words result.log.now }
+    ensures same_log { result.log.ghost_name ≡ log.entry.ghost_name }
 {
     let mut rusts = PS2Controller {
-        hardware: Recording::new(script, log),
+        hardware: begun_recording(script, log),
         keyboard_attached: passed.keyboard_attached,
         mouse_attached: passed.mouse_attached,
     };
@@ -61,7 +62,8 @@ fn initialized(
         keyboard_attached: rusts.keyboard_attached,
         mouse_attached: rusts.mouse_attached,
     };
-    initialized_words(answer, now, &rusts.hardware, numbers)
+    let words = initialized_words(answer, now, &rusts.hardware, numbers);
+    run_of(words, rusts.hardware)
 }
 
 /// Initialises the controller, unless it was before.
@@ -71,7 +73,7 @@ pub extern "C" fn vdr_controller_init(
     script: &[u8],
     log: &mut [u8],
 ) -> InitializedNotedWords
-    ensures { ToldBy (told_initialized controller) (keeping_onto nothing_kept (initialize (controller_of controller))) script.now log.old result }
+    ensures { Tells (told_initialized controller) (keeping_onto nothing_kept (initialize (controller_of controller))) script.now log.old result log.new }
 {
-    initialized(Ours::from(controller), controller, script, log)
+    initialized(Ours::from(controller), controller, script, log).words
 }

@@ -8,7 +8,7 @@ ghost use Rattle.theseus_keyboard.specs.Handler.{Interrupted, our_events};
 ghost use Rattle.theseus_ps2.specs.Controller.{on_controller};
 ghost use Rattle.theseus_calls.specs.Interrupts.{waiting_in, empty_place, action_number, event_numbers, last_numbers, filled, interrupt_numbers, InterruptMade};
 
-use crate::answers::{NotedWords, begun, recorded_words};
+use crate::answers::{NotedWords, Run, begun, recorded_words, run_of};
 use theseus_keyboard::{Queue, ps2_keyboard_handler};
 use theseus_keycodes::{KeyAction, KeyEvent, KeyboardModifiers, Keycode};
 use theseus_ps2::{Hardware, PS2Controller, PS2Keyboard, Recording};
@@ -148,6 +148,26 @@ fn interrupted<H: Hardware + Drop, Q: Queue>(
     ps2_keyboard_handler(&mut keyboard, queue, modifiers, extended);
 }
 
+// An interrupt, with the log.
+fn interrupt<'a>(
+    prefix: bool,
+    flags: u16,
+    waiting: usize,
+    script: &'a [u8],
+    log: &'a mut [u8],
+) -> Run<'a, InterruptWords>
+    ensures told { InterruptMade prefix flags waiting script.now log.old result.words result.log.now }
+    ensures same_log { result.log.ghost_name ≡ log.entry.ghost_name }
+{
+    let mut controller = begun(script, log);
+    let mut queue = filled(waiting);
+    let mut modifiers = KeyboardModifiers { bits: flags };
+    let mut extended = prefix;
+    interrupted(&mut controller, &mut queue, &mut modifiers, &mut extended);
+    let words = interrupt_words(&controller.hardware, extended, modifiers, &queue, waiting);
+    run_of(words, controller.hardware)
+}
+
 /// An interrupt, of a handler that has this prefix, these flags by the Rust's numbers, and so many events in its queue.
 #[unsafe(no_mangle)]
 pub extern "C" fn vdr_interrupt(
@@ -157,12 +177,7 @@ pub extern "C" fn vdr_interrupt(
     script: &[u8],
     log: &mut [u8],
 ) -> InterruptWords
-    ensures { InterruptMade prefix flags waiting script.now log.old result }
+    ensures { InterruptMade prefix flags waiting script.now log.old result log.new }
 {
-    let mut controller = begun(script, log);
-    let mut queue = filled(waiting);
-    let mut modifiers = KeyboardModifiers { bits: flags };
-    let mut extended = prefix;
-    interrupted(&mut controller, &mut queue, &mut modifiers, &mut extended);
-    interrupt_words(&controller.hardware, extended, modifiers, &queue, waiting)
+    interrupt(prefix, flags, waiting, script, log).words
 }

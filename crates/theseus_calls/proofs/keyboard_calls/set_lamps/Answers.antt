@@ -1,8 +1,14 @@
 -- It tells the operation's play. Assumes nothing.
+use mathlib.Core.Path.{◌∙◌}
 use Rattle.port_words.specs.Told.{no_value}
 use Rattle.ps2_keyboard.specs.Keyboard.{set_keyboard_led}
-use Rattle.theseus_calls.proofs.Recorded.{recorded}
+use Rattle.theseus_calls.proofs.Recorded.{recorded, recorded_lent}
 use Rattle.theseus_calls.proofs.keyboard_calls.set_lamps.Goals as goal
 
-pub returns : goal.returns
-returns c = recorded no_value (set_keyboard_led c.args.leds) _ _ c.begun-controller.ensures.starts c.rusts_set_keyboard_led-rusts.ensures c.recorded_words.ensures
+pub returns-clause-told : goal.returns-clause-told
+returns-clause-told c =
+    recorded no_value (set_keyboard_led c.args.leds) _ _ c.begun-controller.ensures.starts c.rusts_set_keyboard_led-rusts.ensures (c.run_of.ensures.words ∙ c.recorded_words-words.ensures)
+    c.run_of.ensures.log
+
+pub returns-clause-same_log : goal.returns-clause-same_log
+returns-clause-same_log c = recorded_lent (set_keyboard_led c.args.leds) _ _ c.begun-controller.ensures.same_log c.rusts_set_keyboard_led-rusts.ensures c.run_of.ensures.log

@@ -1,0 +1,14 @@
+-- It tells the operation's play. Assumes nothing.
+use mathlib.Core.Path.{◌∙◌}
+use Rattle.port_words.specs.Told.{no_value}
+use Rattle.ps2_polling.specs.Polling.{test_controller}
+use Rattle.theseus_calls.proofs.Recorded.{recorded, recorded_lent}
+use Rattle.theseus_calls.proofs.controller.controller_test.Goals as goal
+
+pub returns-clause-told : goal.returns-clause-told
+returns-clause-told c =
+    recorded no_value test_controller _ _ c.begun-controller.ensures.starts c.test-rusts.ensures (c.run_of.ensures.words ∙ c.recorded_words-words.ensures)
+    c.run_of.ensures.log
+
+pub returns-clause-same_log : goal.returns-clause-same_log
+returns-clause-same_log c = recorded_lent test_controller _ _ c.begun-controller.ensures.same_log c.test-rusts.ensures c.run_of.ensures.log

@@ -1,0 +1,14 @@
+-- It tells the operation's play. Assumes nothing.
+use mathlib.Core.Path.{◌∙◌}
+use Rattle.keyboard_init.specs.KeyboardInit.{keyboard_init}
+use Rattle.port_words.specs.Told.{no_value}
+use Rattle.theseus_calls.proofs.Recorded.{recorded, recorded_lent}
+use Rattle.theseus_calls.proofs.keyboard_calls.initialization.Goals as goal
+
+pub returns-clause-told : goal.returns-clause-told
+returns-clause-told c =
+    recorded no_value keyboard_init _ _ c.begun-controller.ensures.starts c.initialized-rusts.ensures (c.run_of.ensures.words ∙ c.recorded_words-words.ensures)
+    c.run_of.ensures.log
+
+pub returns-clause-same_log : goal.returns-clause-same_log
+returns-clause-same_log c = recorded_lent keyboard_init _ _ c.begun-controller.ensures.same_log c.initialized-rusts.ensures c.run_of.ensures.log

@@ -1,0 +1,14 @@
+-- It tells the operation's play. Assumes nothing.
+use mathlib.Core.Path.{◌∙◌}
+use Rattle.ps2_bytes.specs.Responses.{mouse_id_byte}
+use Rattle.ps2_mouse.specs.Mouse.{mouse_id}
+use Rattle.theseus_calls.proofs.Recorded.{recorded, recorded_lent}
+use Rattle.theseus_calls.proofs.mouse_calls.mouse_identity.Goals as goal
+
+pub returns-clause-told : goal.returns-clause-told
+returns-clause-told c =
+    recorded mouse_id_byte mouse_id _ _ c.begun-controller.ensures.starts c.rusts_mouse_id-rusts.ensures (c.run_of.ensures.words ∙ c.recorded_words-words.ensures)
+    c.run_of.ensures.log
+
+pub returns-clause-same_log : goal.returns-clause-same_log
+returns-clause-same_log c = recorded_lent mouse_id _ _ c.begun-controller.ensures.same_log c.rusts_mouse_id-rusts.ensures c.run_of.ensures.log
