@@ -180,8 +180,8 @@ fn calls(rust: &Rc<RefCell<Rust>>) -> Vec<Row> {
     rows
 }
 
-/// Handler calls that the Rust has none of, or makes otherwise: what stands in its place is the
-/// port's own plain call.
+/// Handler calls that the Rust has none of, or makes otherwise: the port's own
+/// plain call takes its place.
 fn own_calls() -> Vec<Row> {
     let scripts: [(&str, &'static [&'static [u8]]); 4] = [
         ("plain key", &[&KEY]),

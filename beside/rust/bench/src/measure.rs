@@ -27,7 +27,7 @@ pub struct Row {
     pub contents: String,
     /// How many calls a side makes at a time.
     pub times: usize,
-    /// The Rust, or what stands in its place, and the port.
+    /// The Rust, or what takes its place, and the port.
     pub sides: [Side; 2],
 }
 

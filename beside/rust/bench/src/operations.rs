@@ -133,7 +133,7 @@ fn repeat_bytes(call: &Call, out: &mut [u8], times: usize) {
     }
 }
 
-/// An operation on lent bytes, by its line, beside plain Rust for the same job.
+/// An operation on lent bytes, by its line, next to plain Rust for the same job.
 pub fn on_bytes(name: &str, line: &str, contents: &str) -> Row {
     let call = Rc::new(call::parse(line).expect("a good line"));
     check_bytes(&call);
@@ -206,7 +206,7 @@ fn recorded_session() -> Row {
         }),
     ];
     let contents = "a recording of 300,000 bytes at identity 0, of which one in a thousand was \
-        lost; beside plain Rust for the same job";
+        lost; next to plain Rust for the same job";
     Row { name: PACKETS.to_string(), contents: contents.to_string(), times: written / 3, sides }
 }
 
@@ -417,13 +417,13 @@ fn ports() -> Vec<Row> {
 }
 
 pub fn rows() -> Vec<Row> {
-    let plain = "beside plain Rust for the same job";
+    let plain = "next to plain Rust for the same job";
     let convert = "letters pressed and released, one in eight with Shift, and as many cursor \
-        keys; beside plain Rust for the same job";
+        keys; next to plain Rust for the same job";
     let typed =
-        "small letters and spaces, one in eight a capital; beside plain Rust for the same job";
+        "small letters and spaces, one in eight a capital; next to plain Rust for the same job";
     let loose =
-        "packets of whose bytes one in a thousand was lost; beside plain Rust for the same job";
+        "packets of whose bytes one in a thousand was lost; next to plain Rust for the same job";
     let mut rows = vec![
         characters(),
         on_bytes("`vd_convert_set2`, 60,000 bytes", &conversion(60000), convert),
@@ -449,7 +449,7 @@ pub fn rows() -> Vec<Row> {
             0,
             100_000,
             "a session of 100,000 packets and \
-            100 events, bytes by chance, added to a fresh report; beside plain Rust for the same \
+            100 events, bytes by chance, added to a fresh report; next to plain Rust for the same \
             job",
         ),
         session("`vd_report_add` at identity 4", 4, 100_000, "the same"),

@@ -144,7 +144,7 @@ pub fn print(limit: &str, programs: &[&str]) -> io::Result<ExitCode> {
     }
     bars(&times);
     heading(
-        "Each call beside the Rust",
+        "Each call next to the Rust",
         &[
             "call",
             "Rust, ns",
@@ -179,7 +179,7 @@ pub fn print(limit: &str, programs: &[&str]) -> io::Result<ExitCode> {
     print!("{}", output(programs[0], &["growth", limit])?);
     println!();
     println!(
-        "Rows with more instructions than the Rust, or than what stands in its place: {}.\n",
+        "Rows with more instructions than the Rust, or than what takes its place: {}.\n",
         above.len()
     );
     above.iter().for_each(|name| println!("- {name}"));
