@@ -2,9 +2,9 @@
 //!
 //! A [`Session`](crate::Session), or a [`Handling`](crate::Handling), says what is to be done at
 //! the ports. [`drive`] does it, one read or write after the other, until the operation has ended.
-//! Nothing is kept of what was read, so no room is needed: [`Recorded`] keeps it. That a session
-//! makes the reads and writes of its operation is proved; that these loops do what it says is
-//! tested.
+//! It keeps nothing of what was read, and needs no room for it; [`Recorded`] keeps it. That a
+//! session makes the reads and writes of its operation is proved. That these loops do what it says
+//! is tested.
 
 use crate::step::{Request, Steps};
 use crate::Port;
@@ -76,8 +76,8 @@ pub fn drive<S: Steps>(ports: &mut (impl Ports + ?Sized), mut steps: S) -> S::Ou
     }
 }
 
-/// The same, with so many reads at most: `None` if the operation needs more. It goes on if it
-/// is, when it is driven again.
+/// The same, with at most so many reads. If the operation needs more, this gives `None`, and the
+/// operation goes on when it is driven again.
 ///
 /// ```
 /// # use vurdellow::drive::{drive_within, Ports};
@@ -176,16 +176,17 @@ impl<P: Ports> Ports for Recorded<P> {
 
 /// Ports that wait between polls, since operations poll a number of times and know no clock.
 ///
-/// - A read of the status that directly follows another waits first, a sixteenth of the time for
-///   which the device has been silent: so 255 reads, the most that are made before a byte is sent,
-///   last half a minute, and a reply is noticed a sixteenth too late at most.
+/// - A read of the status that directly follows another waits first. It waits a sixteenth of the
+///   time for which the device has been silent, a microsecond at least. So 255 reads, the most
+///   before a byte is sent, last half a minute or more. A reply is noticed a sixteenth too late at
+///   most.
 /// - A read of data waits until bit 0 of the status says that a byte is there. Initialisation,
 ///   packets and resets read without asking.
 ///
 /// A silence is waited for within the limit. **Then what is read is given as it is**, a status
-/// without the bit that is hoped for or the data port's old byte, and nothing more is waited for:
-/// the operation polls as often as it does, and is refused in the end. A silence ends when a byte
-/// was there to be read, and when something is written.
+/// without the bit that is hoped for or the data port's old byte. Nothing more is waited for. The
+/// operation still polls as often as it does, and is refused in the end. A silence ends when a read
+/// of data finds a byte, and when something is written.
 ///
 /// A read of data reads the status more often than the operation does, which changes nothing in the
 /// controller.
@@ -207,13 +208,14 @@ const BYTE_TO_READ: u8 = 1 << 0;
 
 #[cfg(feature = "std")]
 impl<P: Ports> Patient<P> {
-    /// A keyboard takes up to 20 milliseconds for a reply, and after a reset up to three quarters
-    /// of a second for its self test.
+    /// Waits for a silence no longer than `limit`. A keyboard takes up to 20 milliseconds for a
+    /// reply, and after a reset up to three quarters of a second for its self test.
     pub fn new(ports: P, limit: Duration) -> Patient<P> {
         Patient { ports, limit, since: None, polled: false }
     }
 
-    /// Waits a sixteenth of the silence so far, a microsecond at least: whether time was left.
+    /// Waits a sixteenth of the silence so far, a microsecond at least, and never past the limit.
+    /// Tells whether time was left.
     fn pause(&mut self) -> bool {
         let silence = self.since.get_or_insert_with(Instant::now).elapsed();
         let left = self.limit.saturating_sub(silence);

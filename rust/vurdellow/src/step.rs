@@ -4,8 +4,8 @@
 //! does it, and goes on with the byte that the read brought. A session waits for nothing, so a
 //! kernel can go on with it from an interrupt, and [`drive`](crate::drive::drive) is a loop.
 //!
-//! A session comes to what the call on the whole script comes to, with the same reads and writes:
-//! of which operations this is proved, the repository's docs/CUT-SCRIPTS.md tells.
+//! A session comes to what the call on the whole script comes to, with the same reads and writes.
+//! The repository's docs/CUT-SCRIPTS.md tells of which operations this is proved.
 //!
 //! ```
 //! use vurdellow::keyboard::KeyboardCommand;
@@ -90,7 +90,7 @@ pub trait Steps {
     /// What is to be done now: the same until the session goes on.
     fn wanted(&self) -> Request<Self::Outcome>;
 
-    /// Goes on, with the byte that the read brought; after a write the byte is not looked at, and
+    /// Goes on with the byte that the read brought. After a write the byte is not looked at, and
     /// after the end nothing is done.
     fn next(&mut self, byte: u8);
 }
@@ -132,7 +132,8 @@ impl Course {
     }
 }
 
-/// An operation on the ports, begun; the name says which, as the header has it.
+/// An operation on the ports that was begun. Each has a function that begins it, by the name that
+/// the header has.
 #[derive(Clone, Debug)]
 pub struct Session<R> {
     course: Course,
@@ -342,8 +343,8 @@ impl Session<IdentitySet> {
 
 impl Session<Exchange<Controller>> {
     /// Tests the controller and its ports, enables them and resets the devices, as
-    /// [`Controller::initialize`] does. It gives the record that is to be kept; where it is
-    /// refused, the record that was passed is.
+    /// [`Controller::initialize`] does. It gives the record that is to be kept. If it is refused,
+    /// the record that was passed is to be kept.
     #[must_use]
     pub fn controller_init(controller: Controller) -> Self {
         let flags = [controller.initialized, controller.keyboard, controller.mouse];
@@ -362,9 +363,9 @@ impl Session<Exchange<Controller>> {
 ///
 /// The call is made again with each byte, on all bytes so far, until it lacks none. That comes to
 /// the whole call, with its reads and writes (`so_far`, docs/CUT-SCRIPTS.md of the repository). A
-/// lock reads seven bytes where the keyboard answers at once; over a keyboard that says nothing a
-/// call is made 65,000 times, which takes seconds. Without the feature `std` it has room for 1,024
-/// bytes, and is refused 2 if that is used up.
+/// lock reads seven bytes if the keyboard answers at once. Over a keyboard that says nothing a call
+/// is made some 65,000 times, which takes seconds. Without the feature `std` it has room for 1,024
+/// bytes, and is refused with script ends (2) if that is used up.
 #[derive(Clone, Debug)]
 pub struct Handling<H> {
     handler: H,
@@ -523,7 +524,7 @@ impl Mouse {
 pub struct Applying {
     preferences: Preferences,
     /// The field that is set now, in the order of [`Preferences::apply`], and its session: none
-    /// where a field is outside its values.
+    /// if a field is outside its values.
     field: usize,
     session: Option<Session<Exchange<()>>>,
     /// What was read and written for the fields before it.
