@@ -1,4 +1,4 @@
--- A text is another, asked in either order. Assumes nothing.
+-- A text is another or the same, asked in either order. Assumes nothing.
 use mathlib.Core.Bool.{Bool, true, false}
 use mathlib.Core.List.{List}
 use mathlib.Core.Path.{◌≡◌, refl, sym, ◌∙◌}
@@ -13,3 +13,6 @@ another a b e = by (bytes_eq b a) refl
     by : (x : Bool) → bytes_eq b a ≡ x → x ≡ false
     by true q = absurd (true≢false (sym ((bytes_eq-Decides a b).1 (sym ((bytes_eq-Decides b a).0 q))) ∙ sym e))
     by false q = refl
+
+pub same : (a b : List ℕ) → true ≡ bytes_eq a b → bytes_eq b a ≡ true
+same a b e = (bytes_eq-Decides b a).1 (sym ((bytes_eq-Decides a b).0 (sym e)))
