@@ -1,8 +1,8 @@
 -- The same of operations that leave a record, and of a packet. Assumes nothing.
 use Prim.Native.Nat.{ℕ}
-use mathlib.Core.Bool.{Bool, true, false, cond, ◌||◌}
+use mathlib.Core.Bool.{Bool, true, false, ◌||◌}
 use mathlib.Core.List.{List}
-use mathlib.Core.Path.{◌≡◌, refl, sym, subst, ap, ◌∙◌}
+use mathlib.Core.Path.{◌≡◌, refl, sym, ap, ◌∙◌}
 use Rattle.std.specs.Borrow.{MutBor}
 use Rattle.exchange.specs.Exchange.{Exchange, End, yields, lacks, no_script, no_log, p60, p64, Played, play}
 use Rattle.exchange.specs.Answer.{Answer, gives, refuses}
@@ -12,7 +12,6 @@ use Rattle.exchange.specs.Refuses.{given}
 use Rattle.ps2_answers.specs.Refusals.{Success}
 use Rattle.ps2_bytes.specs.declared.response.MouseId.{MouseId}
 use Rattle.ps2_init.specs.declared.PS2Controller.{PS2Controller as Ours}
-use Rattle.ps2_init.specs.Init.{initialize}
 use Rattle.ps2_kept.specs.declared.KeptBytes.{KeptBytes}
 use Rattle.ps2_kept.specs.Kept.{nothing_kept}
 use Rattle.ps2_kept.specs.Added.{keeping_onto}
@@ -22,7 +21,6 @@ use Rattle.ps2_packet.specs.declared.MousePacket.{MousePacket}
 use Rattle.ps2_packet_reading.specs.Reading.{read_mouse_packet}
 use Rattle.port_words.specs.Tells.{Tells}
 use Rattle.controller_words.specs.declared.ControllerWords.{ControllerWords}
-use Rattle.controller_words.specs.Controller.{numbers_by}
 use Rattle.theseus_ps2.specs.Hardware.{Ran, ran, run}
 use Rattle.theseus_ps2.specs.Record.{record_of}
 use Rattle.theseus_ps2.specs.Recording.{recording}

@@ -1,11 +1,10 @@
 -- Characters, and the handler's interrupt, by numbers.
 -- Assumes nothing.
-use Rattle.std.specs.Prelude.{◌≡◌, ◌&&◌, Bool, true, false, cond, ℕ, List, take, replicate, get_or, ltb, Option, Some, None}
+use Rattle.std.specs.Prelude.{◌≡◌, ◌&&◌, Bool, cond, ℕ, List, take, replicate, get_or, ltb, Option, Some, None}
 use Rattle.bits.specs.Bits.{weigh}
 use Rattle.exchange.specs.Answer.{gives}
 use Rattle.argument_words.specs.Arguments.{means_nothing}
 use Rattle.bytes_words.specs.Keys.{character_number}
-use Rattle.keyboard_modifiers.specs.declared.KeyboardModifiers.{KeyboardModifiers as OurModifiers}
 use Rattle.keycodes_ascii.specs.declared.Keycode.{Keycode as OurKeycode}
 use Rattle.keycodes_ascii.specs.Characters.{character_of}
 use Rattle.keycodes_ascii.specs.Keycode.{number_of}

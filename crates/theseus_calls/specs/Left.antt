@@ -2,8 +2,8 @@
 -- Assumes nothing.
 use Rattle.std.specs.Prelude.{◌≡◌, ℕ, List, cond}
 use Rattle.std.proofs.Math.Option.{Option}
-use Rattle.exchange.specs.Exchange.{Exchange, End, yields, lacks, told_end}
-use Rattle.exchange.specs.Answer.{Answer, gives, refuses}
+use Rattle.exchange.specs.Exchange.{End, told_end}
+use Rattle.exchange.specs.Answer.{Answer}
 use Rattle.exchange.specs.Keeping.{Kept, kept}
 use Rattle.exchange.specs.Left.{Left, record_after}
 use Rattle.argument_words.specs.Arguments.{means_nothing}

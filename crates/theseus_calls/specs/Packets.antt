@@ -1,6 +1,6 @@
 -- Packets as the Rust tells them.
 -- Assumes nothing.
-use Rattle.std.specs.Prelude.{◌≡◌, ℕ, List, pos, cond}
+use Rattle.std.specs.Prelude.{ℕ, List, pos, cond}
 use Rattle.std.proofs.Math.Option.{Option}
 use Rattle.bits.specs.Bits.{bit, weigh}
 use Rattle.exchange.specs.Exchange.{End, told_end}

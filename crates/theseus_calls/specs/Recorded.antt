@@ -1,6 +1,6 @@
 -- What a function of the Rust answered, and how it left its recording, as numbers.
 -- Assumes nothing.
-use Rattle.std.specs.Prelude.{◌≡◌, ℕ, Bool, List, cond, eqb, drop}
+use Rattle.std.specs.Prelude.{ℕ, Bool, List, cond, eqb, drop}
 use Rattle.std.proofs.Math.Option.{Option}
 use Rattle.exchange.specs.Exchange.{Exchange, End, yields, told_end}
 use Rattle.exchange.specs.Answer.{Answer, number_answered}
