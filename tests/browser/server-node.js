@@ -42,7 +42,9 @@ function put(bytes) {
               place = lend(get(size));
         passed.push(BigInt(place), BigInt(length));
         if (slice[1]) written.push([place, size]);
-      } else if (kind in NUMBERS)
+      } else if (kind === 'u64')
+        passed.push(get(8).readBigUInt64LE());
+      else if (kind in NUMBERS)
         passed.push(get(4).readInt32LE());
       else
         passed.push(BigInt(lend(get(sizes[kind]))));
