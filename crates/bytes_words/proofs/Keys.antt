@@ -15,7 +15,7 @@ use Rattle.keycodes_ascii.specs.Characters.{writes, character, character_of}
 use Rattle.keycodes_ascii.specs.Keycode.{number_of, keycodes, keycode_of}
 use Rattle.keycodes_ascii.proofs.CharacterTable.{nul_free}
 use Rattle.keycodes_ascii.proofs.Codes.{every_keycode, Has, keycode_has}
-use Rattle.report_totals.specs.Events.{code_of}
+use Rattle.report.specs.Events.{code_of}
 use Rattle.bytes_words.specs.Keys.{character_number}
 
 number_in : (k : Keycode) → number_of k < 256

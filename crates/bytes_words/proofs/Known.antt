@@ -9,7 +9,7 @@ use Rattle.keycodes_ascii.specs.declared.Keycode.{Keycode}
 use Rattle.keycodes_ascii.specs.declared.KeyAction.{KeyAction}
 use Rattle.keycodes_ascii.specs.Keycode.{keycode_of}
 use Rattle.keycodes_ascii.proofs.Codes.{Has, keycode_has}
-use Rattle.report_totals.specs.Events.{code_of}
+use Rattle.report.specs.Events.{code_of}
 use Rattle.bytes_words.specs.Keys.{event_code_at}
 use Rattle.bytes_words.specs.Parts.{is_found}
 

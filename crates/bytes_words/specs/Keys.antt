@@ -7,7 +7,7 @@ use Rattle.keycodes_ascii.specs.declared.Keycode.{Keycode}
 use Rattle.keycodes_ascii.specs.declared.KeyAction.{KeyAction}
 use Rattle.keycodes_ascii.specs.Characters.{character_of}
 use Rattle.keycodes_ascii.specs.Keycode.{number_of}
-use Rattle.report_totals.specs.Events.{code_of}
+use Rattle.report.specs.Events.{code_of}
 
 -- ---- arguments: a keycode is passed as its number (`keycode_of` says which has one)
 

@@ -4,7 +4,7 @@
 ghost use Rattle.std.specs.Prelude.{◌≡◌};
 ghost use Rattle.argument_words.specs.Arguments.{identity_at};
 ghost use Rattle.keycodes_ascii.specs.Keycode.{keycode_of};
-ghost use Rattle.report_totals.specs.Events.{code_of};
+ghost use Rattle.report.specs.Events.{code_of};
 ghost use Rattle.bytes_words.specs.Keys.{flags_at, action_at, character_number, character_at, event_code_at};
 ghost use Rattle.bytes_words.specs.Parts.{is_found};
 ghost use Rattle.bytes_words.specs.Outputs.{StreamConverted, TextTyped, RecordingSalvaged};

@@ -2,8 +2,8 @@
 -- Assumes nothing.
 use mathlib.Core.Path.{◌≡◌, refl, ap, sym, ◌∙◌}
 use mathlib.Core.List.{List}
-use Rattle.report_totals.specs.declared.Totals.{Totals}
-use Rattle.report_totals.specs.Totals.{Session, totals_of}
+use Rattle.report.specs.declared.sessions.Totals.{Totals}
+use Rattle.report.specs.Totals.{Session, totals_of}
 use Rattle.report.specs.declared.Report.{Report}
 use Rattle.report.specs.Adding.{plus}
 use Rattle.report.specs.Runs.{Width, ReadsBack, narrow, after, accepted}

@@ -7,8 +7,8 @@ use native.Mathlib.Decide.{ℕ_discrete}
 use native.Mathlib.Omega.{arith}
 use lib.ListN.{length, get_or, set, length-set}
 use lib.Seq.{get_or-set_same, get_or-set_other}
-use Rattle.report_totals.specs.Keys.{key_count, for_each_key}
-use Rattle.report_totals.proofs.Keys.{keys_are}
+use Rattle.report.specs.Keys.{key_count, for_each_key}
+use Rattle.report.proofs.Keys.{keys_are}
 
 pub record Copying (counts : List ℕ) (i : ℕ) (all : List ℕ) : Type 0 where
   pub long : length all ≡ key_count

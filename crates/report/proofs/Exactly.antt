@@ -10,10 +10,10 @@ use lib.IntN.{ℤ}
 use lib.ListN.{get_or}
 use lib.Signed.{◌≤ℤ◌, le_z, le_z_yes}
 use borrow.Author.Tests.{le-leb}
-use Rattle.report_totals.specs.declared.Totals.{Totals}
-use Rattle.report_totals.specs.Keys.{key_count}
-use Rattle.report_totals.specs.Totals.{Session, totals_of}
-use Rattle.report_totals.proofs.Keys.{at_key}
+use Rattle.report.specs.declared.sessions.Totals.{Totals}
+use Rattle.report.specs.Keys.{key_count}
+use Rattle.report.specs.Totals.{Session, totals_of}
+use Rattle.report.proofs.Keys.{at_key}
 use Rattle.report.specs.declared.Limits.{Limits}
 use Rattle.std.specs.Prelude.{Ok, Err}
 use Rattle.std.proofs.lemmas.Float.{T_from_true}

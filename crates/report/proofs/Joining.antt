@@ -3,8 +3,8 @@
 use mathlib.Core.Path.{◌≡◌, refl, ap, sym, ◌∙◌}
 use mathlib.Core.List.{List, [], ◌∷◌}
 use Rattle.std.specs.Prelude.{Ok}
-use Rattle.report_totals.specs.declared.Totals.{Totals}
-use Rattle.report_totals.specs.Totals.{Session, totals_of}
+use Rattle.report.specs.declared.sessions.Totals.{Totals}
+use Rattle.report.specs.Totals.{Session, totals_of}
 use Rattle.report.specs.declared.Report.{Report}
 use Rattle.report.specs.Adding.{Reported, plus}
 use Rattle.report.specs.Runs.{Width, ReadsBack, narrow, add, after, accepted}

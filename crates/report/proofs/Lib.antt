@@ -13,3 +13,14 @@ pub mod Joining
 pub mod AnyOrder
 pub mod MeanAlone
 pub mod Worked
+pub mod Keys
+pub mod Presses
+pub mod Sums
+pub mod Packets
+pub mod Summing
+pub mod PressEvents
+pub mod Whole
+pub mod SessionsJoining
+pub mod LongStored
+pub mod LongRuns
+pub mod Wider

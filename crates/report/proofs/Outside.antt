@@ -3,7 +3,7 @@
 use mathlib.Core.Path.{◌≡◌, ap}
 use mathlib.Core.Logic.{◌↔◌}
 use Rattle.std.specs.Prelude.{Ok, Err}
-use Rattle.report_totals.specs.Totals.{Session}
+use Rattle.report.specs.Totals.{Session}
 use Rattle.report.specs.Adding.{Reported, out_of_range}
 use Rattle.report.specs.Runs.{Width, add}
 use Rattle.report.specs.Within.{Within}

@@ -9,9 +9,9 @@ use native.Mathlib.Omega.{arith}
 use lib.Dec.{leb}
 use lib.ListN.{length, get_or}
 use borrow.Author.Tests.{le-leb, lt-leb, leb-true, leb-false}
-use Rattle.report_totals.specs.Keys.{key_count, values_from, for_each_key}
-use Rattle.report_totals.proofs.Keys.{keys_are}
-use Rattle.report_totals.specs.declared.Totals.{Totals}
+use Rattle.report.specs.Keys.{key_count, values_from, for_each_key}
+use Rattle.report.proofs.Keys.{keys_are}
+use Rattle.report.specs.declared.sessions.Totals.{Totals}
 use Rattle.report.specs.declared.Limits.{Limits}
 use Rattle.std.specs.Prelude.{Ok, Err}
 use Rattle.report.specs.declared.OutOfRange.{OutOfRange}

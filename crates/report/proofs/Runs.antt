@@ -4,8 +4,8 @@ use mathlib.Core.Path.{◌≡◌, refl, ap, sym, ◌∙◌}
 use mathlib.Core.Bool.{Bool, true, false}
 use mathlib.Core.List.{List, [], ◌∷◌, foldl}
 use Rattle.std.specs.Prelude.{Ok, Err}
-use Rattle.report_totals.specs.declared.Totals.{Totals}
-use Rattle.report_totals.specs.Totals.{Session, totals_of}
+use Rattle.report.specs.declared.sessions.Totals.{Totals}
+use Rattle.report.specs.Totals.{Session, totals_of}
 use Rattle.report.specs.Adding.{Reported, out_of_range, plus, in_range}
 use Rattle.report.specs.Runs.{Width, ReadsBack, add, after, accepted_before, accepted}
 use Rattle.report.proofs.Settling.{reported_in, reported_outside}

@@ -6,7 +6,7 @@ use mathlib.Core.List.{List}
 use Prim.Native.Nat.{ℕ}
 use lib.Dec.{leb}
 use lib.IntN.{ℤ}
-use Rattle.report_totals.specs.declared.Totals.{Totals}
+use Rattle.report.specs.declared.sessions.Totals.{Totals}
 use Rattle.report.specs.declared.Limits.{Limits}
 use Rattle.std.specs.Prelude.{Ok, Err}
 use Rattle.report.specs.Adding.{at_most, between, in_range, out_of_range, fitting, settled, reported}

@@ -11,7 +11,7 @@ use lib.Signed.{le_z, mag}
 use mir.Syntax.{w32, w64}
 use mir.Val.{SFits, to_z, of_z}
 use mir.Facts.{to_z-of_z}
-use Rattle.report_totals.proofs.Sums.{widened}
+use Rattle.report.proofs.Sums.{widened}
 use Rattle.std.specs.Prelude.{Result}
 use Rattle.report.specs.declared.OutOfRange.{OutOfRange}
 use Rattle.report.specs.Adding.{between, sum_within}

@@ -3,7 +3,7 @@
 use mathlib.Core.Path.{ap, ◌∙◌}
 use Prim.Native.Nat.{◌+◌}
 use lib.ListN.{get_or}
-use Rattle.report_totals.proofs.Keys.{at_key, keys_same}
+use Rattle.report.proofs.Keys.{at_key, keys_same}
 use Rattle.report.specs.Adding.{plus}
 use Rattle.report.specs.Runs.{ReadsBack, narrow}
 

@@ -6,10 +6,10 @@ use Prim.Native.Nat.{ℕ, ◌+◌}
 use native.Mathlib.Omega.{arith}
 use lib.IntN.{ℤ, ◌+ℤ◌, +ℤ_assoc, +ℤ_comm}
 use lib.ListN.{get_or}
-use Rattle.report_totals.specs.declared.Totals.{Totals}
-use Rattle.report_totals.specs.Totals.{Session, totals_of}
-use Rattle.report_totals.proofs.Keys.{at_key, keys_same}
-use Rattle.report_totals.proofs.Joining.{joined_presses, joined_packets, joined_x, joined_y}
+use Rattle.report.specs.declared.sessions.Totals.{Totals}
+use Rattle.report.specs.Totals.{Session, totals_of}
+use Rattle.report.proofs.Keys.{at_key, keys_same}
+use Rattle.report.proofs.SessionsJoining.{joined_presses, joined_packets, joined_x, joined_y}
 use Rattle.report.specs.Adding.{plus}
 use Rattle.report.specs.Sessions.{join}
 

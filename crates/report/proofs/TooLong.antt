@@ -7,11 +7,11 @@ use native.Mathlib.Omega.{arith}
 use lib.Dec.{leb, ltb}
 use lib.ListN.{length}
 use borrow.Author.Tests.{lt-leb, ltb-false}
-use Rattle.report_totals.specs.declared.Totals.{Totals}
+use Rattle.report.specs.declared.sessions.Totals.{Totals}
 use Rattle.std.specs.Prelude.{Some, None}
 use Rattle.ps2_packet.specs.Packets.{packets_of}
-use Rattle.report_totals.specs.Totals.{Session, totals_of, tallied, tally_bytes}
-use Rattle.report_totals.proofs.Packets.{too_long_many}
+use Rattle.report.specs.Totals.{Session, totals_of, tallied, tally_bytes}
+use Rattle.report.proofs.Packets.{too_long_many}
 use Rattle.report.specs.declared.Limits.{Limits}
 use Rattle.report.specs.Adding.{plus, at_most, in_range}
 

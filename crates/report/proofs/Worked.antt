@@ -5,12 +5,12 @@ use mathlib.Core.List.{[], ◌∷◌}
 use lib.IntN.{pos, negsuc}
 use Rattle.bits.specs.Bits.{bit, odd}
 use Rattle.ps2_bytes.specs.declared.response.MouseId.TheVariants as Identity
-use Rattle.report_totals.specs.declared.Totals.{Totals}
-use Rattle.report_totals.specs.Keys.{values_from, for_each_key}
-use Rattle.report_totals.specs.Events.{presses}
+use Rattle.report.specs.declared.sessions.Totals.{Totals}
+use Rattle.report.specs.Keys.{values_from, for_each_key}
+use Rattle.report.specs.Events.{presses}
 use Rattle.ps2_packet.specs.Packets.{by_threes, by_fours}
-use Rattle.report_totals.specs.Packets.{sum_of}
-use Rattle.report_totals.specs.Totals.{Session}
+use Rattle.report.specs.Packets.{sum_of}
+use Rattle.report.specs.Totals.{Session}
 use Rattle.std.specs.Prelude.{Ok, Err, Some, None}
 use Rattle.report.specs.Adding.{out_of_range, at_most, in_range, added}
 use Rattle.report.specs.Mean.{mean_of}

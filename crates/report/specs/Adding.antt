@@ -2,9 +2,9 @@
 -- Assumes nothing.
 use Rattle.std.specs.Prelude.{Bool, true, ◌&&◌, cond, List, [], ◌∷◌, ℕ, ◌+◌, leb, ℤ, ◌+ℤ◌, get_or, Result, Ok, Err}
 use Rattle.std.specs.Int.Signed.{le_z}
-use Rattle.report_totals.specs.declared.Totals.{Totals}
-use Rattle.report_totals.specs.Keys.{for_each_key}
-use Rattle.report_totals.specs.Totals.{Session, totals_of}
+use Rattle.report.specs.declared.sessions.Totals.{Totals}
+use Rattle.report.specs.Keys.{for_each_key}
+use Rattle.report.specs.Totals.{Session, totals_of}
 use Rattle.report.specs.declared.Limits.{Limits}
 use Rattle.report.specs.declared.OutOfRange.{OutOfRange}
 

@@ -1,8 +1,8 @@
 -- The report whose counts are u32 and whose sums are i32.
 -- Assumes nothing.
 use Rattle.std.specs.Prelude.{pos, neg_ℤ, get_or}
-use Rattle.report_totals.specs.declared.Totals.{Totals}
-use Rattle.report_totals.specs.Keys.{for_each_key}
+use Rattle.report.specs.declared.sessions.Totals.{Totals}
+use Rattle.report.specs.Keys.{for_each_key}
 use Rattle.report.specs.declared.Limits.{Limits}
 use Rattle.report.specs.declared.Report.{Report}
 

@@ -1,8 +1,8 @@
 -- Runs of `Season::add`: sessions added to a report one by one, at any width, those that are refused among them.
 -- Assumes nothing.
 use Rattle.std.specs.Prelude.{◌≡◌, true, List, [], ◌∷◌, Ok, Err}
-use Rattle.report_totals.specs.declared.Totals.{Totals}
-use Rattle.report_totals.specs.Totals.{Session}
+use Rattle.report.specs.declared.sessions.Totals.{Totals}
+use Rattle.report.specs.Totals.{Session}
 use Rattle.report.specs.declared.Limits.{Limits}
 use Rattle.report.specs.declared.Report.{Report}
 use Rattle.report.specs.Adding.{Answer, plus, in_range, added, Reported, reported}

@@ -2,7 +2,7 @@
 -- Assumes nothing.
 use Rattle.std.specs.Prelude.{◌≡◌, List, [], ◌∷◌, ◌++◌}
 use Rattle.ps2_packet.specs.Packets.{packets_of, bytes_of}
-use Rattle.report_totals.specs.Totals.{Session}
+use Rattle.report.specs.Totals.{Session}
 
 -- "Joined at packet boundaries": what a session's bytes have behind its last whole packet is left out.
 abbrev pub join : Session → Session → Session

@@ -1,8 +1,8 @@
 -- What it means that every number of a report is in its range.
 -- Assumes nothing.
 use Rattle.std.specs.Prelude.{ℕ, ◌≤◌, ◌<◌, get_or, ◌≤ℤ◌}
-use Rattle.report_totals.specs.declared.Totals.{Totals}
-use Rattle.report_totals.specs.Keys.{key_count}
+use Rattle.report.specs.declared.sessions.Totals.{Totals}
+use Rattle.report.specs.Keys.{key_count}
 use Rattle.report.specs.declared.Limits.{Limits}
 
 pub record Within (l : Limits) (t : Totals) : Type 0 where

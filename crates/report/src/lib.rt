@@ -3,16 +3,19 @@
 
 ghost use Rattle.std.specs.Prelude.{◌≡◌, true, ◌<◌, ◌+◌, ◌+ℤ◌, get_or};
 ghost use Rattle.std.specs.Int.Signed.{mag};
-ghost use Rattle.report_totals.specs.Keys.{for_each_key};
-ghost use Rattle.report_totals.specs.Totals.{no_totals};
+ghost use Rattle.report.specs.Keys.{for_each_key};
+ghost use Rattle.report.specs.Totals.{no_totals};
 ghost use Rattle.report.specs.Adding.{refusal_number, answer_number, plus, at_most, in_range, fitting, count_within, counts_within, sum_within};
 ghost use Rattle.report.specs.Mean.{quotient_of, remainder_of, mean_of};
 ghost use Rattle.report.specs.Narrow.{narrow_limits, report_of};
 ghost use Rattle.report.specs.Runs.{add};
 ghost use Rattle.std.proofs.Common.{rules};
 
+pub mod long;
+pub mod sessions;
+
+use crate::sessions::{Totals, tally};
 use ps2_bytes::MouseId;
-use report_totals::{Totals, tally};
 
 // A count or a sum would be outside its range.
 #[derive(Clone, Copy)]
@@ -146,7 +149,7 @@ pub fn mean_of(sum: i64, packets: u64) -> Option<WholeMean>
 
 // A report of one width: what its numbers may be, and which they are.
 pub trait Season: Copy {
-    ghost use Rattle.report_totals.specs.declared.Totals.{Totals};
+    ghost use Rattle.report.specs.declared.sessions.Totals.{Totals};
     ghost use Rattle.report.specs.declared.Limits.{Limits};
 
     ghost LIMITS: { Limits };

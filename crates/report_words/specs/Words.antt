@@ -4,14 +4,14 @@ use Rattle.std.specs.Prelude.{List, ℕ, pos, Option as Shown, Some, None}
 use Rattle.std.proofs.Math.Option.{Option, none, some}
 use Rattle.argument_words.specs.Arguments.{means_nothing}
 use Rattle.ps2_bytes.specs.declared.response.MouseId.{MouseId}
-use Rattle.report_totals.specs.declared.Totals.{Totals}
+use Rattle.report.specs.declared.sessions.Totals.{Totals}
 use Rattle.report.specs.declared.Limits.{Limits}
 use Rattle.report.specs.declared.WholeMean.{WholeMean}
 use Rattle.report.specs.declared.Report.{Report}
 use Rattle.report.specs.Adding.{answer_number, added, Reported, reported}
 use Rattle.report.specs.Narrow.{narrow_limits, numbers, report_of}
-use Rattle.report_long.specs.declared.LongReport.{LongReport}
-use Rattle.report_long.specs.Long.{long_limits, long_numbers, long_of}
+use Rattle.report.specs.declared.long.LongReport.{LongReport}
+use Rattle.report.specs.Long.{long_limits, long_numbers, long_of}
 use Rattle.report_words.specs.declared.ReportAddedWords.{ReportAddedWords}
 use Rattle.report_words.specs.declared.LongAddedWords.{LongAddedWords}
 use Rattle.report_words.specs.declared.MeanWords.{MeanWords}

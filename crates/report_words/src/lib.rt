@@ -3,15 +3,15 @@
 
 ghost use Rattle.std.specs.Prelude.{◌≡◌};
 ghost use Rattle.argument_words.specs.Arguments.{identity_at};
-ghost use Rattle.report_totals.specs.Totals.{no_totals};
+ghost use Rattle.report.specs.Totals.{no_totals};
 ghost use Rattle.report.specs.Mean.{mean_of};
 ghost use Rattle.report.specs.Narrow.{report_of};
-ghost use Rattle.report_long.specs.Long.{long_of, widened};
+ghost use Rattle.report.specs.Long.{long_of, widened};
 ghost use Rattle.report_words.specs.Words.{mean_words, session_added, report_added, long_added};
 
 use argument_words::{MEANS_NOTHING, identity_of};
+use report::long::LongReport;
 use report::{Report, Season, WholeMean, answer_number};
-use report_long::LongReport;
 
 // What adding a session answers: the refusal's number, 0 where there is none; and the report after it. C has a struct for each width.
 #[repr(C)]

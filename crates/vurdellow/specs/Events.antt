@@ -4,7 +4,7 @@ use Rattle.std.specs.Prelude.{◌≡◌}
 use Rattle.keycodes_ascii.specs.declared.KeyEvent.{KeyEvent}
 use Rattle.keycodes_ascii.specs.Characters.{character_of}
 use Rattle.keycodes_ascii.specs.Keycode.{keycode_of}
-use Rattle.report_totals.specs.Events.{event_code}
+use Rattle.report.specs.Events.{event_code}
 use Rattle.handler_words.specs.declared.TakenWords.{TakenWords}
 use Rattle.bytes_words.specs.Keys.{flags_at, action_at, character_number, character_at, event_code_at}
 

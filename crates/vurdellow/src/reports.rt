@@ -1,14 +1,14 @@
 // Reports over sessions, in 32 bits and in 64.
 ghost use Rattle.std.specs.Prelude.{◌≡◌};
 ghost use Rattle.argument_words.specs.Arguments.{identity_at};
-ghost use Rattle.report_totals.specs.Totals.{no_totals};
+ghost use Rattle.report.specs.Totals.{no_totals};
 ghost use Rattle.report.specs.Mean.{mean_of};
 ghost use Rattle.report.specs.Narrow.{report_of};
-ghost use Rattle.report_long.specs.Long.{long_of, widened};
+ghost use Rattle.report.specs.Long.{long_of, widened};
 ghost use Rattle.report_words.specs.Words.{mean_words, report_added, long_added};
 
 use report::Report;
-use report_long::LongReport;
+use report::long::LongReport;
 use report_words::{
     LongAddedWords, MeanWords, ReportAddedWords, long_report_add, long_report_empty, mean_x,
     mean_y, report_add, report_empty, report_widen,

@@ -1,7 +1,7 @@
 -- `report::Report::empty` meets its contract.
 -- Assumes nothing.
 use mathlib.Core.Path.{refl}
-use Rattle.report_totals.specs.Keys.{values_from}
+use Rattle.report.specs.Keys.{values_from}
 use Rattle.report.proofs.Report.empty.Goals as goal
 
 pub returns : goal.returns

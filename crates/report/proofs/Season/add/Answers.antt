@@ -3,7 +3,7 @@
 use mathlib.Core.Path.{ap, sym, ◌∙◌}
 use Rattle.std.specs.Result.{result_ok}
 use Rattle.std.proofs.lemmas.Result.{err_from_is_err_and}
-use Rattle.report_totals.specs.Totals.{Session, totals_of}
+use Rattle.report.specs.Totals.{Session, totals_of}
 use Rattle.report.specs.Adding.{plus}
 use Rattle.report.proofs.Settling.{reported_outside}
 use Rattle.report.proofs.TooLong.{too_long_outside}

@@ -1,0 +1,8 @@
+-- `report::long::LongReport::widen` meets its contract.
+-- Assumes nothing.
+use mathlib.Core.Path.{ap}
+use Rattle.report.specs.Long.{long_of}
+use Rattle.report.proofs.long.LongReport.widen.Goals as goal
+
+pub returns : goal.returns
+returns c = ap long_of c.numbers.ensures

@@ -1,0 +1,7 @@
+-- `LongReport::of_totals` meets its contract.
+-- Assumes nothing.
+use Rattle.std.proofs.Common.{rules}
+use Rattle.report.proofs.long.LongReportSeason.of_totals.Goals as goal
+
+pub returns : goal.returns
+returns c = search rules

@@ -1,7 +1,0 @@
--- `LongReport::numbers` meets its contract.
--- Assumes nothing.
-use Rattle.std.proofs.Common.{rules}
-use Rattle.report_long.proofs.LongReportSeason.numbers.Goals as goal
-
-pub returns : goal.returns
-returns c = search rules

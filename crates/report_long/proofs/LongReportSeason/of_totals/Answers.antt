@@ -1,7 +1,0 @@
--- `LongReport::of_totals` meets its contract.
--- Assumes nothing.
-use Rattle.std.proofs.Common.{rules}
-use Rattle.report_long.proofs.LongReportSeason.of_totals.Goals as goal
-
-pub returns : goal.returns
-returns c = search rules

@@ -1,8 +1,0 @@
--- What is stored is read back: the numbers of a session's end, in a report of 64 bits.
--- Assumes nothing.
-use mathlib.Core.Path.{refl}
-use Rattle.report.specs.Runs.{ReadsBack}
-use Rattle.report_long.specs.Long.{wide}
-
-pub wide_reads_back : ReadsBack wide
-wide_reads_back = record { read_back = λ old more e. refl }

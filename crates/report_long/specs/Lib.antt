@@ -1,3 +1,0 @@
--- The report in 64 bits.
-pub mod Long
-pub mod Widened
