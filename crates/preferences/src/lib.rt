@@ -5,6 +5,9 @@ ghost use Rattle.std.specs.Prelude.{◌≡◌};
 ghost use Rattle.preferences.specs.Values.{is_scancode_set, is_sampling_rate, is_resolution, is_lamps, is_repeat_byte};
 ghost use Rattle.preferences.specs.Record.{within_values};
 
+pub mod coding;
+pub mod numbers;
+
 // The four fields of every record, in the order in which they are written. A field may be any number: only those within its values are accepted.
 #[derive(Clone, Copy, PartialEq, Eq)]
 pub struct Fields {

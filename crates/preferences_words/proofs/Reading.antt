@@ -4,9 +4,9 @@ use mathlib.Core.Bool.{true}
 use mathlib.Core.Path.{◌≡◌, ap}
 use Rattle.preferences.specs.declared.Preferences.{Preferences}
 use Rattle.preferences.specs.Record.{within_values}
-use Rattle.preferences_coding.specs.Format.{record_bytes}
-use Rattle.preferences_coding.specs.Reading.{read2}
-use Rattle.preferences_coding.proofs.Readers.{written_read2}
+use Rattle.preferences.specs.Format.{record_bytes}
+use Rattle.preferences.specs.Reading.{read2}
+use Rattle.preferences.proofs.Readers.{written_read2}
 use Rattle.preferences_words.specs.Record.{words_of}
 use Rattle.preferences_words.specs.Reading.{told_read}
 

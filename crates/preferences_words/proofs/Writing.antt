@@ -5,7 +5,7 @@ use mathlib.Core.Option.{none}
 use mathlib.Core.Path.{◌≡◌}
 use Prim.Native.Nat.{ℕ}
 use Rattle.argument_words.specs.Arguments.{means_nothing}
-use Rattle.preferences_coding.specs.Writing.{written}
+use Rattle.preferences.specs.Writing.{written}
 use Rattle.preferences_words.specs.declared.PreferencesWords.{PreferencesWords}
 use Rattle.preferences_words.specs.Record.{preferences_at}
 use Rattle.preferences_words.specs.Writing.{WordsWritten}

@@ -2,7 +2,7 @@
 -- Assumes nothing.
 use Rattle.std.specs.Prelude.{List, [], ◌∷◌, ℕ}
 use Rattle.exchange.specs.Answer.{Answer, gives, refuses}
-use Rattle.preferences_coding.specs.Format.{field_count}
+use Rattle.preferences.specs.Format.{field_count}
 use Rattle.preferences_words.specs.declared.PreferencesReadWords.{PreferencesReadWords}
 use Rattle.preferences_words.specs.Record.{words_in}
 

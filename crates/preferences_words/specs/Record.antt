@@ -5,7 +5,7 @@ use Rattle.std.proofs.Math.Option.{Option, none, some}
 use Rattle.preferences.specs.declared.Fields.{Fields}
 use Rattle.preferences.specs.declared.Preferences.{Preferences}
 use Rattle.preferences.specs.declared.Preferences.TheVariants.{Version1, Version2}
-use Rattle.preferences_coding.specs.Format.{numbers_of}
+use Rattle.preferences.specs.Format.{numbers_of}
 use Rattle.preferences_words.specs.declared.PreferencesWords.{PreferencesWords}
 
 -- The fields that every record has.

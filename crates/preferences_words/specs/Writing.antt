@@ -4,9 +4,9 @@ use Rattle.std.specs.Prelude.{List, ◌≡◌, length, ℕ}
 use Rattle.std.proofs.Math.Option.{Option, none, some}
 use Rattle.exchange.specs.Answer.{refuses, number_answered}
 use Rattle.argument_words.specs.Arguments.{means_nothing}
-use Rattle.number_coding.specs.Writing.{Outcome, outcome}
+use Rattle.preferences.specs.NumberWriting.{Outcome, outcome}
 use Rattle.preferences.specs.declared.Preferences.{Preferences}
-use Rattle.preferences_coding.specs.Writing.{written, leaves}
+use Rattle.preferences.specs.Writing.{written, leaves}
 use Rattle.preferences_words.specs.declared.PreferencesWords.{PreferencesWords}
 use Rattle.preferences_words.specs.declared.PreferencesWrittenWords.{PreferencesWrittenWords}
 use Rattle.preferences_words.specs.Record.{preferences_at}

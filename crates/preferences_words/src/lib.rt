@@ -2,7 +2,7 @@
 #![tactic(auto)]
 
 ghost use Rattle.std.specs.Prelude.{◌≡◌};
-ghost use Rattle.preferences_coding.specs.Reading.{read1, read2, said_read2, refusal_number};
+ghost use Rattle.preferences.specs.Reading.{read1, read2, said_read2, refusal_number};
 ghost use Rattle.exchange.specs.Answer.{refuses};
 ghost use Rattle.argument_words.specs.Arguments.{means_nothing, said_found};
 ghost use Rattle.preferences_application.specs.Application.{apply_preferences};
@@ -14,9 +14,9 @@ ghost use Rattle.preferences_words.specs.Reading.{told_read, as_version1};
 
 use argument_words::MEANS_NOTHING;
 use port_words::{PortWords, answer_words, refusing_words};
+use preferences::coding::{ReadRefusal, read_preferences_1, read_preferences_2, write_preferences};
 use preferences::{Fields, Preferences};
 use preferences_application::apply_preferences;
-use preferences_coding::{ReadRefusal, read_preferences_1, read_preferences_2, write_preferences};
 
 // C reads these three: a refusal stands beside what is given.
 

@@ -1,6 +1,6 @@
 // A club's preferences: written, read and applied.
 ghost use Rattle.std.specs.Prelude.{◌≡◌};
-ghost use Rattle.preferences_coding.specs.Reading.{read1, read2};
+ghost use Rattle.preferences.specs.Reading.{read1, read2};
 ghost use Rattle.argument_words.specs.Arguments.{means_nothing};
 ghost use Rattle.preferences_application.specs.Application.{apply_preferences};
 ghost use Rattle.port_words.specs.Told.{refusing, no_value, told};

@@ -1,0 +1,7 @@
+-- `preferences::numbers::read_groups` meets its contract: at each place the groups behind it decide (`Going`).
+-- Assumes nothing.
+use Rattle.preferences.proofs.Going.{Going}
+use Rattle.preferences.proofs.numbers.read_groups.Given as goal
+
+abbrev pub invariant-loop-place : goal.invariant-loop-place
+invariant-loop-place l = Going l.input l.at l.place l.value l.scale

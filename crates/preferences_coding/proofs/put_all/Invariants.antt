@@ -1,8 +1,0 @@
--- `preferences_coding::put_all` meets its contract: the numbers so far are put, and the others find room.
--- Assumes nothing.
-use lib.ListN.{take, drop}
-use Rattle.preferences_coding.proofs.Putting.{Putting}
-use Rattle.preferences_coding.proofs.put_all.Given as goal
-
-abbrev pub invariant-loop-number : goal.invariant-loop-number
-invariant-loop-number l = Putting (take l.number-index l.numbers) (drop l.number-index l.numbers) l.initial.output l.output l.at
