@@ -93,7 +93,9 @@ enum vd_operation {
     VD_MOUSE_COMMAND = 17,          /* of the command byte; vd_step_kept has what was thrown away */
     VD_MOUSE_SAMPLING_RATE = 18,    /* of the rate */
     VD_MOUSE_RESOLUTION = 19,       /* of the resolution, 0 to 3 */
-    VD_MOUSE_WAITS = 20             /* out: 0 or 1 */
+    VD_MOUSE_WAITS = 20,            /* out: 0 or 1 */
+    VD_MOUSE_READ_PACKET = 21       /* of the identity; out: buttons, x, y and wheel as vd_packet has them, the last three signed:
+                                       x is (int32_t)words[VD_OUTCOME_AT + 1] */
 };
 
 /* What is to be done next. VD_DONE, the 0 of vd_refusal, means that the operation has ended. */
@@ -445,8 +447,8 @@ typedef struct vd_mean {
 
    After that it.refusal tells how it ended, words[VD_OUTCOME_AT] what it gives. The other
    numbers are the library's own: a program may copy, store and send them, and go on with the
-   copy. A handler call and a packet have no such form: a program makes them again on the bytes
-   that it has read so far, as examples/c/interrupt.c does. */
+   copy. A handler call has no such form: a program makes it again on the bytes that it has read
+   so far, as examples/c/interrupt.c does. */
 
 /* Begins an operation, and gives what is to be done first. Any numbers may be lent: they are the
    operation's then. VD_DONE with 255 if the operation or its argument means nothing, then with

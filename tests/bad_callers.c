@@ -473,7 +473,7 @@ static void port_operation(int which, size_t script_bytes, size_t log_bytes)
 
 /* ---- operations a byte at a time: slot 2 is the operation's numbers */
 
-enum { OPERATIONS = 20 };
+enum { OPERATIONS = 21 };
 
 /* The operation that goes on from call to call: its numbers, and what it asked for last. */
 static struct { uint64_t words[VD_STEP_WORDS]; vd_request wanted; int was_begun; } step;
@@ -488,6 +488,7 @@ static int is_argument(uint32_t operation, uint64_t n)
     case VD_KEYBOARD_SET_SCANCODE_SET: return 1 <= n && n <= 3;
     case VD_KEYBOARD_REPEAT: return n <= 255;
     case VD_MOUSE_SET_IDENTITY: return is_identity(n);
+    case VD_MOUSE_READ_PACKET: return is_identity(n);
     case VD_MOUSE_COMMAND: return n <= 255 && is_mouse_command((uint32_t)n);
     case VD_MOUSE_SAMPLING_RATE: return n <= 255 && is_rate((uint32_t)n);
     case VD_MOUSE_RESOLUTION: return n <= 3;

@@ -7,7 +7,7 @@ use std::time::Duration;
 use vurdellow::drive::{drive, Patient, Ports, Recorded};
 use vurdellow::keyboard::{KeyboardType, Lamps, ScancodeSet};
 use vurdellow::{
-    Action, Controller, Event, Exchange, Handler, Identity, Keyboards, Mouse, Outcome, Port, Profile, Resolution,
+    Action, Controller, Event, Exchange, Handler, Identity, Keyboards, Outcome, Port, Profile, Resolution,
     SamplingRate, Session, Side, Steps,
 };
 
@@ -312,7 +312,7 @@ impl Live {
                 plain(ports, &named, Session::mouse_resolution(resolution))
             }
             "read_mouse_packet" => {
-                let driven = driven(ports, Mouse { identity: id? }.reading());
+                let driven = driven(ports, Session::mouse_read_packet(id?));
                 let packet = driven.outcome.ok()?.value;
                 let [left, right, middle, b4, b5] =
                     [packet.left(), packet.right(), packet.middle(), packet.fourth(), packet.fifth()].map(u8::from);

@@ -31,7 +31,7 @@ use Rattle.talks.specs.Keyboard as keyboard
 use Rattle.talks.specs.Mouse as mouse
 use Rattle.talks.specs.Controller as controller
 use Rattle.sessions.specs.declared.Operation.{Operation}
-use Rattle.sessions.specs.declared.Operation.TheVariants.{InitializeController, InitializeKeyboard, ResetKeyboard, CommandKeyboard, SetLamps, SetScancodeSet, GetScancodeSet, DetectKeyboard, SetRepeat, KeyboardWaits, ReadScancode, ResetMouse, StartPackets, StopPackets, GetIdentity, SetIdentity, CommandMouse, SetSamplingRate, SetResolution, MouseWaits}
+use Rattle.sessions.specs.declared.Operation.TheVariants.{InitializeController, InitializeKeyboard, ResetKeyboard, CommandKeyboard, SetLamps, SetScancodeSet, GetScancodeSet, DetectKeyboard, SetRepeat, KeyboardWaits, ReadScancode, ResetMouse, StartPackets, StopPackets, GetIdentity, SetIdentity, CommandMouse, SetSamplingRate, SetResolution, MouseWaits, ReadPacket}
 use Rattle.sessions.specs.Memory.{reply_in}
 use Rattle.sessions.specs.Operations.{talk_of}
 use Rattle.sessions.specs.Rounds.{Rounds, over, round, joined, on_done, unless_accepted, attempt_rounds, rounds, past, shown}
@@ -234,6 +234,18 @@ mouse_waits_asks : Asks 1 (rounds mouse.mouse_waits)
 unfolding mouse.mouse_waits
 mouse_waits_asks = sought_asks _ _ _ _
 
+after_three_asks : (id : MouseId) (a b c : ℕ) → Asks 1 (rounds (mouse.after_three id a b c))
+after_three_asks Zero a b c = tells_asks _ 1
+after_three_asks Three a b c = sought_asks _ _ _ _
+after_three_asks Four a b c = sought_asks _ _ _ _
+
+packet_asks : (id : MouseId) → Asks 4 (rounds (mouse.read_packet id))
+unfolding mouse.read_packet
+packet_asks id =
+    next_asks command.read_data _ 1 3 4 (seek_asks _ _ _)
+    (λ a. next_asks command.read_data _ 1 2 3 (seek_asks _ _ _)
+    (λ b. next_asks command.read_data (mouse.after_three id a b) 1 1 2 (seek_asks _ _ _) (after_three_asks id a b) (omega arith)) (omega arith)) (omega arith)
+
 rates_asks : (a b c : MouseSampleRate) → Asks 78 (rounds (mouse.set_rates a b c))
 unfolding mouse.set_rates
 rates_asks a b c =
@@ -361,3 +373,4 @@ most_asked (CommandMouse c) = told_asks (mouse.mouse_command c) _ 13 (omega arit
 most_asked (SetSamplingRate rate) = told_asks (mouse.set_sampling_rate rate) _ 26 (omega arith) (rate_asks rate)
 most_asked (SetResolution r) = told_asks (mouse.set_resolution r) _ 26 (omega arith) (resolution_asks r)
 most_asked MouseWaits = told_asks mouse.mouse_waits _ 1 (omega arith) mouse_waits_asks
+most_asked (ReadPacket id) = told_asks (mouse.read_packet id) _ 4 (omega arith) (packet_asks id)

@@ -5,23 +5,24 @@ ghost use Rattle.std.specs.Prelude.{◌≡◌};
 ghost use Rattle.ps2_answers.specs.Refusals.{number_of};
 ghost use Rattle.talks.specs.Heard.{by, heard};
 ghost use Rattle.sessions.specs.Memory.{reply_in, memory};
-ghost use Rattle.sessions.specs.Operations.{talk_of, value_told, one_number, refused_as, identity_told, controller_told};
+ghost use Rattle.sessions.specs.Operations.{talk_of, value_told, one_number, refused_as, identity_told, controller_told, packet_told};
 ghost use Rattle.sessions.specs.Rounds.{rounds, past, shown};
 
-use port_words::Value;
-use ps2_answers::Failure;
+use port_words::{Value, packet_words};
+use ps2_answers::{Counted, Failure};
 use ps2_bytes::{
     HostToKeyboardCommand, HostToMouseCommand, MouseId, MouseResolution, MouseSampleRate,
     ScancodeSet,
 };
 use ps2_init::PS2Controller;
 use ps2_layouts::LEDState;
+use ps2_packet::SignedPacket;
 use ps2_ports::DevicePort;
 use questions::Question;
 use talks::{
     ControllerLeft, IdentityLeft, Partner, Stop, disable_packet_streaming, enable_packet_streaming,
     get_scancode_set, initialize, keyboard_command, keyboard_detect, keyboard_init, keyboard_waits,
-    mouse_command, mouse_id, mouse_waits, read_data, reset_keyboard, reset_mouse,
+    mouse_command, mouse_id, mouse_waits, read_data, read_packet, reset_keyboard, reset_mouse,
     set_keyboard_repeat, set_mouse_id, set_port_led, set_resolution, set_sampling_rate,
     set_scancode_set,
 };
@@ -49,6 +50,7 @@ pub enum Operation {
     SetSamplingRate(MouseSampleRate),
     SetResolution(MouseResolution),
     MouseWaits,
+    ReadPacket(MouseId),
 }
 
 /// What an operation comes to: the refusal's number, 0 where there is none, and what it hands back.
@@ -58,6 +60,7 @@ pub struct Ending {
     pub first: u64,
     pub second: u64,
     pub third: u64,
+    pub fourth: u64,
 }
 
 /// What the ports replied so far, told once more.
@@ -97,6 +100,7 @@ fn one<V: Value>(value: V) -> Ending
         first: value.number(),
         second: 0,
         third: 0,
+        fourth: 0,
     }
 }
 
@@ -109,6 +113,7 @@ fn identity_ending(left: IdentityLeft) -> Ending
         first: left.id.number(),
         second: 0,
         third: 0,
+        fourth: 0,
     }
 }
 
@@ -121,6 +126,22 @@ fn controller_ending(left: ControllerLeft) -> Ending
         first: left.controller.initialized.number(),
         second: left.controller.keyboard_attached.number(),
         third: left.controller.mouse_attached.number(),
+        fourth: 0,
+    }
+}
+
+// What is handed back of a packet: the numbers of the one call's answer, of which a signed one is its
+// 64 bits.
+fn packet_ending(packet: SignedPacket) -> Ending
+    ensures { result ≡ packet_told packet }
+{
+    let words = packet_words(Ok(Counted::new(packet)));
+    Ending {
+        refusal: 0,
+        first: u64::from(words.buttons),
+        second: i64::from(words.x).cast_unsigned(),
+        third: i64::from(words.y).cast_unsigned(),
+        fourth: i64::from(words.wheel).cast_unsigned(),
     }
 }
 
@@ -219,6 +240,10 @@ pub fn run<P: Partner>(partner: &mut P, operation: Operation) -> Result<Ending, 
         Operation::MouseWaits => {
             let waits = mouse_waits(partner)?;
             Ok(one(waits))
+        }
+        Operation::ReadPacket(id) => {
+            let packet = read_packet(partner, id)?;
+            Ok(packet_ending(packet))
         }
     }
 }

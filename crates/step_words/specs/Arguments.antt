@@ -15,7 +15,7 @@ use Rattle.ps2_bytes.specs.declared.response.MouseId.{MouseId}
 use Rattle.ps2_layouts.specs.declared.leds.LEDState.{LEDState}
 use Rattle.ps2_init.specs.declared.PS2Controller.{PS2Controller}
 use Rattle.sessions.specs.declared.Operation.{Operation}
-use Rattle.sessions.specs.declared.Operation.TheVariants.{InitializeController, InitializeKeyboard, ResetKeyboard, CommandKeyboard, SetLamps, SetScancodeSet, GetScancodeSet, DetectKeyboard, SetRepeat, KeyboardWaits, ReadScancode, ResetMouse, StartPackets, StopPackets, GetIdentity, SetIdentity, CommandMouse, SetSamplingRate, SetResolution, MouseWaits}
+use Rattle.sessions.specs.declared.Operation.TheVariants.{InitializeController, InitializeKeyboard, ResetKeyboard, CommandKeyboard, SetLamps, SetScancodeSet, GetScancodeSet, DetectKeyboard, SetRepeat, KeyboardWaits, ReadScancode, ResetMouse, StartPackets, StopPackets, GetIdentity, SetIdentity, CommandMouse, SetSamplingRate, SetResolution, MouseWaits, ReadPacket}
 use Rattle.step_words.specs.Places.{onward, below}
 
 -- No argument: 0.
@@ -81,7 +81,8 @@ mouse_operation_in n a =
     (cond (eqb n 17) (onward (mouse_command_in a) (λ c. Some (CommandMouse c)))
     (cond (eqb n 18) (onward (rate_in a) (λ r. Some (SetSamplingRate r)))
     (cond (eqb n 19) (onward (resolution_in a) (λ r. Some (SetResolution r)))
-    (cond (eqb n 20) (plainly a MouseWaits) None))))))))
+    (cond (eqb n 20) (plainly a MouseWaits)
+    (cond (eqb n 21) (onward (identity_in a) (λ i. Some (ReadPacket i))) None)))))))))
 
 unfoldable pub operation_in : ℕ → ℕ → Option Operation
 operation_in n a =

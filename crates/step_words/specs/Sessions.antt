@@ -30,7 +30,7 @@ session_in f = counted_in (operation_in (get_or f 0 0) (get_or f 1 0)) f
 
 -- What the operation came to, once it is at its end.
 abbrev pub ending_in : List ℕ → Ending
-ending_in f = record { refusal = get_or f 7 0; first = get_or f 8 0; second = get_or f 9 0; third = get_or f 10 0 }
+ending_in f = record { refusal = get_or f 7 0; first = get_or f 8 0; second = get_or f 9 0; third = get_or f 10 0; fourth = get_or f 11 0 }
 
 -- The bytes that were thrown away so far.
 abbrev pub kept_in : List ℕ → List ℕ → KeptBytes
@@ -61,7 +61,7 @@ said_request (Asks q) = requested q
 said_request (Ends n) = nothing
 
 abbrev pub left_in : Option Session → List ℕ → Exchange Ending
-left_in None replies = done (record { refusal = 0; first = 0; second = 0; third = 0 })
+left_in None replies = done (record { refusal = 0; first = 0; second = 0; third = 0; fourth = 0 })
 left_in (Some s) replies = rest s replies
 
 abbrev pub said_rest : Advance → List ℕ → List ℕ → Exchange Ending

@@ -140,6 +140,7 @@ fn mouse_operation_at(number: u64, argument: u64) -> Option<Operation>
         18 => Some(Operation::SetSamplingRate(rate_at(argument)?)),
         19 => Some(Operation::SetResolution(resolution_at(argument)?)),
         20 => plain(argument, Operation::MouseWaits),
+        21 => Some(Operation::ReadPacket(identity_at(argument)?)),
         _ => None,
     }
 }

@@ -72,7 +72,7 @@ fn end(fields: &mut [u64], ending: Ending) -> Advance
     fields[8] = ending.first;
     fields[9] = ending.second;
     fields[10] = ending.third;
-    fields[11] = 0;
+    fields[11] = ending.fourth;
     Advance::Ends(ending.refusal)
 }
 
@@ -85,6 +85,7 @@ fn failed(failure: Failure) -> Ending
         first: 0,
         second: 0,
         third: 0,
+        fourth: 0,
     }
 }
 

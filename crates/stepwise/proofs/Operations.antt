@@ -11,6 +11,7 @@ use Rattle.ps2_bytes.specs.Responses.{mouse_id_byte}
 use Rattle.ps2_answers.specs.Refusals.{Success}
 use Rattle.ps2_answers.specs.declared.Failure.{Failure}
 use Rattle.ps2_ports.specs.declared.DevicePort.TheVariants.{Port1}
+use Rattle.ps2_packet.specs.declared.SignedPacket.{SignedPacket}
 use Rattle.port_words.specs.Told.{no_value, byte_value, type_number}
 use Rattle.talks.specs.declared.mouse.IdentityLeft.{IdentityLeft}
 use Rattle.talks.specs.declared.controller.ControllerLeft.{ControllerLeft}
@@ -21,17 +22,17 @@ use Rattle.talks.specs.Mouse as mouse
 use Rattle.talks.specs.Controller as controller
 use Rattle.talk_trees.proofs.Trees.{telling}
 use Rattle.talk_trees.proofs.Keyboard.{answering_keyboard_command, answering_reset_keyboard, answering_keyboard_led, answering_get_set, answering_set_set, answering_repeat, answering_keyboard_waits, answering_read_data, answering_detect, answering_keyboard_init}
-use Rattle.talk_trees.proofs.Mouse.{answering_mouse_command, answering_reset_mouse, answering_rate, answering_resolution, answering_disable, answering_enable, answering_mouse_id, answering_mouse_waits, telling_set_mouse_id}
+use Rattle.talk_trees.proofs.Mouse.{answering_mouse_command, answering_reset_mouse, answering_rate, answering_resolution, answering_disable, answering_enable, answering_mouse_id, answering_mouse_waits, answering_packet, telling_set_mouse_id}
 use Rattle.talk_trees.proofs.Mouse as mouse_trees
 use Rattle.talk_trees.proofs.Controller.{telling_initialize}
 use Rattle.talk_trees.proofs.Controller as controller_trees
 use Rattle.sessions.specs.declared.Operation.{Operation}
-use Rattle.sessions.specs.declared.Operation.TheVariants.{InitializeController, InitializeKeyboard, ResetKeyboard, CommandKeyboard, SetLamps, SetScancodeSet, GetScancodeSet, DetectKeyboard, SetRepeat, KeyboardWaits, ReadScancode, ResetMouse, StartPackets, StopPackets, GetIdentity, SetIdentity, CommandMouse, SetSamplingRate, SetResolution, MouseWaits}
+use Rattle.sessions.specs.declared.Operation.TheVariants.{InitializeController, InitializeKeyboard, ResetKeyboard, CommandKeyboard, SetLamps, SetScancodeSet, GetScancodeSet, DetectKeyboard, SetRepeat, KeyboardWaits, ReadScancode, ResetMouse, StartPackets, StopPackets, GetIdentity, SetIdentity, CommandMouse, SetSamplingRate, SetResolution, MouseWaits, ReadPacket}
 use Rattle.sessions.specs.declared.Ending.{Ending}
-use Rattle.sessions.specs.Operations.{refused_as, value_told, identity_told, controller_told, telling_number, talk_of}
+use Rattle.sessions.specs.Operations.{refused_as, value_told, identity_told, controller_told, packet_told, telling_number, talk_of}
 use Rattle.sessions.proofs.Rounds.{exchange_rounds}
 use Rattle.step_words.specs.Sessions.{ended, whole}
-use Rattle.stepwise.specs.Operations.{answer_numbers, numbers, mouse_numbers, controller_numbers, operation}
+use Rattle.stepwise.specs.Operations.{answer_numbers, numbers, mouse_numbers, controller_numbers, packet_numbers, operation}
 
 module _ {A : Type 0} (worth : A → ℕ) where
   value_both : (r : Result A Failure) → bind (on_ok (λ a. tree (tells (Ok (value_told worth a)))) r) (λ r. done (ended r)) ≡ bind (done (answer_of r)) (λ a. done (answer_numbers worth a))
@@ -71,13 +72,17 @@ refused (Ok s) = refl
 refused (Err f) = refl
 
 mouse_left : (r : Result IdentityLeft Failure) → ending_of identity_told r ≡ mouse_numbers (mouse_trees.left_told r)
-mouse_left (Ok l) = ap (λ n. record { refusal = n; first = mouse_id_byte l.id; second = 0; third = 0 }) (refused l.answer)
+mouse_left (Ok l) = ap (λ n. record { refusal = n; first = mouse_id_byte l.id; second = 0; third = 0; fourth = 0 }) (refused l.answer)
 mouse_left (Err f) = refl
 
 controller_left : (r : Result ControllerLeft Failure) → ending_of controller_told r ≡ controller_numbers (controller_trees.left_told r)
 controller_left (Ok l) =
-    ap (λ n. record { refusal = n; first = weigh l.controller.initialized; second = weigh l.controller.keyboard_attached; third = weigh l.controller.mouse_attached }) (refused l.answer)
+    ap (λ n. record { refusal = n; first = weigh l.controller.initialized; second = weigh l.controller.keyboard_attached; third = weigh l.controller.mouse_attached; fourth = 0 }) (refused l.answer)
 controller_left (Err f) = refl
+
+packet_left : (r : Result SignedPacket Failure) → ending_of packet_told r ≡ packet_numbers (answer_of r)
+packet_left (Ok p) = refl
+packet_left (Err f) = refl
 
 told : (o : Operation) → telling ended (talk_of o) ≡ operation o
 unfolding talk_of operation
@@ -101,6 +106,7 @@ told (CommandMouse c) = told_value no_value (mouse.mouse_command c) _ (answering
 told (SetSamplingRate rate) = told_value no_value (mouse.set_sampling_rate rate) _ (answering_rate rate)
 told (SetResolution resolution) = told_value no_value (mouse.set_resolution resolution) _ (answering_resolution resolution)
 told MouseWaits = told_value weigh mouse.mouse_waits _ answering_mouse_waits
+told (ReadPacket id) = told_left packet_told answer_of packet_numbers (mouse.read_packet id) _ packet_left (answering_packet id)
 
 pub whole_operation : (o : Operation) → whole o ≡ operation o
 whole_operation o = ap (λ x. bind x (λ r. done (ended r))) (exchange_rounds (talk_of o)) ∙ told o

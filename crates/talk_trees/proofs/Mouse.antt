@@ -1,4 +1,5 @@
 -- Each of the mouse's talks is its tree. Assumes nothing.
+use Prim.Native.Nat.{ℕ}
 use mathlib.Core.List.{[], ◌∷◌}
 use mathlib.Core.Path.{◌≡◌, refl, ap, ◌∙◌, fun_ext}
 use Rattle.std.specs.Prelude.{Result, Ok, Err}
@@ -22,6 +23,10 @@ use Rattle.ps2_command.specs.Search.{poll_when, listed_turn}
 use Rattle.ps2_mouse.specs.Mouse as tree
 use Rattle.ps2_mouse.specs.Mouse.{command_to_mouse, mouse_byte_waits}
 use Rattle.ps2_mouse.specs.declared.PS2Mouse.{PS2Mouse}
+use Rattle.ps2_packet.specs.declared.SignedPacket.{SignedPacket}
+use Rattle.ps2_packet.specs.declared.MousePacket.TheVariants as Packet
+use Rattle.ps2_packet.specs.Packet.{generic, packet3, packet4, signed_packet}
+use Rattle.ps2_packet_reading.specs.Reading.{three_bytes, read_mouse_packet, read_signed_packet}
 use Rattle.ps2_mouse_identity.specs.Identity as tree_of
 use Rattle.ps2_mouse_identity.specs.Identity.{wheel_rates, button_rates}
 use Rattle.questions.specs.declared.Sought.TheVariants.{MouseIdentity, Status}
@@ -76,6 +81,24 @@ answering_mouse_id = answering_next (talk.mouse_command _) _ (λ _. next (seek M
 pub answering_mouse_waits : answering talk.mouse_waits ≡ tree.mouse_output_buffer_full
 unfolding talk.mouse_waits tree.mouse_output_buffer_full read_status and_then bind
 answering_mouse_waits = answering_seek Status 0 NoResponse (λ status. tells (Ok (mouse_byte_waits status))) ∙ ap (read p64) (fun_ext (λ b. answering_tells (Ok (mouse_byte_waits b))))
+
+-- ---- a packet
+
+reads_three : {B : Type 0} (g : ℕ → ℕ → ℕ → Talk B) (h : ℕ → ℕ → ℕ → Exchange (Answer B)) → ((a b c : ℕ) → answering (g a b c) ≡ h a b c)
+    → answering (next read_data (λ a. next read_data (λ b. next read_data (g a b)))) ≡ three_bytes h
+reads_three g h e =
+    answering_data (λ a. next read_data (λ b. next read_data (g a b)))
+    ∙ ap (read p60) (fun_ext (λ a. answering_data (λ b. next read_data (g a b)) ∙ ap (read p60) (fun_ext (λ b. answering_data (g a b) ∙ ap (read p60) (fun_ext (e a b))))))
+
+pub answering_packet : (id : MouseId) → answering (talk.read_packet id) ≡ read_signed_packet id
+unfolding talk.read_packet read_signed_packet read_mouse_packet and_then bind
+answering_packet Zero = reads_three (talk.after_three Zero) (λ b1 b2 b3. done (gives (signed_packet (Packet.Zero (generic b1 b2 b3))))) (λ a b c. answering_tells _)
+answering_packet Three =
+    reads_three (talk.after_three Three) (λ b1 b2 b3. read p60 (λ b4. done (gives (signed_packet (Packet.Three (packet3 b1 b2 b3 b4))))))
+    (λ a b c. answering_data (λ b4. tells (Ok (signed_packet (Packet.Three (packet3 a b c b4))))) ∙ ap (read p60) (fun_ext (λ b4. answering_tells _)))
+answering_packet Four =
+    reads_three (talk.after_three Four) (λ b1 b2 b3. read p60 (λ b4. done (gives (signed_packet (Packet.Four (packet4 b1 b2 b3 b4))))))
+    (λ a b c. answering_data (λ b4. tells (Ok (signed_packet (Packet.Four (packet4 a b c b4))))) ∙ ap (read p60) (fun_ext (λ b4. answering_tells _)))
 
 -- ---- `set_mouse_id`
 

@@ -18,6 +18,9 @@ use Rattle.ps2_answers.specs.Refusals.{Success, success}
 use Rattle.ps2_answers.specs.declared.Failure.{Failure}
 use Rattle.ps2_answers.specs.declared.Failure.TheVariants.{NoSetOrIdentity, FirstIdentityFour, RateOrResolutionNotSet, PacketsNotStopped, PacketsNotStarted}
 use Rattle.ps2_mouse.specs.Mouse.{mouse_byte_waits}
+use Rattle.ps2_packet.specs.declared.SignedPacket.{SignedPacket}
+use Rattle.ps2_packet.specs.declared.MousePacket.TheVariants as Packet
+use Rattle.ps2_packet.specs.Packet.{generic, packet3, packet4, signed_packet}
 use Rattle.questions.specs.declared.Sought.TheVariants.{MouseIdentity}
 use Rattle.talks.specs.declared.Stop.{Stop}
 use Rattle.talks.specs.declared.mouse.IdentityLeft.{IdentityLeft}
@@ -60,6 +63,15 @@ mouse_id = next (mouse_command Command.GetDeviceID) (λ _. next (seek MouseIdent
 -- Whether there is a byte of the mouse to read.
 unfoldable pub mouse_waits : Talk Bool
 mouse_waits = next read_status (λ status. tells (Ok (mouse_byte_waits status)))
+
+-- "A packet is 3 bytes at identity 0, 4 at 3 and 4, read without asking the status." Its wheel is signed.
+abbrev pub after_three : MouseId → ℕ → ℕ → ℕ → Talk SignedPacket
+after_three Zero b1 b2 b3 = tells (Ok (signed_packet (Packet.Zero (generic b1 b2 b3))))
+after_three Three b1 b2 b3 = next read_data (λ b4. tells (Ok (signed_packet (Packet.Three (packet3 b1 b2 b3 b4)))))
+after_three Four b1 b2 b3 = next read_data (λ b4. tells (Ok (signed_packet (Packet.Four (packet4 b1 b2 b3 b4)))))
+
+unfoldable pub read_packet : MouseId → Talk SignedPacket
+read_packet id = next read_data (λ b1. next read_data (λ b2. next read_data (after_three id b1 b2)))
 
 -- ---- `set_mouse_id`
 

@@ -22,7 +22,7 @@ pub use keyboard::{
 };
 pub use mouse::{
     IdentityLeft, disable_packet_streaming, enable_packet_streaming, mouse_command, mouse_id,
-    mouse_waits, reset_mouse, set_mouse_id, set_resolution, set_sampling_rate,
+    mouse_waits, read_packet, reset_mouse, set_mouse_id, set_resolution, set_sampling_rate,
 };
 use ps2_answers::Failure;
 use questions::Question;

@@ -14,6 +14,7 @@ use ps2_bytes::{
     MouseSampleRate,
 };
 use ps2_layouts::ControllerToHostStatus;
+use ps2_packet::{MousePacket, MousePacket3, MousePacket4, MousePacketGeneric, SignedPacket};
 use ps2_ports::DevicePort;
 use questions::Sought;
 
@@ -143,6 +144,42 @@ pub fn mouse_waits<P: Partner>(partner: &mut P) -> Result<bool, Stop>
     let waits = status.output_buffer_full();
     let of_mouse = status.mouse_output_buffer_full();
     Ok(waits && of_mouse)
+}
+
+// What follows a packet's first three bytes: at identity 0 nothing, at 3 and 4 a fourth.
+#[tactic(auto, unfolding(crate::specs::Heard::heard))]
+fn after_three<P: Partner>(
+    partner: &mut P,
+    id: MouseId,
+    byte1: u8,
+    byte2: u8,
+    byte3: u8,
+) -> Result<SignedPacket, Stop>
+    ensures { by result partner.new ≡ heard P.replies (talk.after_three id byte1 byte2 byte3) partner.old }
+{
+    let packet = match id {
+        MouseId::Zero => MousePacket::Zero(MousePacketGeneric::from_bytes(byte1, byte2, byte3)),
+        MouseId::Three => {
+            let byte4 = read_data(partner)?;
+            MousePacket::Three(MousePacket3::from_bytes(byte1, byte2, byte3, byte4))
+        }
+        MouseId::Four => {
+            let byte4 = read_data(partner)?;
+            MousePacket::Four(MousePacket4::from_bytes(byte1, byte2, byte3, byte4))
+        }
+    };
+    Ok(SignedPacket { packet })
+}
+
+/// Reads the packet that a mouse of this identity sends, without asking the status.
+#[tactic(auto, unfolding(crate::specs::Mouse::read_packet, crate::specs::Heard::heard))]
+pub fn read_packet<P: Partner>(partner: &mut P, id: MouseId) -> Result<SignedPacket, Stop>
+    ensures { by result partner.new ≡ heard P.replies (talk.read_packet id) partner.old }
+{
+    let byte1 = read_data(partner)?;
+    let byte2 = read_data(partner)?;
+    let byte3 = read_data(partner)?;
+    after_three(partner, id, byte1, byte2, byte3)
 }
 
 // Sets three rates, one after another.

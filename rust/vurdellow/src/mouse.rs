@@ -56,7 +56,7 @@ pub struct Packet {
 
 impl Packet {
     /// A packet's numbers fit: movements have nine bits, a wheel eight.
-    fn of(buttons: u32, x: i32, y: i32, wheel: i32) -> Packet {
+    pub(crate) fn of(buttons: u32, x: i32, y: i32, wheel: i32) -> Packet {
         Packet { buttons: buttons as u8, x: x as i16, y: y as i16, wheel: wheel as i8 }
     }
 

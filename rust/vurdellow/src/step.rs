@@ -31,8 +31,8 @@ use crate::keyboard::{
 };
 use crate::refusal::{settled, Counts, Done, Exchange, Outcome, Refusal, Refused};
 use crate::{
-    raw, Controller, Identity, Mouse, MouseCommand, Packet, Port, Preferences, Resolution,
-    SamplingRate, Side,
+    raw, Controller, Identity, MouseCommand, Packet, Port, Preferences, Resolution, SamplingRate,
+    Side,
 };
 use core::borrow::BorrowMut;
 
@@ -69,6 +69,7 @@ enum Operation {
     MouseSamplingRate = 18,
     MouseResolution = 19,
     MouseWaits = 20,
+    MouseReadPacket = 21,
 }
 
 /// What is to be done at the ports, or what the operation came to.
@@ -341,6 +342,29 @@ impl Session<IdentitySet> {
     }
 }
 
+impl Session<Exchange<Packet>> {
+    /// Reads the packet that a mouse of this identity sends: three bytes or four, without asking
+    /// the status.
+    ///
+    /// ```
+    /// use vurdellow::{Identity, Request, Session, Steps};
+    /// let mut session = Session::mouse_read_packet(Identity::NoWheel);
+    /// for byte in [0x29, 0x05, 0xFE] {
+    ///     session.next(byte);
+    /// }
+    /// let Request::Done(Ok(done)) = session.wanted() else { panic!("it has three bytes") };
+    /// assert!(done.value.left() && done.value.x == 5 && done.value.y == -2);
+    /// ```
+    #[must_use]
+    pub fn mouse_read_packet(identity: Identity) -> Self {
+        Session::begin(Operation::MouseReadPacket, identity.number(), |course, refusal| {
+            let [buttons, x, y, wheel] = [0, 1, 2, 3].map(|at| course.number(at));
+            let packet = Packet::of(buttons as u32, x as i32, y as i32, wheel as i32);
+            course.exchanged(refusal, |_| packet)
+        })
+    }
+}
+
 impl Session<Exchange<Controller>> {
     /// Tests the controller and its ports, enables them and resets the devices, as
     /// [`Controller::initialize`] does. It gives the record that is to be kept. If it is refused,
@@ -474,48 +498,6 @@ impl Script {
     fn push(&mut self, byte: u8) {
         self.bytes[self.length] = byte;
         self.length += 1;
-    }
-}
-
-/// The reading of a packet, begun: it reads three bytes or four, and does not ask the status.
-#[derive(Clone, Copy, Debug)]
-pub struct PacketReading {
-    mouse: Mouse,
-    bytes: [u8; 4],
-    read: usize,
-}
-
-impl Steps for PacketReading {
-    type Outcome = Exchange<Packet>;
-
-    fn wanted(&self) -> Request<Exchange<Packet>> {
-        let outcome = self.mouse.read_packet(&self.bytes[..self.read]);
-        outcome.lacks().map_or(Request::Done(outcome), Request::Read)
-    }
-
-    fn next(&mut self, byte: u8) {
-        if let Request::Read(_) = self.wanted() {
-            self.bytes[self.read] = byte;
-            self.read += 1;
-        }
-    }
-}
-
-impl Mouse {
-    /// Begins to read a packet a byte at a time.
-    ///
-    /// ```
-    /// use vurdellow::{Mouse, Request, Steps};
-    /// let mut reading = Mouse::default().reading();
-    /// for byte in [0x09, 0x05, 0x00] {
-    ///     reading.next(byte);
-    /// }
-    /// let Request::Done(Ok(done)) = reading.wanted() else { panic!("it has three bytes") };
-    /// assert!(done.value.left() && done.value.x == 5);
-    /// ```
-    #[must_use]
-    pub fn reading(&self) -> PacketReading {
-        PacketReading { mouse: *self, bytes: [0; 4], read: 0 }
     }
 }
 

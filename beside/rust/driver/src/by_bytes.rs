@@ -31,7 +31,8 @@ pub mod operation {
     pub const MOUSE_SAMPLING_RATE: u32 = 18;
     pub const MOUSE_RESOLUTION: u32 = 19;
     pub const MOUSE_WAITS: u32 = 20;
-    pub const LAST: u32 = MOUSE_WAITS;
+    pub const MOUSE_READ_PACKET: u32 = 21;
+    pub const LAST: u32 = MOUSE_READ_PACKET;
 }
 
 /// The kinds of requests.

@@ -440,6 +440,11 @@ impl Port {
             _ => {
                 let signed = self.note("vd_mouse_read_packet", vd::mouse_read_packet(id as u32, script));
                 Self::signed_alike(id, &signed, &packet)?;
+                let PacketWords { refusal, port, used, buttons, x, y, wheel } = signed;
+                let [x, y, wheel] = [x, y, wheel].map(|n| i64::from(n) as u64);
+                let told = (by::MOUSE_READ_PACKET, id.into());
+                let answer = PortWords { refusal, port, used, pairs: 0, value: 0 };
+                self.alike_by_bytes(told, script, answer, &[], &[buttons.into(), x, y, wheel])?;
                 signed
             }
         };

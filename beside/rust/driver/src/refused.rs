@@ -284,6 +284,7 @@ pub fn check(kind: usize, port: &mut Port) -> Result<(), String> {
                     (operation::KEYBOARD_SET_SCANCODE_SET, vec![1, 2, 3]),
                     (operation::KEYBOARD_REPEAT, (0..256).collect()),
                     (operation::MOUSE_SET_IDENTITY, identities.to_vec()),
+                    (operation::MOUSE_READ_PACKET, identities.to_vec()),
                     (operation::MOUSE_COMMAND, MOUSE_COMMANDS.map(u32::from).to_vec()),
                     (operation::MOUSE_SAMPLING_RATE, RATES.map(u32::from).to_vec()),
                     (operation::MOUSE_RESOLUTION, (0..4).collect()),

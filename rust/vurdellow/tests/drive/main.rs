@@ -344,7 +344,8 @@ fn one(kind: usize, seed: u64) -> usize {
         _ if byte & 1 == 0 => {
             let bytes = direct.packet(identity);
             let mouse = Mouse { identity };
-            let outcome = driven(what, &device, &other, mouse.reading(), |script, _| mouse.read_packet(script));
+            let session = Session::mouse_read_packet(identity);
+            let outcome = driven(what, &device, &other, session, |script, _| mouse.read_packet(script));
             assert_eq!(outcome, mouse.read_packet(&bytes), "{what}");
         }
         _ => {
