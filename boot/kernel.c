@@ -162,20 +162,22 @@ static void take_all(void)
 
 static void mouse_byte(uint8_t byte)
 {
-    static uint8_t script[4];
-    static size_t length;
-    vd_packet packet;
+    static uint64_t words[VD_STEP_WORDS];
+    static int is_begun;
+    const uint64_t *outcome = words + VD_OUTCOME_AT;
+    int32_t x, y, wheel;
     text it = { .length = 0 };
-    script[length++] = byte;
-    packet = vd_mouse_read_packet(identity, script, length);
-    if (packet.refusal == VD_SCRIPT_ENDS && length < sizeof script)
+    if (!is_begun)
+        vd_begin(words, VD_STEP_WORDS, VD_MOUSE_READ_PACKET, identity);
+    is_begun = vd_next(words, VD_STEP_WORDS, byte).kind != VD_DONE;
+    if (is_begun)
         return;
-    length = 0, buttons = packet.buttons;
-    mouse_x += packet.x, mouse_y -= packet.y;
+    buttons = (uint32_t)outcome[0], x = (int32_t)outcome[1], y = (int32_t)outcome[2], wheel = (int32_t)outcome[3];
+    mouse_x += x, mouse_y -= y;
     mouse_x = mouse_x < 0 ? 0 : mouse_x > MOST_X ? MOST_X : mouse_x;
     mouse_y = mouse_y < 0 ? 0 : mouse_y > MOST_Y ? MOST_Y : mouse_y;
-    put_text(&it, "packet x="), put_number(&it, packet.x), put_text(&it, " y="), put_number(&it, packet.y);
-    put_text(&it, " wheel="), put_number(&it, packet.wheel), put_text(&it, " buttons="), put_hex(&it, packet.buttons, 2);
+    put_text(&it, "packet x="), put_number(&it, x), put_text(&it, " y="), put_number(&it, y);
+    put_text(&it, " wheel="), put_number(&it, wheel), put_text(&it, " buttons="), put_hex(&it, buttons, 2);
     serial_line(it.letters);
     blank(MOUSE_ROW, FIRST_COLUMN, LAST_COLUMN, PLAIN), write(MOUSE_ROW, FIRST_COLUMN, ON(BRIGHT_CYAN, BLACK), it.letters);
 }
