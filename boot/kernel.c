@@ -11,7 +11,7 @@
 #include "ports.h"
 #include "vurdellow.h"
 
-static _Alignas(128) uint64_t record[VD_HANDLER_WORDS];
+static _Alignas(128) vd_handler record;
 static exchange ports;
 static vd_controller controller;
 static uint32_t identity, buttons;
@@ -64,7 +64,7 @@ static void show_record(void)
 {
     static const char *const names[] = { "ShiftL", "ShiftR", "CtrlL", "CtrlR", "Alt", "SuperL", "SuperR", "CAPS", "NUM", "SCROLL", "AltGr" };
     unsigned i, column = FIRST_COLUMN;
-    uint64_t waiting = record[VD_EVENTS_WAITING], flags = record[VD_FIRST_FLAGS];
+    uint64_t waiting = record.words[VD_EVENTS_WAITING], flags = record.words[VD_FIRST_FLAGS];
     int is_full = waiting == VD_QUEUE_LENGTH;
     text it = { .length = 0 };
     for (i = 0; i < sizeof names / sizeof *names; i++)
@@ -138,7 +138,7 @@ static size_t stack_used(void)
 static void take_all(void)
 {
     for (;;) {
-        vd_taken event = vd_take(record, VD_HANDLER_WORDS);
+        vd_taken event = vd_take(&record, VD_HANDLER_WORDS);
         uint32_t character;
         text it = { .length = 0 };
         if (event.side == 0)
@@ -219,7 +219,7 @@ static void tell_handled(void)
     if (dropped)
         put_text(&it, " dropped="), put_number(&it, dropped);
     if (refusal == VD_QUEUE_FULL)
-        lost++, put_text(&it, " flags="), put_hex(&it, (uint32_t)record[VD_FIRST_FLAGS], 3);
+        lost++, put_text(&it, " flags="), put_hex(&it, (uint32_t)record.words[VD_FIRST_FLAGS], 3);
     say(refusal ? ON(BRIGHT_RED, BLACK) : ports.written ? ON(YELLOW, BLACK) : 0, &it);
     show_record();
     if (ports.read == 1 && ports.script[0] == F1_RELEASED) {
@@ -252,16 +252,16 @@ static void keyboard_goes_on(unsigned polls)
         if (is_quiet)
             mouse_port(MOUSE_ON), is_quiet = 0;
         tell_handled();
-        if (record[VD_FIRST_WAITING] == 0)
+        if (record.words[VD_FIRST_WAITING] == 0)
             return;
-        exchange_handle(&ports, record);
+        exchange_handle(&ports, &record);
     }
 }
 
 /* A byte of the keyboard can be read. */
 static void keyboard_byte(void)
 {
-    exchange_handle(&ports, record);
+    exchange_handle(&ports, &record);
     exchange_step(&ports);
     keyboard_goes_on(1);
 }
@@ -303,7 +303,7 @@ static void devices_begin(void)
     say(ON(WHITE, BLACK), &it);
 
     run("keyboard_init", VD_KEYBOARD_INIT, 0);
-    vd_handler_fresh(record, VD_HANDLER_WORDS, VD_ONE_KEYBOARD, VD_ANY_KEYS);
+    vd_handler_fresh(&record, VD_HANDLER_WORDS, VD_ONE_KEYBOARD, VD_ANY_KEYS);
     if (controller.mouse) {
         identity = (uint32_t)*run("set_mouse_id", VD_MOUSE_SET_IDENTITY, VD_NO_WHEEL);
         run("mouse_enable", VD_MOUSE_START_PACKETS, 0);
@@ -366,7 +366,7 @@ void kernel(void)
             __asm__ volatile("pause");
 #endif
         /* While a call goes on the record is the call's. */
-        if (is_taking && ports.wanted.kind == VD_DONE && record[VD_EVENTS_WAITING] > 0)
+        if (is_taking && ports.wanted.kind == VD_DONE && record.words[VD_EVENTS_WAITING] > 0)
             pointer_hide(), take_all(), pointer_show();
     }
 }

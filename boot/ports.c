@@ -15,7 +15,7 @@ traffic traffic_so_far;
 /* What the handler call wants, which is made again where it has a byte more. */
 static vd_request handled(exchange *it, int has_more)
 {
-    vd_request next = { VD_DONE, 0, 0, 0 };
+    vd_request next = { VD_DONE, 0, 0, VD_OK };
     const uint8_t *pair = it->log + 2 * it->written;
     if (has_more)
         it->call = vd_handle(it->record, VD_HANDLER_WORDS, VD_SIDE_1, it->script, it->read,
@@ -29,13 +29,13 @@ static vd_request handled(exchange *it, int has_more)
     return next;
 }
 
-void exchange_begin(exchange *it, uint32_t operation, uint64_t argument)
+void exchange_begin(exchange *it, enum vd_operation operation, uint64_t argument)
 {
     it->record = NULL, it->read = it->written = 0;
     it->wanted = vd_begin(it->words, VD_STEP_WORDS, operation, argument);
 }
 
-void exchange_handle(exchange *it, uint64_t *record)
+void exchange_handle(exchange *it, vd_handler *record)
 {
     it->record = record, it->read = it->written = 0;
     it->wanted = handled(it, 1);

@@ -12,7 +12,7 @@ enum { SCRIPT_ROOM = 4096 };
 
 typedef struct exchange {
     uint64_t words[VD_STEP_WORDS]; /* an operation .. */
-    uint64_t *record;              /* .. or a handler call on this record, .. */
+    vd_handler *record;            /* .. or a handler call on this record, .. */
     vd_handled call;               /* .. which answered this last */
     vd_request wanted; /* VD_DONE: it has ended */
     /* What was read and written, as much as there is room for: for the serial line, and a
@@ -31,10 +31,10 @@ extern traffic traffic_so_far;
 void saw(uint8_t port, uint8_t value, int is_write);
 
 /* Begins an operation. */
-void exchange_begin(exchange *it, uint32_t operation, uint64_t argument);
+void exchange_begin(exchange *it, enum vd_operation operation, uint64_t argument);
 
 /* Begins a handler call for the first side. */
-void exchange_handle(exchange *it, uint64_t *record);
+void exchange_handle(exchange *it, vd_handler *record);
 
 /* Does the one read or write that is wanted. */
 void exchange_step(exchange *it);

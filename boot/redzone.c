@@ -78,18 +78,18 @@ void kernel(void)
     for (j = 0; j < VD_REPORT_KEYS; j++)
         report.presses[j] = 1000 + j;
     first_wide = vd_report_widen(report);
-    first_lamps = vd_keyboard_lamps(VD_CAPS_LAMP, script, length, log, sizeof log);
+    first_lamps = vd_keyboard_set_lamps(VD_CAPS_LAMP, script, length, log, sizeof log);
     serial_begin();
     timer_begin();
     for (i = 0; i < CALLS; i++) {
-        lamps = vd_keyboard_lamps(VD_CAPS_LAMP, script, length, log, sizeof log);
+        lamps = vd_keyboard_set_lamps(VD_CAPS_LAMP, script, length, log, sizeof log);
         wide = vd_report_widen(report);
         differ += !same(&lamps, &first_lamps, sizeof lamps) || !same(&wide, &first_wide, sizeof wide);
     }
     __asm__ volatile("cli");
     put_number(&it, CALLS), put_text(&it, " calls, "), put_number(&it, (int64_t)ticks), put_text(&it, " interrupts on ");
     put_text(&it, STACK_OF_ITS_OWN ? "a stack of their own: " : "the stack of the call: "), put_number(&it, (int64_t)differ), put_text(&it, " answers differ");
-    if (first_lamps.refusal != VD_DONE || first_lamps.count != VD_KEPT_BYTES)
+    if (first_lamps.refusal != VD_OK || first_lamps.count != VD_KEPT_BYTES)
         put_text(&it, ", and the lamps were not set");
     serial_line(it.letters);
     out8(EXIT, 0); /* ends QEMU */

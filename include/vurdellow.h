@@ -9,8 +9,12 @@
    port and the value; the log behind the pairs that were written is left as it was. Answers tell how many script bytes were used, and
    how many pairs were written.
 
-   A refusal is a number: 0 none, 1 to 33 as in docs/REFUSALS.md, and 255 if an argument means nothing (no such side, identity,
-   table ..): then nothing was read, written or changed, and all other fields of the answer are 0, but that a report comes back as it was. */
+   A refusal is a number: 0 none, 1 to 33 as in docs/REFUSALS.md, and 255 if an argument is invalid (no such side, identity, table ..):
+   then nothing was read, written or changed, and all other fields of the answer are 0, but that a report comes back as it was.
+   vd_refusal_text says it in words.
+
+   A function whose name has `get` asks a device, and one whose name has `set` tells it. An enum has 32 bits; any number may be passed as
+   one. */
 #ifndef VURDELLOW_H
 #define VURDELLOW_H
 
@@ -28,20 +32,15 @@ extern "C" {
 
 /* ---- sizes */
 
-/* How many numbers a handler's record has, and a dispatcher's state, which begins with a handler's record. Aligned to 128 bytes, its first
-   sixteen are on one page; elsewhere a call can take longer, and is otherwise the same (docs/USING.md). */
+/* How many numbers a handler's record has (vd_handler), and a dispatcher's state (vd_dispatcher), which begins with a handler's record. */
 #define VD_HANDLER_WORDS 144
 #define VD_DISPATCHER_WORDS 149
-/* The places in them of the flags of either side, of how many of its bytes wait, and of how many events wait .. */
+/* The places in a handler's record of the flags of either side, of how many of its bytes wait, and of how many events wait. */
 #define VD_FIRST_FLAGS 1
 #define VD_FIRST_WAITING 2
 #define VD_SECOND_FLAGS 6
 #define VD_SECOND_WAITING 7
 #define VD_EVENTS_WAITING 13
-/* .. and in a dispatcher's state also the mouse's identity, how much of the three scripts is used (three numbers), and who was served last. */
-#define VD_IDENTITY_AT 144
-#define VD_PLACES_AT 145
-#define VD_LAST_SERVED_AT 148
 /* How many events wait at most, and of one side if there are two keyboards. */
 #define VD_QUEUE_LENGTH 128
 #define VD_SIDE_LENGTH 96
@@ -73,33 +72,33 @@ enum vd_port { VD_DATA_PORT = 0x60, VD_STATUS_PORT = 0x64 };
    does. "of" names its argument, which is 0 if none is named. "out" names its outcome, which is 0
    if none is named, and after a refusal unless the line tells otherwise. */
 enum vd_operation {
-    VD_CONTROLLER_INIT = 1,         /* of 1 if it is initialised + 2 with a keyboard + 4 with a mouse; out: these three, 0 or 1 each,
-                                       and as they were passed after a refusal */
-    VD_KEYBOARD_INIT = 2,           /* what vd_keyboard_init does at the ports; vd_handler_fresh makes the record */
+    VD_CONTROLLER_INIT = 1,           /* of 1 if it is initialised + 2 with a keyboard + 4 with a mouse; out: these three, 0 or 1 each,
+                                         and as they were passed after a refusal */
+    VD_KEYBOARD_INIT = 2,             /* what vd_keyboard_init does at the ports; vd_handler_fresh makes the record */
     VD_KEYBOARD_RESET = 3,
-    VD_KEYBOARD_COMMAND = 4,        /* of the command byte; vd_step_kept has what was thrown away */
-    VD_KEYBOARD_LAMPS = 5,          /* of the lamps, 0 to 7; vd_step_kept has what was thrown away */
+    VD_KEYBOARD_COMMAND = 4,          /* of the command byte; vd_step_kept has what was thrown away */
+    VD_KEYBOARD_SET_LAMPS = 5,        /* of the lamps, 0 to 7; vd_step_kept has what was thrown away */
     VD_KEYBOARD_SET_SCANCODE_SET = 6, /* of the set, 1 to 3 */
-    VD_KEYBOARD_SCANCODE_SET = 7,   /* out: the set, 0 to 3 */
-    VD_KEYBOARD_DETECT = 8,         /* out: a vd_keyboard_type */
-    VD_KEYBOARD_REPEAT = 9,         /* of the byte, 0 to 255 */
-    VD_KEYBOARD_WAITS = 10,         /* out: 0 or 1 */
-    VD_KEYBOARD_READ_SCANCODE = 11, /* out: the byte */
+    VD_KEYBOARD_GET_SCANCODE_SET = 7, /* out: the set, 0 to 3 */
+    VD_KEYBOARD_DETECT = 8,           /* out: a vd_keyboard_type */
+    VD_KEYBOARD_SET_REPEAT = 9,       /* of the byte, 0 to 255 */
+    VD_KEYBOARD_WAITS = 10,           /* out: 0 or 1 */
+    VD_KEYBOARD_READ_SCANCODE = 11,   /* out: the byte */
     VD_MOUSE_RESET = 12,
     VD_MOUSE_START_PACKETS = 13,
     VD_MOUSE_STOP_PACKETS = 14,
-    VD_MOUSE_IDENTITY = 15,         /* out: a vd_identity */
-    VD_MOUSE_SET_IDENTITY = 16,     /* of the identity that is known; out: the one that is known afterwards, after a refusal too */
-    VD_MOUSE_COMMAND = 17,          /* of the command byte; vd_step_kept has what was thrown away */
-    VD_MOUSE_SAMPLING_RATE = 18,    /* of the rate */
-    VD_MOUSE_RESOLUTION = 19,       /* of the resolution, 0 to 3 */
-    VD_MOUSE_WAITS = 20,            /* out: 0 or 1 */
-    VD_MOUSE_READ_PACKET = 21       /* of the identity; out: buttons, x, y and wheel as vd_packet has them, the last three signed:
-                                       x is (int32_t)words[VD_OUTCOME_AT + 1] */
+    VD_MOUSE_GET_IDENTITY = 15,       /* out: a vd_identity */
+    VD_MOUSE_SET_IDENTITY = 16,       /* of the identity that is known; out: the one that is known afterwards, after a refusal too */
+    VD_MOUSE_COMMAND = 17,            /* of the command byte; vd_step_kept has what was thrown away */
+    VD_MOUSE_SET_SAMPLING_RATE = 18,  /* of the rate */
+    VD_MOUSE_SET_RESOLUTION = 19,     /* of the resolution, 0 to 3 */
+    VD_MOUSE_WAITS = 20,              /* out: 0 or 1 */
+    VD_MOUSE_READ_PACKET = 21         /* of the identity; out: buttons, x, y and wheel as vd_packet has them, the last three signed:
+                                         x is (int32_t)words[VD_OUTCOME_AT + 1] */
 };
 
-/* What is to be done next. VD_DONE, the 0 of vd_refusal, means that the operation has ended. */
-enum vd_request_kind { VD_READ = 1, VD_WRITE = 2 };
+/* What is to be done next: nothing, since the operation has ended, or a read or a write. */
+enum vd_request_kind { VD_DONE = 0, VD_READ = 1, VD_WRITE = 2 };
 
 /* Lamps, added up. */
 enum vd_lamp { VD_SCROLL_LAMP = 1, VD_NUM_LAMP = 2, VD_CAPS_LAMP = 4 };
@@ -122,9 +121,9 @@ enum vd_flag {
     VD_ALT_RIGHT = 1 << 10
 };
 
-/* Why a call was refused. */
+/* Why a call was refused, or VD_OK. */
 enum vd_refusal {
-    VD_DONE = 0,
+    VD_OK = 0,
     VD_ALREADY_INITIALIZED = 1,
     VD_SCRIPT_ENDS = 2,
     VD_LOG_FULL = 3,
@@ -158,8 +157,51 @@ enum vd_refusal {
     VD_SIDE_FULL = 31,
     VD_OUT_OF_RANGE = 32,
     VD_OUTSIDE_PROFILE = 33,
-    VD_MEANS_NOTHING = 255
+    VD_INVALID_ARGUMENT = 255
 };
+
+/* A refusal in words, as the wrapper has them; VD_OK is "not refused", and "no refusal has this number" stands for any other number. */
+static inline const char *vd_refusal_text(enum vd_refusal refusal)
+{
+    switch (refusal) {
+    case VD_OK: return "not refused";
+    case VD_ALREADY_INITIALIZED: return "the controller is initialised already";
+    case VD_SCRIPT_ENDS: return "the script has no byte for the next read";
+    case VD_LOG_FULL: return "the log has not two free bytes for the next write";
+    case VD_INPUT_BUFFER_FULL: return "the controller was not ready for a byte at 255 reads of the status";
+    case VD_NO_RESPONSE: return "no response came within 65,535 polls";
+    case VD_SELF_TEST_FAILED: return "the device answered FC or FD: its self test failed";
+    case VD_NOT_ACKNOWLEDGED: return "the device acknowledged none of four attempts";
+    case VD_CONTROLLER_TEST_FAILED: return "the controller's test brought no 55";
+    case VD_PORT_TEST_FAILED: return "no port passed its test";
+    case VD_RESET_FAILED: return "no AA came after a reset";
+    case VD_NO_SET_OR_IDENTITY: return "no scancode set or mouse identity came within 65,535 polls";
+    case VD_UNKNOWN_KEYBOARD: return "the keyboard is of no known type";
+    case VD_FIRST_IDENTITY_FOUR: return "the mouse had identity 4 before it was asked for it";
+    case VD_LEDS_NOT_SET: return "the lamps were not set";
+    case VD_RATE_OR_RESOLUTION_NOT_SET: return "the sampling rate or the resolution was not set";
+    case VD_PACKETS_NOT_STOPPED: return "the mouse did not stop sending packets";
+    case VD_PACKETS_NOT_STARTED: return "the mouse did not start sending packets";
+    case VD_KEYBOARD_NOT_DETECTED: return "the keyboard was not detected";
+    case VD_UNKNOWN_SCANCODE: return "the scancode has no key";
+    case VD_QUEUE_FULL: return "128 events wait";
+    case VD_MALFORMED_RECORD: return "the record is malformed, or the side is not at the table";
+    case VD_NO_ENTRY: return "a code has no entry in the table";
+    case VD_OUTPUT_FULL: return "the output is full, or too short";
+    case VD_ENDS_AFTER_F0: return "the stream ends after F0";
+    case VD_NO_KEY: return "a character has no key";
+    case VD_OUTPUT_SHORT: return "the output is too short for the text's scancodes";
+    case VD_MALFORMED_NUMBER: return "a number is cut short, too large or not shortest";
+    case VD_OUTSIDE_VALUES: return "a version, a count or a field is outside its values";
+    case VD_BYTES_FOLLOW: return "bytes follow the last field";
+    case VD_NO_ROOM: return "the next packet or position does not fit its output";
+    case VD_SIDE_FULL: return "96 events of this side wait";
+    case VD_OUT_OF_RANGE: return "a count or a sum would be outside its range";
+    case VD_OUTSIDE_PROFILE: return "the key is outside the tournament profile";
+    case VD_INVALID_ARGUMENT: return "an argument is invalid";
+    }
+    return "no refusal has this number";
+}
 
 /* The keys of events, by their press code in scancode set 1. */
 enum vd_keycode {
@@ -259,12 +301,33 @@ enum vd_keycode {
     VD_KEY_MENU = 0x5D
 };
 
+/* The library passes enums as numbers of 32 bits: a compiler that is told to shorten them (-fshort-enums) is refused here. */
+typedef char vd_enums_have_32_bits[sizeof(enum vd_keycode) == 4 && sizeof(enum vd_side) == 4 && sizeof(enum vd_refusal) == 4 ? 1 : -1];
+
 /* ---- answers and records */
+
+/* A handler's record: its numbers are lent to a call, which changes them. Whoever lends one says how many numbers it has,
+   VD_HANDLER_WORDS; another length is refused 21. A program may read the numbers whose places are named above, and copy, store and send
+   the whole. Aligned to 128 bytes, its first sixteen numbers are on one page; elsewhere a call can take longer, and is otherwise the same
+   (docs/USING.md). */
+typedef struct vd_handler {
+    uint64_t words[VD_HANDLER_WORDS];
+} vd_handler;
+
+/* A dispatcher's state: the handler's record, from which vd_take takes the events; the mouse's identity, a vd_identity; how much is used
+   of the three scripts, those of side 1, of side 2 and of the mouse; and who was served last, a vd_source. It has VD_DISPATCHER_WORDS
+   numbers, and may be read, copied and stored as a handler's record. */
+typedef struct vd_dispatcher {
+    vd_handler handler;
+    uint64_t identity;
+    uint64_t places[3];
+    uint64_t last_served;
+} vd_dispatcher;
 
 /* What an operation on the ports answers. `port` is VD_DATA_PORT or VD_STATUS_PORT if `refusal` is 2, the port of the read that the
    script was too short for, and otherwise 0. `value` is what the operation gives, 0 if it gives nothing or is refused. */
 typedef struct vd_answer {
-    uint32_t refusal;
+    enum vd_refusal refusal;
     uint32_t port;
     size_t used;
     size_t pairs;
@@ -274,7 +337,7 @@ typedef struct vd_answer {
 /* What a command answers: the earliest 16 bytes that it read and threw away, as keys pressed meanwhile, `count` of them and 0 behind
    them, and the number of the others. They are handed back after a failure too, and none after 2 or 3. */
 typedef struct vd_kept {
-    uint32_t refusal;
+    enum vd_refusal refusal;
     uint32_t port;
     size_t used;
     size_t pairs;
@@ -286,7 +349,7 @@ typedef struct vd_kept {
 /* A mouse packet that was read: buttons by vd_button, x and y from -256 to 255, and the wheel, signed at every identity.
    All are 0 if it is refused. */
 typedef struct vd_packet {
-    uint32_t refusal;
+    enum vd_refusal refusal;
     uint32_t port;
     size_t used;
     uint32_t buttons;
@@ -305,7 +368,7 @@ typedef struct vd_controller {
 
 /* What initialisation answers, with the record that it leaves: as it was passed, number by number, if it is refused. */
 typedef struct vd_initialized {
-    uint32_t refusal;
+    enum vd_refusal refusal;
     uint32_t port;
     size_t used;
     size_t pairs;
@@ -315,8 +378,8 @@ typedef struct vd_initialized {
 /* What a handler call answers. `lamps` is 14 if a lock's lamp exchange failed, which changes nothing else, and otherwise 0; `dropped`
    is how many bytes of the exchange were lost for want of room. */
 typedef struct vd_handled {
-    uint32_t refusal;
-    uint32_t lamps;
+    enum vd_refusal refusal;
+    enum vd_refusal lamps;
     size_t used;
     size_t pairs;
     uint32_t dropped;
@@ -325,18 +388,18 @@ typedef struct vd_handled {
 
 /* An event that was taken: its side, keycode, action and flags. `side` is 0, as all other fields, if none waited or it is refused. */
 typedef struct vd_taken {
-    uint32_t refusal;
-    uint32_t side;
-    uint32_t keycode;
-    uint32_t action;
+    enum vd_refusal refusal;
+    enum vd_side side;
+    enum vd_keycode keycode;
+    enum vd_action action;
     uint32_t flags;
 } vd_taken;
 
 /* What a step answers: who was served, by vd_source, and what the one call that was made answered. `call` is all 0 if no side was
    served, `packet` if no packet was read; `refusal` is that of the call. */
 typedef struct vd_step {
-    uint32_t refusal;
-    uint32_t source;
+    enum vd_refusal refusal;
+    enum vd_source source;
     vd_handled call;
     vd_packet packet;
 } vd_step;
@@ -345,28 +408,28 @@ typedef struct vd_step {
    more (VD_DONE). `refusal` is that of the operation that has ended, never 2 or 3; what a
    request has no use for is 0. */
 typedef struct vd_request {
-    uint32_t kind;
+    enum vd_request_kind kind;
     uint32_t port;
     uint32_t byte;
-    uint32_t refusal;
+    enum vd_refusal refusal;
 } vd_request;
 
 /* What a conversion answers: stream bytes used, output bytes written. Both count after a refusal too. */
 typedef struct vd_converted {
-    uint32_t refusal;
+    enum vd_refusal refusal;
     size_t used;
     size_t written;
 } vd_converted;
 
 /* What a writing answers: how many bytes of the output were written, none if it is refused. */
 typedef struct vd_written {
-    uint32_t refusal;
+    enum vd_refusal refusal;
     size_t written;
 } vd_written;
 
 /* What a salvage pass answers: bytes used, packet bytes written, and positions of dropped bytes written. All count after a refusal too. */
 typedef struct vd_salvaged {
-    uint32_t refusal;
+    enum vd_refusal refusal;
     size_t used;
     size_t packet_bytes;
     size_t dropped;
@@ -385,13 +448,13 @@ typedef struct vd_preferences {
 
 /* Preferences that were read, all 0 if the reading is refused. */
 typedef struct vd_preferences_read {
-    uint32_t refusal;
+    enum vd_refusal refusal;
     vd_preferences preferences;
 } vd_preferences_read;
 
 /* What the writing of preferences answers: how many bytes were written, none if it is refused. */
 typedef struct vd_preferences_written {
-    uint32_t refusal;
+    enum vd_refusal refusal;
     size_t written;
 } vd_preferences_written;
 
@@ -405,7 +468,7 @@ typedef struct vd_report {
 
 /* A report with a session more, or as it was if that is refused. */
 typedef struct vd_report_added {
-    uint32_t refusal;
+    enum vd_refusal refusal;
     vd_report report;
 } vd_report_added;
 
@@ -419,7 +482,7 @@ typedef struct vd_long_report {
 
 /* A long report with a session more, or as it was if that is refused. */
 typedef struct vd_long_added {
-    uint32_t refusal;
+    enum vd_refusal refusal;
     vd_long_report report;
 } vd_long_added;
 
@@ -438,7 +501,7 @@ typedef struct vd_mean {
    what was read, and comes to the same.
 
        uint64_t words[VD_STEP_WORDS];
-       vd_request it = vd_begin(words, VD_STEP_WORDS, VD_KEYBOARD_LAMPS, VD_CAPS_LAMP);
+       vd_request it = vd_begin(words, VD_STEP_WORDS, VD_KEYBOARD_SET_LAMPS, VD_CAPS_LAMP);
        while (it.kind != VD_DONE) {
            uint32_t byte = 0;
            if (it.kind == VD_WRITE) outb(it.port, it.byte); else byte = inb(it.port);
@@ -451,9 +514,9 @@ typedef struct vd_mean {
    so far, as examples/c/interrupt.c does. */
 
 /* Begins an operation, and gives what is to be done first. Any numbers may be lent: they are the
-   operation's then. VD_DONE with 255 if the operation or its argument means nothing, then with
+   operation's then. VD_DONE with 255 if the operation or its argument is invalid, then with
    21 if there are not 256 numbers: nothing has changed. */
-vd_request vd_begin(uint64_t *words, size_t words_length, uint32_t operation, uint64_t argument);
+vd_request vd_begin(uint64_t *words, size_t words_length, enum vd_operation operation, uint64_t argument);
 
 /* Goes on: `byte` is what the read brought; after a write it is any byte, and changes nothing.
    Gives what is to be done next. VD_DONE with 255 if `byte` is above 255, then with 21 if the
@@ -480,7 +543,8 @@ vd_initialized vd_controller_init(vd_controller controller, const uint8_t *scrip
 /* Makes the record fresh for a table (1 or 2 keyboards, profile 0 or 1), detects the first keyboard and asks it for scancode set 1.
    After 255, 21 (not 144 numbers), 2 and 3 the numbers are as they were; otherwise the record is fresh, also if the keyboard didn't
    do what it was asked: 4 to 7, 11, 18. */
-vd_answer vd_keyboard_init(uint64_t *words, size_t words_length, uint32_t keyboards, uint32_t profile, const uint8_t *script, size_t script_length, uint8_t *log, size_t log_length);
+vd_answer vd_keyboard_init(vd_handler *handler, size_t handler_words, enum vd_keyboards keyboards, enum vd_profile profile,
+    const uint8_t *script, size_t script_length, uint8_t *log, size_t log_length);
 
 /* Resets the keyboard (FF) and waits for its self test.
    Refused 2 to 7 and 10. */
@@ -492,7 +556,7 @@ vd_kept vd_keyboard_command(uint32_t byte, const uint8_t *script, size_t script_
 
 /* Lights these lamps of the first keyboard, 0 to 7 by vd_lamp, and puts out the others.
    Refused 2, 3 and 14. Keys that were pressed meanwhile are handed back. */
-vd_kept vd_keyboard_lamps(uint32_t lamps, const uint8_t *script, size_t script_length, uint8_t *log, size_t log_length);
+vd_kept vd_keyboard_set_lamps(uint32_t lamps, const uint8_t *script, size_t script_length, uint8_t *log, size_t log_length);
 
 /* Asks the keyboard for scancode set 1, 2 or 3, then which set it speaks; another one is no refusal.
    Refused 2 to 7 and 11. */
@@ -500,7 +564,7 @@ vd_answer vd_keyboard_set_scancode_set(uint32_t set, const uint8_t *script, size
 
 /* Asks the keyboard which scancode set it speaks: the value, 0 to 3.
    Refused 2 to 7 and 11. */
-vd_answer vd_keyboard_scancode_set(const uint8_t *script, size_t script_length, uint8_t *log, size_t log_length);
+vd_answer vd_keyboard_get_scancode_set(const uint8_t *script, size_t script_length, uint8_t *log, size_t log_length);
 
 /* Asks what keyboard this is: the value is a vd_keyboard_type.
    Refused 2 to 7 and 12. */
@@ -508,7 +572,7 @@ vd_answer vd_keyboard_detect(const uint8_t *script, size_t script_length, uint8_
 
 /* Sets repeat rate and delay (F3 and this byte, 0 to 255).
    Refused 2 to 7. */
-vd_answer vd_keyboard_repeat(uint32_t byte, const uint8_t *script, size_t script_length, uint8_t *log, size_t log_length);
+vd_answer vd_keyboard_set_repeat(uint32_t byte, const uint8_t *script, size_t script_length, uint8_t *log, size_t log_length);
 
 /* Reads the status once: the value is 1 if the keyboard has a byte to read, and otherwise 0.
    Refused 2. */
@@ -534,23 +598,24 @@ vd_answer vd_mouse_stop_packets(const uint8_t *script, size_t script_length, uin
 
 /* Asks the mouse for its identity: the value, a vd_identity.
    Refused 2 to 7 and 11. */
-vd_answer vd_mouse_identity(const uint8_t *script, size_t script_length, uint8_t *log, size_t log_length);
+vd_answer vd_mouse_get_identity(const uint8_t *script, size_t script_length, uint8_t *log, size_t log_length);
 
 /* Tries to switch wheel and side buttons on. `identity` is the one that is known, the value the one that is known afterwards.
    Refused 2, 3, 13, 15, 16 and 17; the value tells the identity that is left then too. */
-vd_answer vd_mouse_set_identity(uint32_t identity, const uint8_t *script, size_t script_length, uint8_t *log, size_t log_length);
+vd_answer vd_mouse_set_identity(enum vd_identity identity, const uint8_t *script, size_t script_length, uint8_t *log, size_t log_length);
 
-/* Sends one command byte to the mouse, up to four times until it is acknowledged: E6, E8 to EC, EE, F0, F2 to F6, FE or FF, and 255 otherwise.
+/* Sends one command byte to the mouse, up to four times until it is acknowledged: E6, E8 to EC, EE, F0, F2 to F6, FE or FF, and 255
+   otherwise.
    Refused 2 to 7. Other bytes that it read are handed back. */
 vd_kept vd_mouse_command(uint32_t byte, const uint8_t *script, size_t script_length, uint8_t *log, size_t log_length);
 
 /* Sets the sampling rate: 10, 20, 40, 60, 80, 100 or 200, and 255 otherwise.
    Refused 2, 3 and 15. */
-vd_answer vd_mouse_sampling_rate(uint32_t rate, const uint8_t *script, size_t script_length, uint8_t *log, size_t log_length);
+vd_answer vd_mouse_set_sampling_rate(uint32_t rate, const uint8_t *script, size_t script_length, uint8_t *log, size_t log_length);
 
 /* Sets the resolution: 0 to 3, and 255 otherwise.
    Refused 2, 3 and 15. */
-vd_answer vd_mouse_resolution(uint32_t resolution, const uint8_t *script, size_t script_length, uint8_t *log, size_t log_length);
+vd_answer vd_mouse_set_resolution(uint32_t resolution, const uint8_t *script, size_t script_length, uint8_t *log, size_t log_length);
 
 /* Reads the status once: the value is 1 if the mouse has a byte to read, and otherwise 0.
    Refused 2. */
@@ -558,31 +623,32 @@ vd_answer vd_mouse_waits(const uint8_t *script, size_t script_length);
 
 /* Reads a packet, 3 bytes at identity 0 and 4 at 3 and 4, without asking the status.
    Refused 2. */
-vd_packet vd_mouse_read_packet(uint32_t identity, const uint8_t *script, size_t script_length);
+vd_packet vd_mouse_read_packet(enum vd_identity identity, const uint8_t *script, size_t script_length);
 
 /* ---- the handler, whose record is 144 numbers lent by the caller */
 
-/* Makes the numbers a fresh record for a table with 1 keyboard or 2, under profile 0 (any keys) or 1 (tournament keys).
-   Gives the refusal: 255, or 21 if they are not 144. Then they are as they were. */
-uint32_t vd_handler_fresh(uint64_t *words, size_t words_length, uint32_t keyboards, uint32_t profile);
+/* Makes a record fresh for a table with 1 keyboard or 2, under profile 0 (any keys) or 1 (tournament keys).
+   Gives the refusal: 255, or 21 if it has not 144 numbers. Then they are as they were. */
+enum vd_refusal vd_handler_fresh(vd_handler *handler, size_t handler_words, enum vd_keyboards keyboards, enum vd_profile profile);
 
 /* Handles one byte of a side, its oldest waiting one or otherwise the next of the script; a lock also runs its lamp exchange.
    Refused 2, 3, 21 with the record as it was; after 19, 20, 31, 33 flags and prefix have moved on and the queue has not changed. */
-vd_handled vd_handle(uint64_t *words, size_t words_length, uint32_t side, const uint8_t *script, size_t script_length, uint8_t *log, size_t log_length);
+vd_handled vd_handle(vd_handler *handler, size_t handler_words, enum vd_side side, const uint8_t *script, size_t script_length,
+    uint8_t *log, size_t log_length);
 
 /* Takes the oldest event out of the record; `side` is 0 if none waits.
    Refused 21, with the record as it was. */
-vd_taken vd_take(uint64_t *words, size_t words_length);
+vd_taken vd_take(vd_handler *handler, size_t handler_words);
 
 /* ---- bytes */
 
 /* The ASCII character of a key under flags, 0 if it has none.
    255 if the keycode is none or the flags are above 65535. */
-uint32_t vd_character(uint32_t keycode, uint32_t flags);
+uint32_t vd_character(enum vd_keycode keycode, uint32_t flags);
 
 /* The byte by which a report takes an event: the keycode if it is a press, and from 128 on if it is a release.
    255 if the keycode or the action is none. */
-uint32_t vd_event_code(uint32_t keycode, uint32_t action);
+uint32_t vd_event_code(enum vd_keycode keycode, enum vd_action action);
 
 /* Converts scancodes of set 2 to set 1, from the start of `stream` to the start of `out`.
    Refused 22, 23 and 24: what was converted before stays, the refused code is not used. */
@@ -594,7 +660,8 @@ vd_written vd_type_text(const uint8_t *text, size_t text_length, uint8_t *out, s
 
 /* Brings recorded mouse bytes back into step: whole packets go to `packets`, the positions of bytes between them to `positions`.
    Refused 30 if one has no more room: what was written stays, and a pass from byte `used` on goes on. A cut last packet is left unused. */
-vd_salvaged vd_salvage(uint32_t identity, const uint8_t *bytes, size_t bytes_length, uint8_t *packets, size_t packets_length, uint64_t *positions, size_t positions_length);
+vd_salvaged vd_salvage(enum vd_identity identity, const uint8_t *bytes, size_t bytes_length, uint8_t *packets, size_t packets_length,
+    uint64_t *positions, size_t positions_length);
 
 /* ---- preferences */
 
@@ -621,7 +688,8 @@ vd_report vd_report_empty(void);
 
 /* Adds a session: its events, a byte each (vd_event_code), and its mouse bytes, in packets of one identity.
    Refused 32 if a number would be outside its range, with the report as it was. */
-vd_report_added vd_report_add(vd_report report, uint32_t identity, const uint8_t *events, size_t events_length, const uint8_t *mouse, size_t mouse_length);
+vd_report_added vd_report_add(vd_report report, enum vd_identity identity, const uint8_t *events, size_t events_length,
+    const uint8_t *mouse, size_t mouse_length);
 
 /* The mean movement sideways, and up or down. */
 vd_mean vd_report_mean_x(vd_report report);
@@ -635,7 +703,8 @@ vd_long_report vd_long_report_empty(void);
 
 /* Adds a session, as vd_report_add does, within the wider limits.
    Refused 32 if a number would be outside its range, with the report as it was. */
-vd_long_added vd_long_report_add(vd_long_report report, uint32_t identity, const uint8_t *events, size_t events_length, const uint8_t *mouse, size_t mouse_length);
+vd_long_added vd_long_report_add(vd_long_report report, enum vd_identity identity, const uint8_t *events, size_t events_length,
+    const uint8_t *mouse, size_t mouse_length);
 
 /* The mean movement sideways, and up or down. */
 vd_mean vd_long_report_mean_x(vd_long_report report);
@@ -643,14 +712,17 @@ vd_mean vd_long_report_mean_y(vd_long_report report);
 
 /* ---- the dispatcher, whose state is 149 numbers lent by the caller */
 
-/* Makes the numbers a fresh state: a fresh record for this table, a mouse of this identity, and nobody served yet.
-   Gives the refusal: 255, or 21 if they are not 149. Then they are as they were. */
-uint32_t vd_dispatcher_fresh(uint64_t *words, size_t words_length, uint32_t keyboards, uint32_t profile, uint32_t identity);
+/* Makes a state fresh: a fresh record for this table, a mouse of this identity, and nobody served yet.
+   Gives the refusal: 255, or 21 if it has not 149 numbers. Then they are as they were. */
+enum vd_refusal vd_dispatcher_fresh(vd_dispatcher *dispatcher, size_t dispatcher_words, enum vd_keyboards keyboards,
+    enum vd_profile profile, enum vd_identity identity);
 
 /* Serves one source that waits, by turns: side 1, side 2, the mouse. Their scripts are passed whole: the state knows how far each is used.
    Refused as the call that was made; the turn is used then too. 21 without a source, and nothing changed, if the numbers are not 149,
-   the mouse's identity is not 0, 3 or 4, or who was served last is above 3. vd_take(words, 144) takes the events. */
-vd_step vd_dispatcher_step(uint64_t *words, size_t words_length, const uint8_t *first, size_t first_length, const uint8_t *second, size_t second_length, const uint8_t *third, size_t third_length, uint8_t *log, size_t log_length);
+   the mouse's identity is not 0, 3 or 4, or who was served last is above 3. vd_take(&dispatcher->handler, VD_HANDLER_WORDS) takes the
+   events. */
+vd_step vd_dispatcher_step(vd_dispatcher *dispatcher, size_t dispatcher_words, const uint8_t *first, size_t first_length,
+    const uint8_t *second, size_t second_length, const uint8_t *mouse, size_t mouse_length, uint8_t *log, size_t log_length);
 
 #ifdef __cplusplus
 }

@@ -169,9 +169,9 @@ static uint64_t *put_words(int i, size_t length, size_t whole)
     if (kept[10] == 0 || below(2000) == 0) {
         memset(kept, 0, sizeof going[0]);
         if (whole == VD_HANDLER_WORDS)
-            vd_handler_fresh(kept, whole, 1 + (uint32_t)below(2), (uint32_t)below(2));
+            vd_handler_fresh((vd_handler *)kept, whole, 1 + (uint32_t)below(2), (uint32_t)below(2));
         else
-            vd_dispatcher_fresh(kept, whole, 1 + (uint32_t)below(2), (uint32_t)below(2), below(2) ? 3 : 0);
+            vd_dispatcher_fresh((vd_dispatcher *)kept, whole, 1 + (uint32_t)below(2), (uint32_t)below(2), below(2) ? 3 : 0);
     }
     for (k = 0; k < length; k++)
         words[k] = mode == 0 ? number() : k < whole ? kept[k] : chance();
@@ -225,7 +225,7 @@ static void called(const char *of)
 static void answered(uint32_t refusal)
 {
     int i;
-    ask(refusal <= 33 || refusal == VD_MEANS_NOTHING, "there is no such refusal");
+    ask(refusal <= 33 || refusal == VD_INVALID_ARGUMENT, "there is no such refusal");
     for (i = 0; i < FUNCTIONS; i++) {
         if (counts[i].name == NULL)
             counts[i].name = name;
@@ -282,7 +282,7 @@ static void ports_asked(uint32_t refusal, uint32_t port, size_t used, size_t pai
 static void answer_asked(vd_answer a, int means)
 {
     ports_asked(a.refusal, a.port, a.used, a.pairs);
-    ask((a.refusal == VD_MEANS_NOTHING) == !means, "255 is answered where an argument stands for nothing, and only there");
+    ask((a.refusal == VD_INVALID_ARGUMENT) == !means, "255 is answered where an argument is invalid, and only there");
     ask(means || (a.value == 0 && a.used == 0 && a.pairs == 0), "beside 255 all is 0");
 }
 
@@ -290,7 +290,7 @@ static void kept_asked(vd_kept a, int means)
 {
     static const uint8_t none[VD_KEPT_BYTES];
     ports_asked(a.refusal, a.port, a.used, a.pairs);
-    ask((a.refusal == VD_MEANS_NOTHING) == !means, "255 is answered where an argument stands for nothing, and only there");
+    ask((a.refusal == VD_INVALID_ARGUMENT) == !means, "255 is answered where an argument is invalid, and only there");
     ask(a.count <= VD_KEPT_BYTES && (a.others == 0 || a.count == VD_KEPT_BYTES), "others are those behind 16");
     ask(memcmp(a.bytes + a.count, none, VD_KEPT_BYTES - a.count) == 0, "0 stands behind the kept bytes");
     ask((a.refusal != VD_SCRIPT_ENDS && a.refusal != VD_LOG_FULL && means) || (a.count == 0 && a.others == 0), "a lack keeps nothing");
@@ -339,16 +339,16 @@ typedef vd_answer (*told_operation)(uint32_t, const uint8_t *, size_t, uint8_t *
 typedef vd_kept (*kept_operation)(uint32_t, const uint8_t *, size_t, uint8_t *, size_t);
 typedef vd_answer (*reading)(const uint8_t *, size_t);
 static const struct { const char *name; plain_operation of; } plain_operations[] = {
-    {"vd_keyboard_reset", vd_keyboard_reset}, {"vd_keyboard_scancode_set", vd_keyboard_scancode_set}, {"vd_keyboard_detect", vd_keyboard_detect},
+    {"vd_keyboard_reset", vd_keyboard_reset}, {"vd_keyboard_get_scancode_set", vd_keyboard_get_scancode_set}, {"vd_keyboard_detect", vd_keyboard_detect},
     {"vd_mouse_reset", vd_mouse_reset}, {"vd_mouse_start_packets", vd_mouse_start_packets}, {"vd_mouse_stop_packets", vd_mouse_stop_packets},
-    {"vd_mouse_identity", vd_mouse_identity},
+    {"vd_mouse_get_identity", vd_mouse_get_identity},
 };
 static const struct { const char *name; told_operation of; } told_operations[] = {
-    {"vd_keyboard_set_scancode_set", vd_keyboard_set_scancode_set}, {"vd_keyboard_repeat", vd_keyboard_repeat}, {"vd_mouse_set_identity", vd_mouse_set_identity},
-    {"vd_mouse_sampling_rate", vd_mouse_sampling_rate}, {"vd_mouse_resolution", vd_mouse_resolution},
+    {"vd_keyboard_set_scancode_set", vd_keyboard_set_scancode_set}, {"vd_keyboard_set_repeat", vd_keyboard_set_repeat}, {"vd_mouse_set_identity", vd_mouse_set_identity},
+    {"vd_mouse_set_sampling_rate", vd_mouse_set_sampling_rate}, {"vd_mouse_set_resolution", vd_mouse_set_resolution},
 };
 static const struct { const char *name; kept_operation of; } kept_operations[] = {
-    {"vd_keyboard_command", vd_keyboard_command}, {"vd_keyboard_lamps", vd_keyboard_lamps}, {"vd_mouse_command", vd_mouse_command},
+    {"vd_keyboard_command", vd_keyboard_command}, {"vd_keyboard_set_lamps", vd_keyboard_set_lamps}, {"vd_mouse_command", vd_mouse_command},
 };
 static const struct { const char *name; reading of; } readings[] = {
     {"vd_keyboard_waits", vd_keyboard_waits}, {"vd_keyboard_read_scancode", vd_keyboard_read_scancode}, {"vd_mouse_waits", vd_mouse_waits},
@@ -390,7 +390,7 @@ static void port_operation(int which, size_t script_bytes, size_t log_bytes)
         called("vd_mouse_read_packet");
         p = vd_mouse_read_packet(n, script, script_length);
         ports_asked(p.refusal, p.port, p.used, 0);
-        ask((p.refusal == VD_MEANS_NOTHING) == !is_identity(n), "255 is answered where there is no such identity, and only there");
+        ask((p.refusal == VD_INVALID_ARGUMENT) == !is_identity(n), "255 is answered where there is no such identity, and only there");
         packet_asked(p);
     } else if (which == 19) {
         vd_controller c;
@@ -419,7 +419,7 @@ static void port_operation(int which, size_t script_bytes, size_t log_bytes)
         uint64_t *words = put_words(2, length, VD_HANDLER_WORDS);
         vd_answer a;
         called("vd_keyboard_init");
-        a = vd_keyboard_init(words, length, keyboards, profile, script, script_length, log_, log_length);
+        a = vd_keyboard_init((vd_handler *)words, length, keyboards, profile, script, script_length, log_, log_length);
         answer_asked(a, (keyboards == 1 || keyboards == 2) && profile < 2);
         ask(a.refusal == 255 || (a.refusal == 21) == (length != VD_HANDLER_WORDS), "21 is answered to another length, and only there");
         ask((a.refusal != 2 && a.refusal != 3 && a.refusal != 21 && a.refusal != 255) || unchanged_from(2, 0), "2, 3, 21 and 255 leave the record");
@@ -431,7 +431,7 @@ static void port_operation(int which, size_t script_bytes, size_t log_bytes)
         uint64_t *words = put_words(2, length, VD_HANDLER_WORDS);
         vd_handled a;
         called("vd_handle");
-        a = vd_handle(words, length, side, script, script_length, log_, log_length);
+        a = vd_handle((vd_handler *)words, length, side, script, script_length, log_, log_length);
         ports_asked(a.refusal, a.port, a.used, a.pairs);
         handled_asked(a);
         ask((a.refusal == 255) == (side != 1 && side != 2), "255 is answered where there is no such side, and only there");
@@ -441,15 +441,15 @@ static void port_operation(int which, size_t script_bytes, size_t log_bytes)
         marks_stand(2);
         go_on(2, VD_HANDLER_WORDS);
     } else {
-        size_t length = words_of(VD_DISPATCHER_WORDS), second_length = below(40), third_length = below(40), used;
+        size_t length = words_of(VD_DISPATCHER_WORDS), second_length = below(40), mouse_length = below(40), used;
         uint64_t *words = put_words(2, length, VD_DISPATCHER_WORDS);
-        uint8_t *second = lend(3, second_length), *third = lend(4, third_length);
+        uint8_t *second = lend(3, second_length), *mouse = lend(4, mouse_length);
         int whole;
         vd_step a;
         put_script(3);
         put_script(4);
         called("vd_dispatcher_step");
-        a = vd_dispatcher_step(words, length, script, script_length, second, second_length, third, third_length, log_, log_length);
+        a = vd_dispatcher_step((vd_dispatcher *)words, length, script, script_length, second, second_length, mouse, mouse_length, log_, log_length);
         answered(a.refusal);
         used = a.call.used + a.packet.used;
         ask(a.source <= 3 && a.refusal != 255, "there is no such source");
@@ -458,7 +458,7 @@ static void port_operation(int which, size_t script_bytes, size_t log_bytes)
         ask(a.source == 0 ? is_zero(&a.call, sizeof a.call) && is_zero(&a.packet, sizeof a.packet) && unchanged_from(2, 0) : length == VD_DISPATCHER_WORDS, "an idle step changes nothing");
         ask(a.source == 1 || a.source == 2 ? a.refusal == a.call.refusal && a.packet.refusal == 0 && a.packet.used == 0 : is_zero(&a.call.used, sizeof a.call.used), "a step makes one call");
         ask(a.source != 3 || a.refusal == a.packet.refusal, "a step makes one call");
-        ask(used <= (a.source == 1 ? script_length : a.source == 2 ? second_length : third_length), "no more is used than there is");
+        ask(used <= (a.source == 1 ? script_length : a.source == 2 ? second_length : mouse_length), "no more is used than there is");
         ask(unchanged_from(1, 2 * a.call.pairs) && unchanged_from(0, 0) && unchanged_from(3, 0) && unchanged_from(4, 0), "a script has changed, or the log behind the pairs");
         handled_asked(a.call);
         packet_asked(a.packet);
@@ -484,14 +484,14 @@ static int is_argument(uint32_t operation, uint64_t n)
     switch (operation) {
     case VD_CONTROLLER_INIT: return n <= 7;
     case VD_KEYBOARD_COMMAND: return n <= 255 && is_keyboard_command((uint32_t)n);
-    case VD_KEYBOARD_LAMPS: return n <= 7;
+    case VD_KEYBOARD_SET_LAMPS: return n <= 7;
     case VD_KEYBOARD_SET_SCANCODE_SET: return 1 <= n && n <= 3;
-    case VD_KEYBOARD_REPEAT: return n <= 255;
+    case VD_KEYBOARD_SET_REPEAT: return n <= 255;
     case VD_MOUSE_SET_IDENTITY: return is_identity(n);
     case VD_MOUSE_READ_PACKET: return is_identity(n);
     case VD_MOUSE_COMMAND: return n <= 255 && is_mouse_command((uint32_t)n);
-    case VD_MOUSE_SAMPLING_RATE: return n <= 255 && is_rate((uint32_t)n);
-    case VD_MOUSE_RESOLUTION: return n <= 3;
+    case VD_MOUSE_SET_SAMPLING_RATE: return n <= 255 && is_rate((uint32_t)n);
+    case VD_MOUSE_SET_RESOLUTION: return n <= 3;
     default: return 1 <= operation && operation <= OPERATIONS && n == 0;
     }
 }
@@ -504,7 +504,7 @@ static void request_asked(vd_request r)
     ask(r.byte <= 255 && (r.kind == VD_WRITE || r.byte == 0), "a write has a byte");
     ask(r.kind == VD_DONE || r.refusal == 0, "what goes on is not refused");
     ask(r.refusal != VD_SCRIPT_ENDS && r.refusal != VD_LOG_FULL, "live ports lack nothing");
-    ask((r.refusal != VD_MALFORMED_RECORD && r.refusal != VD_MEANS_NOTHING) || unchanged_from(2, 0), "21 and 255 leave the numbers");
+    ask((r.refusal != VD_MALFORMED_RECORD && r.refusal != VD_INVALID_ARGUMENT) || unchanged_from(2, 0), "21 and 255 leave the numbers");
     marks_stand(2);
 }
 
@@ -555,9 +555,9 @@ static void step_begin(void)
     called("vd_begin");
     r = vd_begin(words, length, operation, argument);
     request_asked(r);
-    ask((r.refusal == VD_MEANS_NOTHING) == !is_argument(operation, argument), "255 is answered where operation or argument stands for nothing, and only there");
-    ask(r.refusal == VD_MEANS_NOTHING || (r.refusal == VD_MALFORMED_RECORD) == (length != VD_STEP_WORDS), "21 is answered to another length, and only there");
-    if (r.refusal != VD_MEANS_NOTHING && r.refusal != VD_MALFORMED_RECORD)
+    ask((r.refusal == VD_INVALID_ARGUMENT) == !is_argument(operation, argument), "255 is answered where operation or argument is invalid, and only there");
+    ask(r.refusal == VD_INVALID_ARGUMENT || (r.refusal == VD_MALFORMED_RECORD) == (length != VD_STEP_WORDS), "21 is answered to another length, and only there");
+    if (r.refusal != VD_INVALID_ARGUMENT && r.refusal != VD_MALFORMED_RECORD)
         step_goes_on(words, r);
 }
 
@@ -597,7 +597,7 @@ static void stepped(void)
         called("vd_next");
         r = vd_next(words, slots[2].bytes / 8, byte);
         request_asked(r);
-        ask((r.refusal == VD_MEANS_NOTHING) == (byte > 255), "255 is answered to what is no byte, and only there");
+        ask((r.refusal == VD_INVALID_ARGUMENT) == (byte > 255), "255 is answered to what is no byte, and only there");
         ask(byte > 255 || !is_same || (r.refusal == VD_MALFORMED_RECORD) == (step.wanted.kind == VD_DONE), "21 is answered behind the end, and not before it");
         if (is_same && byte <= 255 && step.wanted.kind != VD_DONE)
             step_goes_on(words, r);
@@ -618,7 +618,7 @@ static void other(int which)
         uint32_t refusal;
         words = put_words(2, length, VD_HANDLER_WORDS);
         called("vd_handler_fresh");
-        refusal = vd_handler_fresh(words, length, n % 4, m);
+        refusal = vd_handler_fresh((vd_handler *)words, length, n % 4, m);
         answered(refusal);
         ask(refusal == (n % 4 == 0 || n % 4 == 3 || m > 1 ? 255u : length != VD_HANDLER_WORDS ? 21u : 0u) && (refusal == 0 || unchanged_from(2, 0)), "255, then 21, leave the record");
         ask(refusal || is_zero(words + 16, 8 * VD_QUEUE_LENGTH), "a fresh record has no event");
@@ -630,7 +630,7 @@ static void other(int which)
         words = put_words(2, length, VD_DISPATCHER_WORDS);
         called("vd_dispatcher_fresh");
         n = below(8) ? 3 * (n % 2) : n;
-        refusal = vd_dispatcher_fresh(words, length, 1 + n % 2, m, n);
+        refusal = vd_dispatcher_fresh((vd_dispatcher *)words, length, 1 + n % 2, m, n);
         answered(refusal);
         ask(refusal == (m > 1 || !is_identity(n) ? 255u : length != VD_DISPATCHER_WORDS ? 21u : 0u) && (refusal == 0 || unchanged_from(2, 0)), "255, then 21, leave the state");
         break;
@@ -639,7 +639,7 @@ static void other(int which)
         vd_taken t;
         words = put_words(2, length, VD_HANDLER_WORDS);
         called("vd_take");
-        t = vd_take(words, length);
+        t = vd_take((vd_handler *)words, length);
         answered(t.refusal);
         ask(t.refusal == 0 || (t.refusal == 21 && unchanged_from(2, 0)), "21 leaves the record");
         ask((t.refusal == 21) == (length != VD_HANDLER_WORDS || is_malformed(lent(2))), "21 is answered to another length and to a malformed record, and only there");

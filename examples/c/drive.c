@@ -10,9 +10,9 @@
 static uint8_t read_port(uint32_t port);
 static void write_port(uint32_t port, uint32_t value);
 
-/* Runs an operation to its end: its refusal, 0 where it has none. What it gives is in the
+/* Runs an operation to its end: its refusal, VD_OK where it has none. What it gives is in the
    numbers (VD_OUTCOME_AT). */
-static uint32_t drive(uint64_t words[VD_STEP_WORDS], uint32_t operation, uint64_t argument)
+static enum vd_refusal drive(uint64_t words[VD_STEP_WORDS], enum vd_operation operation, uint64_t argument)
 {
     vd_request it = vd_begin(words, VD_STEP_WORDS, operation, argument);
 
@@ -59,10 +59,11 @@ static void write_port(uint32_t port, uint32_t value)
 int main(void)
 {
     uint64_t words[VD_STEP_WORDS];
-    uint32_t refusal = drive(words, VD_KEYBOARD_LAMPS, VD_CAPS_LAMP), i;
+    enum vd_refusal refusal = drive(words, VD_KEYBOARD_SET_LAMPS, VD_CAPS_LAMP);
     vd_kept kept = vd_step_kept(words, VD_STEP_WORDS);
+    uint32_t i;
 
-    printf("refusal %u, thrown away:", (unsigned)refusal);
+    printf("%s, thrown away:", vd_refusal_text(refusal));
     for (i = 0; i < kept.count; i++)
         printf(" %02X", kept.bytes[i]);
     puts("");

@@ -24,7 +24,7 @@ static void outb(uint32_t port, uint32_t value);
    yet taken. */
 enum { FULL = 0x01, BUSY = 0x02, OF_MOUSE = 0x20 };
 
-static uint64_t keyboard[VD_HANDLER_WORDS];
+static vd_handler keyboard;
 
 /* A call: the bytes that it has read, and how many pairs of its log were written to the ports.
    It goes on by being made again on all bytes so far: it changes nothing until it has them all
@@ -38,7 +38,7 @@ static struct {
 
 static void make(void)
 {
-    call.answer = vd_handle(keyboard, VD_HANDLER_WORDS, VD_SIDE_1, call.script, call.read,
+    call.answer = vd_handle(&keyboard, VD_HANDLER_WORDS, VD_SIDE_1, call.script, call.read,
                             call.log, sizeof call.log);
 }
 
@@ -66,7 +66,7 @@ static void go_on(unsigned polls)
 /* Whether the call has ended and a byte waits, which is handled next. */
 static int one_waits(void)
 {
-    return !call.goes_on && call.answer.refusal != VD_SCRIPT_ENDS && keyboard[VD_FIRST_WAITING] > 0;
+    return !call.goes_on && call.answer.refusal != VD_SCRIPT_ENDS && keyboard.words[VD_FIRST_WAITING] > 0;
 }
 
 /* Begins a call and goes on with it, and with the bytes that wait when it has ended. */
@@ -135,7 +135,7 @@ int main(void)
     vd_taken event;
     unsigned ticks = 0;
 
-    vd_handler_fresh(keyboard, VD_HANDLER_WORDS, VD_ONE_KEYBOARD, VD_ANY_KEYS);
+    vd_handler_fresh(&keyboard, VD_HANDLER_WORDS, VD_ONE_KEYBOARD, VD_ANY_KEYS);
     while (sent < sending) {
         sent++, is_full = 1;
         keyboard_interrupt();
@@ -143,7 +143,7 @@ int main(void)
     for (; call.goes_on; ticks++)
         timer_interrupt();
     printf("refusal %u after %u ticks\n", (unsigned)call.answer.refusal, ticks);
-    while ((event = vd_take(keyboard, VD_HANDLER_WORDS)).side != 0)
+    while ((event = vd_take(&keyboard, VD_HANDLER_WORDS)).side != 0)
         printf("%02X %s %03X\n", (unsigned)event.keycode,
                event.action == VD_PRESSED ? "pressed" : "released", (unsigned)event.flags);
     return 0;

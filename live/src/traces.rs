@@ -275,7 +275,7 @@ impl Live {
                 let lamps = [Lamps::SCROLL, Lamps::NUM, Lamps::CAPS].into_iter();
                 let lamps =
                     lamps.filter(|lamp| call.number() & lamp.bits() != 0).fold(Lamps::NONE, |all, one| all | one);
-                let driven = driven(ports, Session::keyboard_lamps(lamps));
+                let driven = driven(ports, Session::keyboard_set_lamps(lamps));
                 (driven.script.clone(), line(&driven, "", "-"))
             }
             "set_keyboard_scancode_set" => {
@@ -284,14 +284,14 @@ impl Live {
                 plain(ports, &named, Session::keyboard_set_scancode_set(set))
             }
             "get_keyboard_scancode_set" => {
-                let driven = driven(ports, Session::keyboard_scancode_set());
+                let driven = driven(ports, Session::keyboard_get_scancode_set());
                 (driven.script.clone(), told(&driven, |set| format!("{set:02X}"), "-"))
             }
             "mouse_reset" => plain(ports, &named, Session::mouse_reset()),
             "mouse_enable" => plain(ports, &named, Session::mouse_start_packets()),
             "mouse_disable" => plain(ports, &named, Session::mouse_stop_packets()),
             "mouse_id" => {
-                let driven = driven(ports, Session::mouse_identity());
+                let driven = driven(ports, Session::mouse_get_identity());
                 (driven.script.clone(), told(&driven, |id| format!("{:02X}", id.number()), &named))
             }
             "set_mouse_id" => {
@@ -303,13 +303,13 @@ impl Live {
                 use SamplingRate::*;
                 let rates = [Hz10, Hz20, Hz40, Hz60, Hz80, Hz100, Hz200];
                 let rate = rates.into_iter().find(|rate| *rate as u8 == call.number())?;
-                plain(ports, &named, Session::mouse_sampling_rate(rate))
+                plain(ports, &named, Session::mouse_set_sampling_rate(rate))
             }
             "mouse_resolution" => {
                 use Resolution::*;
                 let all = [Counts1, Counts2, Counts4, Counts8];
                 let resolution = all.into_iter().find(|resolution| *resolution as u8 == call.number())?;
-                plain(ports, &named, Session::mouse_resolution(resolution))
+                plain(ports, &named, Session::mouse_set_resolution(resolution))
             }
             "read_mouse_packet" => {
                 let driven = driven(ports, Session::mouse_read_packet(id?));

@@ -14,7 +14,7 @@ const CONTROL = 1 << 2 | 1 << 3, CONTROL_KEY = 0x1D;
 const DONE = 0, SCRIPT_ENDS = 2, QUEUE_FULL = 20, MALFORMED = 21;
 // As the header names them.
 const REFUSALS = {
-  0: 'done',
+  0: 'ok',
   2: 'script ends',
   3: 'log full',
   14: 'LEDs not set',
@@ -25,7 +25,7 @@ const REFUSALS = {
   24: 'ends after F0',
   31: 'side full',
   33: 'outside profile',
-  255: 'means nothing'
+  255: 'invalid argument'
 };
 const named = (refusal) => `${REFUSALS[refusal] ?? 'refused'} (${refusal})`;
 // The keys as they are drawn: KEY, KEY=LABEL or KEY=LABEL=WIDTH, row by row; the blocks stand

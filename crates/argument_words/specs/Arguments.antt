@@ -8,8 +8,8 @@ use Rattle.ps2_bytes.specs.Responses.{mouse_ids}
 use Rattle.ps2_bytes.specs.declared.response.MouseId.{MouseId}
 
 -- What is answered where an argument stands for nothing. It is no number of documents 01 and 02.
-abbrev pub means_nothing : ℕ
-means_nothing = 255
+abbrev pub invalid_argument : ℕ
+invalid_argument = 255
 
 -- A mouse's identity is passed as the byte by which the mouse names it: 0, 3 or 4.
 abbrev pub identity_at : ℕ → Option MouseId

@@ -1,7 +1,7 @@
 -- A key's character, and an event's byte in a report, where key, flags and action are numbers.
 -- Assumes nothing.
 use Rattle.std.specs.Prelude.{cond, ℕ, eqb, ltb, Option, None, Some}
-use Rattle.argument_words.specs.Arguments.{means_nothing}
+use Rattle.argument_words.specs.Arguments.{invalid_argument}
 use Rattle.keyboard_modifiers.specs.declared.KeyboardModifiers.{KeyboardModifiers}
 use Rattle.keycodes_ascii.specs.declared.Keycode.{Keycode}
 use Rattle.keycodes_ascii.specs.declared.KeyAction.{KeyAction}
@@ -32,11 +32,11 @@ character_number None = 0
 -- The character of a key under some flags.
 abbrev pub character_at : Option Keycode → Option KeyboardModifiers → ℕ
 character_at (Some k) (Some m) = character_number (character_of k m)
-character_at (Some k) None = means_nothing
-character_at None m = means_nothing
+character_at (Some k) None = invalid_argument
+character_at None m = invalid_argument
 
 -- The byte by which a report takes the press or the release of a key.
 abbrev pub event_code_at : Option Keycode → Option KeyAction → ℕ
 event_code_at (Some k) (Some a) = code_of a (number_of k)
-event_code_at (Some k) None = means_nothing
-event_code_at None a = means_nothing
+event_code_at (Some k) None = invalid_argument
+event_code_at None a = invalid_argument

@@ -2,7 +2,7 @@
 -- Assumes nothing.
 use Rattle.std.specs.Prelude.{List, ◌≡◌, ℕ, length}
 use Rattle.std.proofs.Math.Option.{Option, none, some}
-use Rattle.argument_words.specs.Arguments.{means_nothing}
+use Rattle.argument_words.specs.Arguments.{invalid_argument}
 use Rattle.exchange.specs.Answer.{number_answered}
 use Rattle.ps2_bytes.specs.declared.response.MouseId.{MouseId}
 use Rattle.ps2_salvage.specs.Salvage.{answer_number, salvaged, over}
@@ -42,7 +42,7 @@ salvaged_words o =
     record { refusal = answer_number o.answer; used = o.used; packet_bytes = length o.packets; dropped = length o.positions }
 
 abbrev pub no_identity : SalvagedWords
-no_identity = record { refusal = means_nothing; used = 0; packet_bytes = 0; dropped = 0 }
+no_identity = record { refusal = invalid_argument; used = 0; packet_bytes = 0; dropped = 0 }
 
 -- A recording salvaged into two outputs; where the identity stands for nothing they stay as they were.
 pub record PassMade (o : salvage.Outcome) (packets positions : List ℕ) (answer : SalvagedWords) (packets' positions' : List ℕ) : Type 0 where

@@ -9,7 +9,7 @@ ghost use Rattle.bytes_words.specs.Keys.{flags_at, action_at, character_number, 
 ghost use Rattle.bytes_words.specs.Parts.{is_found};
 ghost use Rattle.bytes_words.specs.Outputs.{StreamConverted, TextTyped, RecordingSalvaged};
 
-use argument_words::{MEANS_NOTHING, identity_of};
+use argument_words::{INVALID_ARGUMENT, identity_of};
 use keyboard_modifiers::KeyboardModifiers;
 use keycodes_ascii::{KEY_RELEASED_OFFSET, KeyAction, Keycode};
 
@@ -89,10 +89,10 @@ pub fn character(keycode: u32, flags: u32) -> u32
     ensures { result ≡ character_at (keycode_of keycode) (flags_at flags) }
 {
     let Some(key) = keycode_of(keycode) else {
-        return MEANS_NOTHING;
+        return INVALID_ARGUMENT;
     };
     let Some(held) = flags_of(flags) else {
-        return MEANS_NOTHING;
+        return INVALID_ARGUMENT;
     };
     character_number(key.to_ascii(held))
 }
@@ -114,7 +114,7 @@ pub fn event_code(keycode: u32, action: u32) -> u32
 {
     match action_of(action) {
         Some(done) if is_keycode(keycode) => code_of(done, keycode),
-        _ => MEANS_NOTHING,
+        _ => INVALID_ARGUMENT,
     }
 }
 
@@ -166,7 +166,7 @@ pub fn salvage(
             }
         }
         None => SalvagedWords {
-            refusal: MEANS_NOTHING,
+            refusal: INVALID_ARGUMENT,
             used: 0,
             packet_bytes: 0,
             dropped: 0,

@@ -254,8 +254,8 @@ impl Dispatcher {
     }
 
     // Which sources wait.
-    pub fn waits(&self, first: &[u8], second: &[u8], third: &[u8]) -> Waits
-        ensures { (source : Source) → wait_in result source ≡ waits_now self.now (scripts first.now second.now third.now) source }
+    pub fn waits(&self, first: &[u8], second: &[u8], mouse: &[u8]) -> Waits
+        ensures { (source : Source) → wait_in result source ≡ waits_now self.now (scripts first.now second.now mouse.now) source }
     {
         Waits {
             first: keyboard_waits(
@@ -268,7 +268,7 @@ impl Dispatcher {
                 second,
                 usize::from(self.handler.state.second.waiting.count),
             ),
-            mouse: mouse_waits(self.places.mouse, third, self.mouse.id),
+            mouse: mouse_waits(self.places.mouse, mouse, self.mouse.id),
         }
     }
 
@@ -277,15 +277,15 @@ impl Dispatcher {
         &mut self,
         first: &[u8],
         second: &[u8],
-        third: &[u8],
+        mouse: &[u8],
         log: &mut [u8],
     ) -> StepAnswer
-        ensures { said_step_in_place result self.new log.new ≡ step_of keyboard_lamps self.old (scripts first.now second.now third.now) log.old }
+        ensures { said_step_in_place result self.new log.new ≡ step_of keyboard_lamps self.old (scripts first.now second.now mouse.now) log.old }
     {
-        match self.waits(first, second, third).serves(self.last) {
+        match self.waits(first, second, mouse).serves(self.last) {
             Some(Source::Keyboard(Side::First)) => self.serve_keyboard(Side::First, first, log),
             Some(Source::Keyboard(Side::Second)) => self.serve_keyboard(Side::Second, second, log),
-            Some(Source::Mouse) => self.serve_mouse(third),
+            Some(Source::Mouse) => self.serve_mouse(mouse),
             None => StepAnswer {
                 served: Served::Idle,
                 used: 0,
@@ -295,10 +295,10 @@ impl Dispatcher {
     }
 
     // The same by value.
-    pub fn step(mut self, first: &[u8], second: &[u8], third: &[u8], log: &mut [u8]) -> Dispatched
-        ensures { said_step result log.new ≡ step_of keyboard_lamps self (scripts first.now second.now third.now) log.old }
+    pub fn step(mut self, first: &[u8], second: &[u8], mouse: &[u8], log: &mut [u8]) -> Dispatched
+        ensures { said_step result log.new ≡ step_of keyboard_lamps self (scripts first.now second.now mouse.now) log.old }
     {
-        let done = self.step_in_place(first, second, third, log);
+        let done = self.step_in_place(first, second, mouse, log);
         Dispatched {
             served: done.served,
             used: done.used,

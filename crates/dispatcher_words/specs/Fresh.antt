@@ -3,7 +3,7 @@
 use Rattle.std.specs.Prelude.{List, ◌≡◌, ℕ, length}
 use Rattle.std.proofs.Math.Option.{Option, none, some}
 use Rattle.ps2_bytes.specs.declared.response.MouseId.{MouseId}
-use Rattle.argument_words.specs.Arguments.{means_nothing, identity_at}
+use Rattle.argument_words.specs.Arguments.{invalid_argument, identity_at}
 use Rattle.keyboard_record.specs.declared.Table.{Table}
 use Rattle.keyboard_record.specs.Record.{fresh}
 use Rattle.handler_words.specs.Arguments.{table_at}
@@ -20,7 +20,7 @@ fresh_at (some id) (some table) = some (new_dispatcher (fresh table) (record { i
 
 -- Arguments that stand for nothing are asked first, then a length of 149.
 abbrev pub AtFresh : Option Dispatcher → List ℕ → ℕ → List ℕ → Type 0
-AtFresh none ws answer ws' = (answer ≡ means_nothing) × (ws' ≡ ws)
+AtFresh none ws answer ws' = (answer ≡ invalid_argument) × (ws' ≡ ws)
 AtFresh (some d) ws answer ws' =
     (length ws ≡ dispatcher_length → (answer ≡ 0) × (ws' ≡ words_of_dispatcher d) × (dispatcher_of ws' ≡ d)) × ((length ws ≡ dispatcher_length → ⊥) → (answer ≡ 21) × (ws' ≡ ws))
 

@@ -11,7 +11,7 @@ ghost use Rattle.dispatcher_words.specs.Steps.{no_call, with_turn, StepMade};
 ghost use Rattle.dispatcher_words.specs.Fresh.{MadeFresh};
 ghost use Rattle.dispatcher_words.specs.Parts.{unserved, SideServed, MouseServed};
 
-use argument_words::{MEANS_NOTHING, identity_of};
+use argument_words::{INVALID_ARGUMENT, identity_of};
 use dispatcher::{Source, Waits, keyboard_waits, mouse_waits, start};
 use handler_words::{
     HANDLER_WORDS, HandledWords, KEYBOARDS_AT, fresh_words, handle_at, refusing_words,
@@ -67,7 +67,7 @@ pub fn dispatcher_fresh(words: &mut [u64], keyboards: u32, profile: u32, identit
     ensures { MadeFresh words.old keyboards profile identity result words.new }
 {
     let Some(id) = identity_of(identity) else {
-        return MEANS_NOTHING;
+        return INVALID_ARGUMENT;
     };
     let Some(lent) = words.as_mut_array::<DISPATCHER_WORDS>() else {
         // a record of no numbers is refused as this one is: the table is asked, and then 21 answered
@@ -151,8 +151,8 @@ fn second_waiting(words: &[u64; DISPATCHER_WORDS]) -> usize
 }
 
 // Which sources wait.
-fn waits_in(words: &[u64; DISPATCHER_WORDS], first: &[u8], second: &[u8], third: &[u8]) -> Waits
-    ensures { (source : Source) → wait_in result source ≡ waits_now (dispatcher_of words.now) (scripts first.now second.now third.now) source }
+fn waits_in(words: &[u64; DISPATCHER_WORDS], first: &[u8], second: &[u8], mouse: &[u8]) -> Waits
+    ensures { (source : Source) → wait_in result source ≡ waits_now (dispatcher_of words.now) (scripts first.now second.now mouse.now) source }
 {
     let one = place_in(words, Source::Keyboard(Side::First));
     let two = place_in(words, Source::Keyboard(Side::Second));
@@ -161,7 +161,7 @@ fn waits_in(words: &[u64; DISPATCHER_WORDS], first: &[u8], second: &[u8], third:
     Waits {
         first: keyboard_waits(one, first, words[FIRST_WAITING_AT] as usize),
         second: keyboard_waits(two, second, second_waiting(words)),
-        mouse: mouse_waits(three, third, id),
+        mouse: mouse_waits(three, mouse, id),
     }
 }
 
@@ -217,7 +217,7 @@ fn serve_mouse(words: &mut [u64; DISPATCHER_WORDS], script: &[u8]) -> StepWords
 
 // The script of a side.
 fn side_script<'a>(side: Side, first: &'a [u8], second: &'a [u8]) -> &'a [u8]
-    ensures { (third : List ℕ) → result.now ≡ script_of (Source.Keyboard side) (scripts first.now second.now third) }
+    ensures { (mouse : List ℕ) → result.now ≡ script_of (Source.Keyboard side) (scripts first.now second.now mouse) }
 {
     match side {
         Side::First => first,
@@ -242,10 +242,10 @@ pub fn dispatcher_step(
     words: &mut [u64],
     first: &[u8],
     second: &[u8],
-    third: &[u8],
+    mouse: &[u8],
     log: &mut [u8],
 ) -> StepWords
-    ensures { StepMade words.old first.now second.now third.now log.old result words.new log.new }
+    ensures { StepMade words.old first.now second.now mouse.now log.old result words.new log.new }
 {
     let Some(lent) = words.as_mut_array::<DISPATCHER_WORDS>() else {
         return no_call(21);
@@ -253,12 +253,12 @@ pub fn dispatcher_step(
     if !is_dispatcher(lent) {
         return no_call(21);
     }
-    let waits = waits_in(lent, first, second, third);
+    let waits = waits_in(lent, first, second, mouse);
     match waits.serves(last_in(lent[LAST_AT])) {
         Some(Source::Keyboard(side)) => {
             serve_keyboard(lent, side, side_script(side, first, second), log)
         }
-        Some(Source::Mouse) => serve_mouse(lent, third),
+        Some(Source::Mouse) => serve_mouse(lent, mouse),
         None => no_call(0),
     }
 }

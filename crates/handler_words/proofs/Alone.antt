@@ -109,7 +109,7 @@ module _ (side : Side) (ws script : List ℕ) (w : call_formed side (state_of ws
       let b = get_or script 0 0 in
       let t = with_keyboard side (followed_by flags) s in
       formed_call side s (b ∷ drop 1 script) log w (sym (any_key_in ws a.taken.any_key)) refl refl
-      (key_alone (port_of side) (keyboard_at side s) b (none_waiting side ws a.taken.none_waits) a.sounds a.no_lamps f (drop 1 script) log)
+      (key_alone (port_of side) (keyboard_at side s) b (none_waiting side ws a.taken.none_waits) a.not_silent a.no_lamps f (drop 1 script) log)
       (rw (queued_lamps side t (key_event b flags) (gives success) 0, queued_dropped side t (key_event b flags) (gives success) 0))
 
   pub alone_effects : (effects_alone side s (get_or script 0 0) flags ≡ effects keyboard_lamps side s script log) × (log ≡ log_left keyboard_lamps side s script log)
@@ -150,7 +150,7 @@ module _ (side : Side) (s : HandlerState) (b flags place : ℕ) (ws : List ℕ) 
     unfolding key_event
     joins r w q = rw (k, place_is, ← r) (record { answers = refl; moves = refl; writes = rw w.0 at q; reads = ap some (ap event_at (sym w.0) ∙ w.1) })
 
--- ---- whether a call is such a one, by its numbers
+-- ---- whether a call is of a key alone, by its numbers
 
 pub says_no : {P : Type 0} → (P → ⊥) → Says P false
 says_no n = record { is_so = λ e. absurd (true≢false (sym e)); is_not = λ _. n }

@@ -78,7 +78,7 @@ pub record FromScript (side : Side) (ws script : List ℕ) : Type 0 where
 -- Such a call, whose byte is a key's, and no lock's whose lamps would be set.
 pub record KeyAlone (side : Side) (ws script : List ℕ) : Type 0 where
   pub taken : FromScript side ws script
-  pub sounds : is_silent (get_or script 0 0) ≡ false
+  pub not_silent : is_silent (get_or script 0 0) ≡ false
   pub no_lamps : presses_followed Profile.Any (get_or script 0 0) ≡ false
 
 -- What such a call makes of its keyboard, with these flags; and its answer, with this refusal.

@@ -21,7 +21,7 @@ ghost use Rattle.handler_words.specs.Arguments.{side_number, laid_with, table_at
 ghost use Rattle.handler_words.specs.Calls.{refusing, with_keyboard_at, with_sides, with_event, SideHandled, AtSide, WordsHandled, taken_numbers, with_queue_at, WordsTaken, WordsFresh};
 ghost use Rattle.handler_words.specs.Parts.{said_table, InTwo, Narrow, Placed, reread, Says, keyboard_passes, sides_pass, FromScript, KeyAlone, followed_by, byte_used, PlainKey, KeyQueued, KeyHandled};
 
-use argument_words::MEANS_NOTHING;
+use argument_words::INVALID_ARGUMENT;
 use keyboard::{HandlerAnswer, HandlerRefusal, handle_state, leaves_as_passed, number_of};
 use keyboard_modifiers::KeyboardModifiers;
 use keyboard_record::{FLAG_LIMIT, HandlerState, Keyboards, NoRoom, QUEUE_LENGTH, Table};
@@ -394,7 +394,7 @@ fn handle_key(words: &mut Words, side: Side, script: &[u8]) -> HandledWords
     byte_used(queue_key(words, left, side, scan_code, modifiers))
 }
 
-// Whether a call is such a one.
+// Whether a call takes the script's first byte, which is a key's and not a lock's whose lamps would be set.
 fn is_key_alone(words: &Words, side: Side, script: &[u8]) -> bool
     ensures { Says (KeyAlone side words.now script.now) result }
 {
@@ -461,7 +461,7 @@ fn is_ready(words: &Words, side: Side) -> bool
     sides_pass(words) && state_in(words).is_ready(side)
 }
 
-// Whether a call is such a one.
+// Whether a call takes the script's first byte, which is of a key that has no flag, and its event has room.
 fn is_plain_key(words: &Words, side: Side, script: &[u8]) -> bool
     ensures { Says (PlainKey side words.now script.now) result }
 {
@@ -488,7 +488,7 @@ pub fn handle_words(words: &mut [u64], side: u32, script: &[u8], log: &mut [u8])
     let Some(words) = words.as_mut_array() else {
         return refusing_words(match side {
             1 | 2 => 21,
-            _ => MEANS_NOTHING,
+            _ => INVALID_ARGUMENT,
         });
     };
     // Two equal arms, each side by itself, are for speed: most of what a call asks goes by the
@@ -506,7 +506,7 @@ pub fn handle_words(words: &mut [u64], side: u32, script: &[u8], log: &mut [u8])
             }
             handle_side(words, Side::Second, script, log)
         }
-        _ => refusing_words(MEANS_NOTHING),
+        _ => refusing_words(INVALID_ARGUMENT),
     }
 }
 
@@ -652,7 +652,7 @@ pub fn fresh_words(words: &mut [u64], keyboards: u32, profile: u32) -> u32
     ensures { WordsFresh words.old keyboards profile result words.new }
 {
     let Some(table) = table_of(keyboards, profile) else {
-        return MEANS_NOTHING;
+        return INVALID_ARGUMENT;
     };
     let Some(words) = words.as_mut_array() else {
         return 21;

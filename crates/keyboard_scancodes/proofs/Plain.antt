@@ -36,8 +36,8 @@ module _ (b : ℕ) (e : is_plain b ≡ true) where
   pub plain_known : is_known b ≡ true
   plain_known = parts.1
 
-  pub plain_sounds : is_silent b ≡ false
-  plain_sounds =
+  pub plain_not_silent : is_silent b ≡ false
+  plain_not_silent =
       let l = parts.0 in
       let h = leb-true (low_part b) last_keycode parts.1 in
       rw (ne_eqb b 0xE0 (λ q. omega (arith, l, h, q)), ne_eqb b 0xE1 (λ q. omega (arith, l, h, q)), ne_eqb b 0x00 (λ q. omega (arith, l, h, q)), ne_eqb b 0xFA (λ q. omega (arith, l, h, q)))

@@ -14,7 +14,7 @@ use Rattle.keyboard_record.specs.declared.Table.{Table}
 use Rattle.keyboard_record.specs.Record.{fresh}
 use Rattle.keyboard_init.specs.KeyboardInit.{keyboard_init}
 use Rattle.port_words.specs.declared.PortWords.{PortWords}
-use Rattle.argument_words.specs.Arguments.{means_nothing}
+use Rattle.argument_words.specs.Arguments.{invalid_argument}
 use Rattle.port_words.specs.Told.{refusing, no_value, told}
 use Rattle.port_words.specs.Tells.{Tells, AtArgument}
 use Rattle.handler_words.specs.Layout.{words_length}
@@ -49,4 +49,4 @@ pub record InitializedAt (table : Table) (ws script log : List ℕ) (answer : Po
 -- Where the table stands for nothing, that is asked first, and nothing changes.
 abbrev pub KeyboardInitialized : List ℕ → ℕ → ℕ → List ℕ → List ℕ → PortWords → List ℕ → List ℕ → Type 0
 KeyboardInitialized ws keyboards profile script log answer ws' log' =
-    AtArgument (table_at keyboards profile) ((answer ≡ refusing means_nothing) × (ws' ≡ ws) × (log' ≡ log)) (λ table. InitializedAt table ws script log answer ws' log')
+    AtArgument (table_at keyboards profile) ((answer ≡ refusing invalid_argument) × (ws' ≡ ws) × (log' ≡ log)) (λ table. InitializedAt table ws script log answer ws' log')

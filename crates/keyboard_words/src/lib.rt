@@ -7,7 +7,7 @@ ghost use Rattle.ps2_bytes.specs.Data.{scancode_set_byte};
 ghost use Rattle.ps2_keyboard.specs.Keyboard.{reset_keyboard, set_scancode_set, get_scancode_set, read_scancode, keyboard_output_buffer_full};
 ghost use Rattle.ps2_detect.specs.Detection.{keyboard_detect};
 ghost use Rattle.preferences_application.specs.Application.{set_keyboard_repeat};
-ghost use Rattle.argument_words.specs.Arguments.{means_nothing, said_found};
+ghost use Rattle.argument_words.specs.Arguments.{invalid_argument, said_found};
 ghost use Rattle.port_words.specs.Told.{refusing, no_value, byte_value, type_number, told};
 ghost use Rattle.port_words.specs.ToldKept.{refusing_kept, told_kept};
 ghost use Rattle.port_words.specs.Tells.{Tells, TellsReading, TellsAt};
@@ -17,7 +17,7 @@ ghost use Rattle.keyboard_record.specs.Record.{fresh};
 ghost use Rattle.ps2_answers.specs.Answers.{ended};
 ghost use Rattle.keyboard_words.specs.Operations.{sending_command, setting_lamps, left_by, KeyboardInitialized};
 
-use argument_words::MEANS_NOTHING;
+use argument_words::INVALID_ARGUMENT;
 use handler_words::{Words, put_fresh, table_of};
 use keyboard_record::Table;
 use port_words::{
@@ -95,7 +95,7 @@ pub fn keyboard_init(
     ensures { KeyboardInitialized words.old keyboards profile script.now log.old result words.new log.new }
 {
     let Some(table) = table_of(keyboards, profile) else {
-        return refusing_words(MEANS_NOTHING);
+        return refusing_words(INVALID_ARGUMENT);
     };
     let Some(lent) = words.as_mut_array() else {
         return refusing_words(21);
@@ -114,7 +114,7 @@ pub fn keyboard_reset(script: &[u8], log: &mut [u8]) -> PortWords
 
 // Sends one of the keyboard's commands, by the byte that the wiki lists it with.
 pub fn keyboard_command(byte: u32, script: &[u8], log: &mut [u8]) -> KeptWords
-    ensures { TellsAt (refusing_kept means_nothing) told_kept sending_command (command_at byte) script.now log.old result log.new }
+    ensures { TellsAt (refusing_kept invalid_argument) told_kept sending_command (command_at byte) script.now log.old result log.new }
 {
     match command_of(byte) {
         Some(command) => commanded_words(command_to_keyboard(
@@ -122,32 +122,32 @@ pub fn keyboard_command(byte: u32, script: &[u8], log: &mut [u8]) -> KeptWords
             log,
             HostToKeyboardCommandOrData::KeyboardCommand(command),
         )),
-        None => refusing_kept_words(MEANS_NOTHING),
+        None => refusing_kept_words(INVALID_ARGUMENT),
     }
 }
 
 // Sets the lamps: scroll 1, number 2, caps 4 added.
-pub fn keyboard_lamps(lamps: u32, script: &[u8], log: &mut [u8]) -> KeptWords
-    ensures { TellsAt (refusing_kept means_nothing) told_kept setting_lamps (lamps_at lamps) script.now log.old result log.new }
+pub fn keyboard_set_lamps(lamps: u32, script: &[u8], log: &mut [u8]) -> KeptWords
+    ensures { TellsAt (refusing_kept invalid_argument) told_kept setting_lamps (lamps_at lamps) script.now log.old result log.new }
 {
     match lamps_of(lamps) {
         Some(leds) => commanded_words(set_keyboard_led(script, log, leds)),
-        None => refusing_kept_words(MEANS_NOTHING),
+        None => refusing_kept_words(INVALID_ARGUMENT),
     }
 }
 
 // Sets the scancode set, 1 to 3.
 pub fn keyboard_set_scancode_set(set: u32, script: &[u8], log: &mut [u8]) -> PortWords
-    ensures { TellsAt (refusing means_nothing) (told no_value) set_scancode_set (scancode_set_at set) script.now log.old result log.new }
+    ensures { TellsAt (refusing invalid_argument) (told no_value) set_scancode_set (scancode_set_at set) script.now log.old result log.new }
 {
     match set_of(set) {
         Some(value) => answer_words(set_keyboard_scancode_set(script, log, value)),
-        None => refusing_words(MEANS_NOTHING),
+        None => refusing_words(INVALID_ARGUMENT),
     }
 }
 
 // Asks for the scancode set; the value is the byte that the keyboard tells, 0 to 3.
-pub fn keyboard_scancode_set(script: &[u8], log: &mut [u8]) -> PortWords
+pub fn keyboard_get_scancode_set(script: &[u8], log: &mut [u8]) -> PortWords
     ensures { Tells (told scancode_set_byte) get_scancode_set script.now log.old result log.new }
 {
     answer_words(get_keyboard_scancode_set(script, log))
@@ -161,12 +161,12 @@ pub fn keyboard_detect(script: &[u8], log: &mut [u8]) -> PortWords
 }
 
 // Sends the byte of repeat rate and delay.
-pub fn keyboard_repeat(byte: u32, script: &[u8], log: &mut [u8]) -> PortWords
-    ensures { TellsAt (refusing means_nothing) (told no_value) set_keyboard_repeat (byte_at byte) script.now log.old result log.new }
+pub fn keyboard_set_repeat(byte: u32, script: &[u8], log: &mut [u8]) -> PortWords
+    ensures { TellsAt (refusing invalid_argument) (told no_value) set_keyboard_repeat (byte_at byte) script.now log.old result log.new }
 {
     match u8::try_from(byte) {
         Ok(value) => answer_words(set_keyboard_repeat(script, log, value)),
-        Err(_) => refusing_words(MEANS_NOTHING),
+        Err(_) => refusing_words(INVALID_ARGUMENT),
     }
 }
 

@@ -5,7 +5,7 @@ use Rattle.std.proofs.Math.Option.{Option}
 use Rattle.exchange.specs.Exchange.{End}
 use Rattle.exchange.specs.Answer.{Answer, number_ended}
 use Rattle.exchange.specs.Left.{Left}
-use Rattle.argument_words.specs.Arguments.{means_nothing}
+use Rattle.argument_words.specs.Arguments.{invalid_argument}
 use Rattle.ps2_bytes.specs.declared.response.MouseId.{MouseId}
 use Rattle.ps2_bytes.specs.Responses.{mouse_id_byte}
 use Rattle.ps2_answers.specs.Refusals.{Success}
@@ -28,5 +28,5 @@ told_left passed = of_left left_numbers passed
 -- A number for the identity of the record that is passed: where it stands for none the log stays; otherwise it is `set_mouse_id` on that record.
 abbrev pub TellsLeftAt : Option MouseId → List ℕ → List ℕ → PortWords → List ℕ → Type 0
 TellsLeftAt argument script log answer log' =
-    AtArgument argument ((answer ≡ refusing means_nothing) × (log' ≡ log))
+    AtArgument argument ((answer ≡ refusing invalid_argument) × (log' ≡ log))
     (λ id. Tells (told_left (record { id = id })) (set_mouse_id (record { id = id })) script log answer log')

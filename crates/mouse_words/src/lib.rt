@@ -3,7 +3,7 @@
 
 ghost use Rattle.std.specs.Prelude.{◌≡◌};
 ghost use Rattle.bits.specs.Bits.{weigh};
-ghost use Rattle.argument_words.specs.Arguments.{means_nothing, identity_at, said_found};
+ghost use Rattle.argument_words.specs.Arguments.{invalid_argument, identity_at, said_found};
 ghost use Rattle.ps2_bytes.specs.Responses.{mouse_id_byte};
 ghost use Rattle.ps2_answers.specs.Answers.{ended, used_of, pairs_of};
 ghost use Rattle.ps2_kept.specs.Kept.{keeping_thrown};
@@ -16,7 +16,7 @@ ghost use Rattle.port_words.specs.Tells.{Tells, TellsReading, TellsAt, TellsRead
 ghost use Rattle.mouse_words.specs.Arguments.{command_at, rate_at, resolution_at};
 ghost use Rattle.mouse_words.specs.Left.{left_numbers, TellsLeftAt};
 
-use argument_words::{MEANS_NOTHING, identity_of};
+use argument_words::{INVALID_ARGUMENT, identity_of};
 use port_words::{
     KeptWords, PacketWords, PortWords, Value, answer_words, commanded_words, packet_words,
     refusing_kept_words, refusing_packet_words, refusing_words,
@@ -88,7 +88,7 @@ pub fn mouse_stop_packets(script: &[u8], log: &mut [u8]) -> PortWords
 }
 
 // Asks the mouse for its identity: 0, 3 or 4.
-pub fn mouse_identity(script: &[u8], log: &mut [u8]) -> PortWords
+pub fn mouse_get_identity(script: &[u8], log: &mut [u8]) -> PortWords
     ensures { Tells (told mouse_id_byte) mouse_id_rule script.now log.old result log.new }
 {
     answer_words(PS2Mouse::mouse_id(script, log))
@@ -100,13 +100,13 @@ pub fn mouse_set_identity(identity: u32, script: &[u8], log: &mut [u8]) -> PortW
 {
     match identity_of(identity) {
         Some(id) => left_words(set_mouse_id(PS2Mouse { id }, script, log)),
-        None => refusing_words(MEANS_NOTHING),
+        None => refusing_words(INVALID_ARGUMENT),
     }
 }
 
 // Sends a command to the mouse.
 pub fn mouse_command(byte: u32, script: &[u8], log: &mut [u8]) -> KeptWords
-    ensures { TellsAt (refusing_kept means_nothing) told_kept (λ c. keeping_thrown (mouse_command c)) (command_at byte) script.now log.old result log.new }
+    ensures { TellsAt (refusing_kept invalid_argument) told_kept (λ c. keeping_thrown (mouse_command c)) (command_at byte) script.now log.old result log.new }
 {
     match command_of(byte) {
         Some(command) => commanded_words(PS2Mouse::command_to_mouse(
@@ -114,27 +114,27 @@ pub fn mouse_command(byte: u32, script: &[u8], log: &mut [u8]) -> KeptWords
             log,
             HostToMouseCommandOrData::MouseCommand(command),
         )),
-        None => refusing_kept_words(MEANS_NOTHING),
+        None => refusing_kept_words(INVALID_ARGUMENT),
     }
 }
 
 // Sets the mouse's sampling rate.
-pub fn mouse_sampling_rate(rate: u32, script: &[u8], log: &mut [u8]) -> PortWords
-    ensures { TellsAt (refusing means_nothing) (told no_value) set_sampling_rate (rate_at rate) script.now log.old result log.new }
+pub fn mouse_set_sampling_rate(rate: u32, script: &[u8], log: &mut [u8]) -> PortWords
+    ensures { TellsAt (refusing invalid_argument) (told no_value) set_sampling_rate (rate_at rate) script.now log.old result log.new }
 {
     match rate_of(rate) {
         Some(known) => answer_words(PS2Mouse::set_mouse_sampling_rate(script, log, known)),
-        None => refusing_words(MEANS_NOTHING), // none of the seven
+        None => refusing_words(INVALID_ARGUMENT), // none of the seven
     }
 }
 
 // Sets the mouse's resolution.
-pub fn mouse_resolution(resolution: u32, script: &[u8], log: &mut [u8]) -> PortWords
-    ensures { TellsAt (refusing means_nothing) (told no_value) set_resolution (resolution_at resolution) script.now log.old result log.new }
+pub fn mouse_set_resolution(resolution: u32, script: &[u8], log: &mut [u8]) -> PortWords
+    ensures { TellsAt (refusing invalid_argument) (told no_value) set_resolution (resolution_at resolution) script.now log.old result log.new }
 {
     match resolution_of(resolution) {
         Some(known) => answer_words(PS2Mouse::mouse_resolution(script, log, known)),
-        None => refusing_words(MEANS_NOTHING),
+        None => refusing_words(INVALID_ARGUMENT),
     }
 }
 
@@ -147,10 +147,10 @@ pub fn mouse_waits(script: &[u8]) -> PortWords
 
 // Reads the packet that a mouse of this identity sends, its wheel signed.
 pub fn mouse_read_packet(identity: u32, script: &[u8]) -> PacketWords
-    ensures { TellsReadingAt (refusing_packet means_nothing) told_packet read_signed_packet (identity_at identity) script.now result }
+    ensures { TellsReadingAt (refusing_packet invalid_argument) told_packet read_signed_packet (identity_at identity) script.now result }
 {
     match identity_of(identity) {
         Some(id) => packet_words(read_signed_packet(id, script)),
-        None => refusing_packet_words(MEANS_NOTHING),
+        None => refusing_packet_words(INVALID_ARGUMENT),
     }
 }

@@ -4,12 +4,12 @@ use mathlib.Core.List.{List}
 use mathlib.Core.Option.{none}
 use mathlib.Core.Path.{◌≡◌}
 use Prim.Native.Nat.{ℕ}
-use Rattle.argument_words.specs.Arguments.{means_nothing}
+use Rattle.argument_words.specs.Arguments.{invalid_argument}
 use Rattle.preferences.specs.Writing.{written}
 use Rattle.preferences_words.specs.declared.PreferencesWords.{PreferencesWords}
 use Rattle.preferences_words.specs.Record.{preferences_at}
 use Rattle.preferences_words.specs.Writing.{WordsWritten}
 
 module _ {w : PreferencesWords} {out : List ℕ} where
-  pub written_nothing : preferences_at w ≡ none → WordsWritten w out (record { refusal = means_nothing; written = 0 }) out
+  pub written_nothing : preferences_at w ≡ none → WordsWritten w out (record { refusal = invalid_argument; written = 0 }) out
   written_nothing stands = record { answered = rw stands; output = rw stands }

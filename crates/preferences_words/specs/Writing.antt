@@ -3,7 +3,7 @@
 use Rattle.std.specs.Prelude.{List, ◌≡◌, length, ℕ}
 use Rattle.std.proofs.Math.Option.{Option, none, some}
 use Rattle.exchange.specs.Answer.{refuses, number_answered}
-use Rattle.argument_words.specs.Arguments.{means_nothing}
+use Rattle.argument_words.specs.Arguments.{invalid_argument}
 use Rattle.preferences.specs.NumberWriting.{Outcome, outcome}
 use Rattle.preferences.specs.declared.Preferences.{Preferences}
 use Rattle.preferences.specs.Writing.{written, leaves}
@@ -13,7 +13,7 @@ use Rattle.preferences_words.specs.Record.{preferences_at}
 
 -- What a writing leaves: that of the record, or nothing is written where the numbers stand for none.
 abbrev pub words_leave : List ℕ → Option Preferences → Outcome
-words_leave out none = outcome (refuses means_nothing) 0 out
+words_leave out none = outcome (refuses invalid_argument) 0 out
 words_leave out (some p) = leaves out (written (length out) p)
 
 -- The numbers of a writing's answer: the refusal's, 0 where there is none, and the count of bytes written.

@@ -4,7 +4,7 @@
 ghost use Rattle.std.specs.Prelude.{◌≡◌};
 ghost use Rattle.preferences.specs.Reading.{read1, read2, said_read2, refusal_number};
 ghost use Rattle.exchange.specs.Answer.{refuses};
-ghost use Rattle.argument_words.specs.Arguments.{means_nothing, said_found};
+ghost use Rattle.argument_words.specs.Arguments.{invalid_argument, said_found};
 ghost use Rattle.preferences_application.specs.Application.{apply_preferences};
 ghost use Rattle.port_words.specs.Told.{refusing, no_value, told};
 ghost use Rattle.port_words.specs.Tells.{TellsAt};
@@ -12,7 +12,7 @@ ghost use Rattle.preferences_words.specs.Record.{preferences_at, words_of};
 ghost use Rattle.preferences_words.specs.Writing.{WordsWritten};
 ghost use Rattle.preferences_words.specs.Reading.{told_read, as_version1};
 
-use argument_words::MEANS_NOTHING;
+use argument_words::INVALID_ARGUMENT;
 use port_words::{PortWords, answer_words, refusing_words};
 use preferences::coding::{ReadRefusal, read_preferences_1, read_preferences_2, write_preferences};
 use preferences::{Fields, Preferences};
@@ -127,7 +127,7 @@ pub fn write(preferences: PreferencesWords, output: &mut [u8]) -> PreferencesWri
 {
     let Some(known) = preferences_of(preferences) else {
         return PreferencesWrittenWords {
-            refusal: MEANS_NOTHING,
+            refusal: INVALID_ARGUMENT,
             written: 0,
         };
     };
@@ -159,10 +159,10 @@ pub fn read_2(input: &[u8]) -> PreferencesReadWords
 
 // Applies a record's fields to the devices, in their order. Where one is outside its values nothing is read or written; after a refusal the fields before it stay applied.
 pub fn apply(preferences: PreferencesWords, script: &[u8], log: &mut [u8]) -> PortWords
-    ensures { TellsAt (refusing means_nothing) (told no_value) apply_preferences (preferences_at preferences) script.now log.old result log.new }
+    ensures { TellsAt (refusing invalid_argument) (told no_value) apply_preferences (preferences_at preferences) script.now log.old result log.new }
 {
     let Some(known) = preferences_of(preferences) else {
-        return refusing_words(MEANS_NOTHING);
+        return refusing_words(INVALID_ARGUMENT);
     };
     answer_words(apply_preferences(script, log, known))
 }

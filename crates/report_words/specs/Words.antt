@@ -2,7 +2,7 @@
 -- Assumes nothing.
 use Rattle.std.specs.Prelude.{List, ℕ, pos, Option as Shown, Some, None}
 use Rattle.std.proofs.Math.Option.{Option, none, some}
-use Rattle.argument_words.specs.Arguments.{means_nothing}
+use Rattle.argument_words.specs.Arguments.{invalid_argument}
 use Rattle.ps2_bytes.specs.declared.response.MouseId.{MouseId}
 use Rattle.report.specs.declared.sessions.Totals.{Totals}
 use Rattle.report.specs.declared.Limits.{Limits}
@@ -33,7 +33,7 @@ told_added a = record { refusal = answer_number a.answer; report = a.report }
 abbrev pub session_added : {R : Type 0} → Limits → (R → Totals) → (Totals → R) → Option MouseId → R → (events mouse : List ℕ) → SessionAdded R
 session_added l told having (some id) r events mouse =
     told_added (reported having r (added l (told r) (record { id = id; events = events; mouse = mouse })))
-session_added l told having none r events mouse = record { refusal = means_nothing; report = r }
+session_added l told having none r events mouse = record { refusal = invalid_argument; report = r }
 
 -- In 32 bits.
 abbrev pub added_words : SessionAdded Report → ReportAddedWords

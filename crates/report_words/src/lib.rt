@@ -9,7 +9,7 @@ ghost use Rattle.report.specs.Narrow.{report_of};
 ghost use Rattle.report.specs.Long.{long_of, widened};
 ghost use Rattle.report_words.specs.Words.{mean_words, session_added, report_added, long_added};
 
-use argument_words::{MEANS_NOTHING, identity_of};
+use argument_words::{INVALID_ARGUMENT, identity_of};
 use report::long::LongReport;
 use report::{Report, Season, WholeMean, answer_number};
 
@@ -44,7 +44,7 @@ fn add_session<R: Season>(report: &mut R, identity: u32, events: &[u8], mouse: &
 {
     match identity_of(identity) {
         Some(id) => u32::from(answer_number(report.add(id, events, mouse))),
-        None => MEANS_NOTHING,
+        None => INVALID_ARGUMENT,
     }
 }
 

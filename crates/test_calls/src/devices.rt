@@ -1,6 +1,6 @@
 // Single data bytes to the devices, and a packet with the Rust's wheel.
 ghost use Rattle.std.specs.Prelude.{◌≡◌};
-ghost use Rattle.argument_words.specs.Arguments.{means_nothing, identity_at};
+ghost use Rattle.argument_words.specs.Arguments.{invalid_argument, identity_at};
 ghost use Rattle.ps2_answers.specs.Answers.{ended, used_of, pairs_of};
 ghost use Rattle.ps2_packet_reading.specs.Reading.{read_mouse_packet};
 ghost use Rattle.ps2_keyboard.specs.Keyboard.{set_scancode_set};
@@ -13,7 +13,7 @@ ghost use Rattle.test_calls.specs.Arguments.{set_at};
 ghost use Rattle.test_calls.specs.Devices.{commanding_set, commanding_lamps, commanding_rate, commanding_resolution, refusing_read, told_read};
 
 use crate::arguments::set_of;
-use argument_words::{MEANS_NOTHING, identity_of};
+use argument_words::{INVALID_ARGUMENT, identity_of};
 use keyboard_words::lamps_of;
 use mouse_words::{rate_of, resolution_of};
 use port_words::{
@@ -30,7 +30,7 @@ use ps2_packet_reading::read_packet;
 /// Sends a scancode set, 0 to 3, as a command's data byte.
 #[unsafe(no_mangle)]
 pub extern "C" fn vdt_keyboard_data_set(set: u32, script: &[u8], log: &mut [u8]) -> KeptWords
-    ensures { TellsAt (refusing_kept means_nothing) told_kept commanding_set (set_at set) script.now log.old result log.new }
+    ensures { TellsAt (refusing_kept invalid_argument) told_kept commanding_set (set_at set) script.now log.old result log.new }
 {
     match set_of(set) {
         Some(known) => commanded_words(command_to_keyboard(
@@ -38,7 +38,7 @@ pub extern "C" fn vdt_keyboard_data_set(set: u32, script: &[u8], log: &mut [u8])
             log,
             HostToKeyboardCommandOrData::ScancodeSet(known),
         )),
-        None => refusing_kept_words(MEANS_NOTHING),
+        None => refusing_kept_words(INVALID_ARGUMENT),
     }
 }
 
@@ -49,18 +49,18 @@ pub extern "C" fn vdt_keyboard_set_scancode_set(
     script: &[u8],
     log: &mut [u8],
 ) -> PortWords
-    ensures { TellsAt (refusing means_nothing) (told no_value) set_scancode_set (set_at set) script.now log.old result log.new }
+    ensures { TellsAt (refusing invalid_argument) (told no_value) set_scancode_set (set_at set) script.now log.old result log.new }
 {
     match set_of(set) {
         Some(known) => answer_words(set_keyboard_scancode_set(script, log, known)),
-        None => refusing_words(MEANS_NOTHING),
+        None => refusing_words(INVALID_ARGUMENT),
     }
 }
 
 /// Sends lamps, 0 to 7, as a command's data byte.
 #[unsafe(no_mangle)]
 pub extern "C" fn vdt_keyboard_data_lamps(lamps: u32, script: &[u8], log: &mut [u8]) -> KeptWords
-    ensures { TellsAt (refusing_kept means_nothing) told_kept commanding_lamps (lamps_at lamps) script.now log.old result log.new }
+    ensures { TellsAt (refusing_kept invalid_argument) told_kept commanding_lamps (lamps_at lamps) script.now log.old result log.new }
 {
     match lamps_of(lamps) {
         Some(leds) => commanded_words(command_to_keyboard(
@@ -68,14 +68,14 @@ pub extern "C" fn vdt_keyboard_data_lamps(lamps: u32, script: &[u8], log: &mut [
             log,
             HostToKeyboardCommandOrData::LEDState(leds),
         )),
-        None => refusing_kept_words(MEANS_NOTHING),
+        None => refusing_kept_words(INVALID_ARGUMENT),
     }
 }
 
 /// Sends a sampling rate as a command's data byte.
 #[unsafe(no_mangle)]
 pub extern "C" fn vdt_mouse_data_rate(rate: u32, script: &[u8], log: &mut [u8]) -> KeptWords
-    ensures { TellsAt (refusing_kept means_nothing) told_kept commanding_rate (rate_at rate) script.now log.old result log.new }
+    ensures { TellsAt (refusing_kept invalid_argument) told_kept commanding_rate (rate_at rate) script.now log.old result log.new }
 {
     match rate_of(rate) {
         Some(known) => commanded_words(PS2Mouse::command_to_mouse(
@@ -83,7 +83,7 @@ pub extern "C" fn vdt_mouse_data_rate(rate: u32, script: &[u8], log: &mut [u8]) 
             log,
             HostToMouseCommandOrData::SampleRate(known),
         )),
-        None => refusing_kept_words(MEANS_NOTHING),
+        None => refusing_kept_words(INVALID_ARGUMENT),
     }
 }
 
@@ -94,7 +94,7 @@ pub extern "C" fn vdt_mouse_data_resolution(
     script: &[u8],
     log: &mut [u8],
 ) -> KeptWords
-    ensures { TellsAt (refusing_kept means_nothing) told_kept commanding_resolution (resolution_at resolution) script.now log.old result log.new }
+    ensures { TellsAt (refusing_kept invalid_argument) told_kept commanding_resolution (resolution_at resolution) script.now log.old result log.new }
 {
     match resolution_of(resolution) {
         Some(known) => commanded_words(PS2Mouse::command_to_mouse(
@@ -102,7 +102,7 @@ pub extern "C" fn vdt_mouse_data_resolution(
             log,
             HostToMouseCommandOrData::MouseResolution(known),
         )),
-        None => refusing_kept_words(MEANS_NOTHING),
+        None => refusing_kept_words(INVALID_ARGUMENT),
     }
 }
 
@@ -139,12 +139,12 @@ fn read_words(read: Answer<MousePacket>) -> RustPacketWords
 /// Reads the packet that a mouse of identity 0, 3 or 4 sends.
 #[unsafe(no_mangle)]
 pub extern "C" fn vdt_mouse_read_packet(identity: u32, script: &[u8]) -> RustPacketWords
-    ensures { TellsReadingAt (refusing_read means_nothing) told_read read_mouse_packet (identity_at identity) script.now result }
+    ensures { TellsReadingAt (refusing_read invalid_argument) told_read read_mouse_packet (identity_at identity) script.now result }
 {
     match identity_of(identity) {
         Some(id) => read_words(read_packet(id, script)),
         None => RustPacketWords {
-            packet: refusing_packet_words(MEANS_NOTHING),
+            packet: refusing_packet_words(INVALID_ARGUMENT),
             always_one: 0,
         },
     }

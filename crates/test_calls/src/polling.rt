@@ -1,6 +1,6 @@
 // The controller's tests and its configuration, and sending and receiving by polling.
 ghost use Rattle.std.specs.Prelude.{List, ℕ};
-ghost use Rattle.argument_words.specs.Arguments.{means_nothing};
+ghost use Rattle.argument_words.specs.Arguments.{invalid_argument};
 ghost use Rattle.ps2_bytes.specs.declared.command.HostToControllerCommand.TheVariants.{TestPort1, TestPort2};
 ghost use Rattle.ps2_kept.specs.Kept.{keeping_thrown};
 ghost use Rattle.ps2_ports.specs.Ports.{read_config, write_config};
@@ -11,7 +11,7 @@ ghost use Rattle.test_calls.specs.Arguments.{set_at};
 ghost use Rattle.test_calls.specs.Polling.{configuration_value, sending_set, told_received};
 
 use crate::arguments::set_of;
-use argument_words::MEANS_NOTHING;
+use argument_words::INVALID_ARGUMENT;
 use port_words::{PortWords, answer_words, refusing_words};
 use ps2_bytes::{HostToDevice, HostToKeyboardCommandOrData};
 use ps2_layouts::ControllerConfigurationByte;
@@ -72,7 +72,7 @@ pub extern "C" fn vdt_configuration_write(configuration: u8, log: &mut [u8]) -> 
 /// Sends a scancode set, 0 to 3, as soon as the last byte was taken, and waits for no response.
 #[unsafe(no_mangle)]
 pub extern "C" fn vdt_polling_send(set: u32, script: &[u8], log: &mut [u8]) -> PortWords
-    ensures { TellsAt (refusing means_nothing) (told no_value) sending_set (set_at set) script.now log.old result log.new }
+    ensures { TellsAt (refusing invalid_argument) (told no_value) sending_set (set_at set) script.now log.old result log.new }
 {
     match set_of(set) {
         Some(known) => answer_words(polling_send(
@@ -80,7 +80,7 @@ pub extern "C" fn vdt_polling_send(set: u32, script: &[u8], log: &mut [u8]) -> P
             log,
             HostToDevice::Keyboard(HostToKeyboardCommandOrData::ScancodeSet(known)),
         )),
-        None => refusing_words(MEANS_NOTHING),
+        None => refusing_words(INVALID_ARGUMENT),
     }
 }
 

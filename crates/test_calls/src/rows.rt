@@ -135,12 +135,12 @@ fn one_step(
     state: Dispatcher,
     first: &[u8],
     second: &[u8],
-    third: &[u8],
+    mouse: &[u8],
     log: &mut [u8],
 ) -> Dispatcher
-    ensures { left_by_step result log.new ≡ one_more (scripts first.now second.now third.now) (left_by_step state log.old) }
+    ensures { left_by_step result log.new ≡ one_more (scripts first.now second.now mouse.now) (left_by_step state log.old) }
 {
-    state.step(first, second, third, log).state
+    state.step(first, second, mouse, log).state
 }
 
 /// So many steps at a table with two keyboards, from a fresh state on; answers how many events then
@@ -149,11 +149,11 @@ fn one_step(
 pub extern "C" fn vdt_dispatcher_steps(
     first: &[u8],
     second: &[u8],
-    third: &[u8],
+    mouse: &[u8],
     log: &mut [u8],
     times: usize,
 ) -> usize
-    ensures { let after = made times (scripts first.now second.now third.now) (left_by_step (new_dispatcher (fresh two_keyboards) fresh_mouse) log.old) in (result ≡ after.state.handler.state.count) × (log.new ≡ after.log) }
+    ensures { let after = made times (scripts first.now second.now mouse.now) (left_by_step (new_dispatcher (fresh two_keyboards) fresh_mouse) log.old) in (result ≡ after.state.handler.state.count) × (log.new ≡ after.log) }
 {
     let mut state = Dispatcher::new(
         KeyboardHandler::fresh(Table {
@@ -163,7 +163,7 @@ pub extern "C" fn vdt_dispatcher_steps(
         PS2Mouse::new(),
     );
     for _ in 0..times {
-        state = one_step(state, first, second, third, log);
+        state = one_step(state, first, second, mouse, log);
     }
     state.handler.state.count
 }

@@ -3,7 +3,7 @@
 use Rattle.std.specs.Prelude.{◌≡◌, ◌&&◌, Bool, cond, ℕ, List, take, replicate, get_or, ltb, Option, Some, None}
 use Rattle.bits.specs.Bits.{weigh}
 use Rattle.exchange.specs.Answer.{gives}
-use Rattle.argument_words.specs.Arguments.{means_nothing}
+use Rattle.argument_words.specs.Arguments.{invalid_argument}
 use Rattle.bytes_words.specs.Keys.{character_number}
 use Rattle.keycodes_ascii.specs.declared.Keycode.{Keycode as OurKeycode}
 use Rattle.keycodes_ascii.specs.Characters.{character_of}
@@ -29,7 +29,7 @@ use Rattle.theseus_calls.specs.declared.queue.InterruptWords.{InterruptWords}
 -- The character of a key under flags that have the Rust's numbers.
 abbrev pub character_under : Option OurKeycode → ℕ → ℕ
 character_under (Some k) flags = character_number (character_of k (record { bits = renumbered flags }))
-character_under None flags = means_nothing
+character_under None flags = invalid_argument
 
 -- ---- the queue of 128 places
 

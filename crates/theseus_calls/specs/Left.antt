@@ -6,7 +6,7 @@ use Rattle.exchange.specs.Exchange.{End, told_end}
 use Rattle.exchange.specs.Answer.{Answer}
 use Rattle.exchange.specs.Keeping.{Kept, kept}
 use Rattle.exchange.specs.Left.{Left, record_after}
-use Rattle.argument_words.specs.Arguments.{means_nothing}
+use Rattle.argument_words.specs.Arguments.{invalid_argument}
 use Rattle.ps2_answers.specs.Refusals.{Success}
 use Rattle.ps2_bytes.specs.declared.response.MouseId.{MouseId}
 use Rattle.ps2_bytes.specs.Responses.{mouse_id_byte}
@@ -44,7 +44,7 @@ told_identified passed end used pairs =
 
 abbrev pub TellsIdentifiedAt : Option MouseId → List ℕ → List ℕ → NotedWords → List ℕ → Type 0
 TellsIdentifiedAt argument script log answer log' =
-    AtArgument argument ((answer ≡ refusing_noted means_nothing) × (log' ≡ log))
+    AtArgument argument ((answer ≡ refusing_noted invalid_argument) × (log' ≡ log))
     (λ id. Tells (told_identified id) (keeping_onto nothing_kept (set_mouse_id (record { id = id }))) script log answer log')
 
 -- ---- the controller

@@ -6,7 +6,7 @@ use Rattle.bits.specs.Bits.{bit, weigh}
 use Rattle.exchange.specs.Exchange.{End, told_end}
 use Rattle.exchange.specs.Answer.{Answer, gives}
 use Rattle.exchange.specs.Keeping.{Kept}
-use Rattle.argument_words.specs.Arguments.{means_nothing}
+use Rattle.argument_words.specs.Arguments.{invalid_argument}
 use Rattle.ps2_bytes.specs.declared.response.MouseId.{MouseId}
 use Rattle.ps2_kept.specs.declared.KeptBytes.{KeptBytes}
 use Rattle.ps2_kept.specs.Kept.{nothing_kept}
@@ -46,4 +46,4 @@ refusing_packet_noted n = record { run = refusing_noted n; packet = no_packet }
 
 abbrev pub TellsPacketAt : Option MouseId → List ℕ → List ℕ → PacketNotedWords → List ℕ → Type 0
 TellsPacketAt argument script log answer log' =
-    TellsAt (refusing_packet_noted means_nothing) told_packet_noted (λ id. keeping_onto nothing_kept (read_mouse_packet id)) argument script log answer log'
+    TellsAt (refusing_packet_noted invalid_argument) told_packet_noted (λ id. keeping_onto nothing_kept (read_mouse_packet id)) argument script log answer log'

@@ -5,7 +5,7 @@ use Rattle.std.proofs.Math.Option.{Option}
 use Rattle.exchange.specs.Exchange.{Exchange, End, yields, told_end}
 use Rattle.exchange.specs.Answer.{Answer, number_answered}
 use Rattle.exchange.specs.Keeping.{Kept}
-use Rattle.argument_words.specs.Arguments.{means_nothing}
+use Rattle.argument_words.specs.Arguments.{invalid_argument}
 use Rattle.ps2_kept.specs.declared.KeptBytes.{KeptBytes}
 use Rattle.ps2_kept.specs.Kept.{nothing_kept}
 use Rattle.ps2_kept.specs.Added.{keeping_onto}
@@ -55,4 +55,4 @@ TellsNoted value t script log answer log' = Tells (told_noted value) (keeping_on
 -- The same of one with a number for its argument.
 abbrev pub TellsNotedAt : {X A : Type 0} → (A → ℕ) → (X → Exchange (Answer A)) → Option X → List ℕ → List ℕ → NotedWords → List ℕ → Type 0
 TellsNotedAt value operation argument script log answer log' =
-    TellsAt (refusing_noted means_nothing) (told_noted value) (λ v. keeping_onto nothing_kept (operation v)) argument script log answer log'
+    TellsAt (refusing_noted invalid_argument) (told_noted value) (λ v. keeping_onto nothing_kept (operation v)) argument script log answer log'

@@ -12,7 +12,7 @@ ghost use Rattle.theseus_calls.specs.Recorded.{told_recorded, TellsNoted, TellsN
 
 use crate::answers::{NotedWords, Run, begun, recorded_words, refusing_noted_words, run_of};
 use crate::arguments::set_of;
-use argument_words::MEANS_NOTHING;
+use argument_words::INVALID_ARGUMENT;
 use ps2_bytes::{HostToDevice, HostToKeyboardCommandOrData, ScancodeSet};
 use ps2_layouts::ControllerConfigurationByte;
 use theseus_ps2::Recording;
@@ -137,7 +137,7 @@ pub extern "C" fn vdr_polling_send(set: u32, script: &[u8], log: &mut [u8]) -> N
 {
     match set_of(set) {
         Some(known) => polling_send(known, script, log).words,
-        None => refusing_noted_words(MEANS_NOTHING),
+        None => refusing_noted_words(INVALID_ARGUMENT),
     }
 }
 

@@ -1,7 +1,7 @@
 // The mouse's operations that go by its identity.
 ghost use Rattle.std.specs.Prelude.{◌≡◌};
 ghost use Rattle.exchange.specs.Answer.{gives};
-ghost use Rattle.argument_words.specs.Arguments.{means_nothing, identity_at};
+ghost use Rattle.argument_words.specs.Arguments.{invalid_argument, identity_at};
 ghost use Rattle.port_words.specs.Tells.{Tells};
 ghost use Rattle.ps2_kept.specs.Kept.{nothing_kept};
 ghost use Rattle.ps2_kept.specs.Added.{keeping_onto};
@@ -12,7 +12,7 @@ ghost use Rattle.theseus_calls.specs.Left.{told_identified, identified_recorded,
 ghost use Rattle.theseus_calls.specs.Packets.{packet_numbers, no_packet, packet_recorded, told_packet_noted, TellsPacketAt};
 
 use crate::answers::{NotedWords, Run, begun, recorded_words, refusing_noted_words, run_of};
-use argument_words::{MEANS_NOTHING, identity_of};
+use argument_words::{INVALID_ARGUMENT, identity_of};
 use port_words::{PortWords, Value, packet_words};
 use ps2_answers::Counted;
 use ps2_bytes::MouseId;
@@ -62,7 +62,7 @@ pub extern "C" fn vdr_mouse_set_identity(identity: u32, script: &[u8], log: &mut
 {
     match identity_of(identity) {
         Some(id) => set_identity(id, script, log).words,
-        None => refusing_noted_words(MEANS_NOTHING),
+        None => refusing_noted_words(INVALID_ARGUMENT),
     }
 }
 
@@ -146,7 +146,7 @@ pub extern "C" fn vdr_mouse_read_packet(
     match identity_of(identity) {
         Some(id) => read_packet(id, script, log).words,
         None => PacketNotedWords {
-            run: refusing_noted_words(MEANS_NOTHING),
+            run: refusing_noted_words(INVALID_ARGUMENT),
             packet: NO_PACKET,
         },
     }

@@ -16,7 +16,7 @@ ghost use Rattle.theseus_calls.specs.Recorded.{TellsNoted, TellsNotedAt};
 
 use crate::answers::{NotedWords, Run, begun, recorded_words, refusing_noted_words, run_of};
 use crate::arguments::{keyboard_command_of, set_of};
-use argument_words::MEANS_NOTHING;
+use argument_words::INVALID_ARGUMENT;
 use keyboard_words::lamps_of;
 use ps2_bytes::{HostToKeyboardCommandOrData, ScancodeSet};
 use ps2_layouts::LEDState;
@@ -73,7 +73,7 @@ pub extern "C" fn vdr_keyboard_command(byte: u32, script: &[u8], log: &mut [u8])
             log,
         )
         .words,
-        None => refusing_noted_words(MEANS_NOTHING),
+        None => refusing_noted_words(INVALID_ARGUMENT),
     }
 }
 
@@ -84,7 +84,7 @@ pub extern "C" fn vdr_keyboard_data_set(set: u32, script: &[u8], log: &mut [u8])
 {
     match set_of(set) {
         Some(known) => command(HostToKeyboardCommandOrData::ScancodeSet(known), script, log).words,
-        None => refusing_noted_words(MEANS_NOTHING),
+        None => refusing_noted_words(INVALID_ARGUMENT),
     }
 }
 
@@ -95,7 +95,7 @@ pub extern "C" fn vdr_keyboard_data_lamps(lamps: u32, script: &[u8], log: &mut [
 {
     match lamps_of(lamps) {
         Some(leds) => command(HostToKeyboardCommandOrData::LEDState(leds), script, log).words,
-        None => refusing_noted_words(MEANS_NOTHING),
+        None => refusing_noted_words(INVALID_ARGUMENT),
     }
 }
 
@@ -116,7 +116,7 @@ pub extern "C" fn vdr_keyboard_lamps(lamps: u32, script: &[u8], log: &mut [u8]) 
 {
     match lamps_of(lamps) {
         Some(leds) => set_lamps(leds, script, log).words,
-        None => refusing_noted_words(MEANS_NOTHING),
+        None => refusing_noted_words(INVALID_ARGUMENT),
     }
 }
 
@@ -141,7 +141,7 @@ pub extern "C" fn vdr_keyboard_set_scancode_set(
 {
     match set_of(set) {
         Some(known) => set_set(known, script, log).words,
-        None => refusing_noted_words(MEANS_NOTHING),
+        None => refusing_noted_words(INVALID_ARGUMENT),
     }
 }
 

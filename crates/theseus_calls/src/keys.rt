@@ -4,7 +4,7 @@ ghost use Rattle.bytes_words.specs.Keys.{character_number};
 ghost use Rattle.keycodes_ascii.specs.Keycode.{keycode_of};
 ghost use Rattle.theseus_calls.specs.Interrupts.{character_under};
 
-use argument_words::MEANS_NOTHING;
+use argument_words::INVALID_ARGUMENT;
 use theseus_keycodes::{KeyboardModifiers, Keycode};
 
 // A character's number, and 0 where there is none.
@@ -25,6 +25,6 @@ pub extern "C" fn vdr_character(keycode: u8, flags: u16) -> u32
 {
     match Keycode::try_from(keycode) {
         Ok(key) => character_number(key.to_ascii(KeyboardModifiers { bits: flags })),
-        Err(_) => MEANS_NOTHING,
+        Err(_) => INVALID_ARGUMENT,
     }
 }

@@ -10,7 +10,7 @@ ghost use Rattle.theseus_calls.specs.Recorded.{TellsNoted, TellsNotedAt};
 
 use crate::answers::{NotedWords, Run, begun, recorded_words, refusing_noted_words, run_of};
 use crate::arguments::mouse_command_of;
-use argument_words::MEANS_NOTHING;
+use argument_words::INVALID_ARGUMENT;
 use mouse_words::{rate_of, resolution_of};
 use ps2_bytes::{HostToMouseCommandOrData, MouseResolution, MouseSampleRate};
 use theseus_ps2::both_mouse::{
@@ -113,7 +113,7 @@ pub extern "C" fn vdr_mouse_command(byte: u32, script: &[u8], log: &mut [u8]) ->
 {
     match mouse_command_of(byte) {
         Some(known) => command(HostToMouseCommandOrData::MouseCommand(known), script, log).words,
-        None => refusing_noted_words(MEANS_NOTHING),
+        None => refusing_noted_words(INVALID_ARGUMENT),
     }
 }
 
@@ -124,7 +124,7 @@ pub extern "C" fn vdr_mouse_data_rate(rate: u32, script: &[u8], log: &mut [u8]) 
 {
     match rate_of(rate) {
         Some(known) => command(HostToMouseCommandOrData::SampleRate(known), script, log).words,
-        None => refusing_noted_words(MEANS_NOTHING),
+        None => refusing_noted_words(INVALID_ARGUMENT),
     }
 }
 
@@ -144,7 +144,7 @@ pub extern "C" fn vdr_mouse_data_resolution(
             log,
         )
         .words,
-        None => refusing_noted_words(MEANS_NOTHING),
+        None => refusing_noted_words(INVALID_ARGUMENT),
     }
 }
 
@@ -165,7 +165,7 @@ pub extern "C" fn vdr_mouse_sampling_rate(rate: u32, script: &[u8], log: &mut [u
 {
     match rate_of(rate) {
         Some(known) => set_rate(known, script, log).words,
-        None => refusing_noted_words(MEANS_NOTHING),
+        None => refusing_noted_words(INVALID_ARGUMENT),
     }
 }
 
@@ -190,7 +190,7 @@ pub extern "C" fn vdr_mouse_resolution(resolution: u32, script: &[u8], log: &mut
 {
     match resolution_of(resolution) {
         Some(known) => set_resolution(known, script, log).words,
-        None => refusing_noted_words(MEANS_NOTHING),
+        None => refusing_noted_words(INVALID_ARGUMENT),
     }
 }
 

@@ -23,10 +23,10 @@ pub extern "C" fn vd_dispatcher_step(
     words: &mut [u64],
     first: &[u8],
     second: &[u8],
-    third: &[u8],
+    mouse: &[u8],
     log: &mut [u8],
 ) -> StepWords
-    ensures { StepMade words.old first.now second.now third.now log.old result words.new log.new }
+    ensures { StepMade words.old first.now second.now mouse.now log.old result words.new log.new }
 {
-    dispatcher_step(words, first, second, third, log)
+    dispatcher_step(words, first, second, mouse, log)
 }

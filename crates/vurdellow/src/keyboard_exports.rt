@@ -4,7 +4,7 @@ ghost use Rattle.ps2_bytes.specs.Data.{scancode_set_byte};
 ghost use Rattle.ps2_keyboard.specs.Keyboard.{reset_keyboard, set_scancode_set, get_scancode_set, read_scancode, keyboard_output_buffer_full};
 ghost use Rattle.ps2_detect.specs.Detection.{keyboard_detect};
 ghost use Rattle.preferences_application.specs.Application.{set_keyboard_repeat};
-ghost use Rattle.argument_words.specs.Arguments.{means_nothing};
+ghost use Rattle.argument_words.specs.Arguments.{invalid_argument};
 ghost use Rattle.port_words.specs.Told.{refusing, no_value, byte_value, type_number, told};
 ghost use Rattle.port_words.specs.ToldKept.{refusing_kept, told_kept};
 ghost use Rattle.port_words.specs.Tells.{Tells, TellsReading, TellsAt};
@@ -12,9 +12,9 @@ ghost use Rattle.keyboard_words.specs.Arguments.{command_at, lamps_at, scancode_
 ghost use Rattle.keyboard_words.specs.Operations.{sending_command, setting_lamps, KeyboardInitialized};
 
 use keyboard_words::{
-    keyboard_command, keyboard_detect, keyboard_init, keyboard_lamps, keyboard_read_scancode,
-    keyboard_repeat, keyboard_reset, keyboard_scancode_set, keyboard_set_scancode_set,
-    keyboard_waits,
+    keyboard_command, keyboard_detect, keyboard_get_scancode_set, keyboard_init,
+    keyboard_read_scancode, keyboard_reset, keyboard_set_lamps, keyboard_set_repeat,
+    keyboard_set_scancode_set, keyboard_waits,
 };
 use port_words::{KeptWords, PortWords};
 
@@ -43,33 +43,33 @@ pub extern "C" fn vd_keyboard_reset(script: &[u8], log: &mut [u8]) -> PortWords
 // Sends one of the keyboard's commands, by the byte that the wiki lists it with.
 #[unsafe(no_mangle)]
 pub extern "C" fn vd_keyboard_command(byte: u32, script: &[u8], log: &mut [u8]) -> KeptWords
-    ensures { TellsAt (refusing_kept means_nothing) told_kept sending_command (command_at byte) script.now log.old result log.new }
+    ensures { TellsAt (refusing_kept invalid_argument) told_kept sending_command (command_at byte) script.now log.old result log.new }
 {
     keyboard_command(byte, script, log)
 }
 
 // Sets the lamps: scroll 1, number 2, caps 4 added.
 #[unsafe(no_mangle)]
-pub extern "C" fn vd_keyboard_lamps(lamps: u32, script: &[u8], log: &mut [u8]) -> KeptWords
-    ensures { TellsAt (refusing_kept means_nothing) told_kept setting_lamps (lamps_at lamps) script.now log.old result log.new }
+pub extern "C" fn vd_keyboard_set_lamps(lamps: u32, script: &[u8], log: &mut [u8]) -> KeptWords
+    ensures { TellsAt (refusing_kept invalid_argument) told_kept setting_lamps (lamps_at lamps) script.now log.old result log.new }
 {
-    keyboard_lamps(lamps, script, log)
+    keyboard_set_lamps(lamps, script, log)
 }
 
 // Sets the scancode set, 1 to 3.
 #[unsafe(no_mangle)]
 pub extern "C" fn vd_keyboard_set_scancode_set(set: u32, script: &[u8], log: &mut [u8]) -> PortWords
-    ensures { TellsAt (refusing means_nothing) (told no_value) set_scancode_set (scancode_set_at set) script.now log.old result log.new }
+    ensures { TellsAt (refusing invalid_argument) (told no_value) set_scancode_set (scancode_set_at set) script.now log.old result log.new }
 {
     keyboard_set_scancode_set(set, script, log)
 }
 
 // Asks for the scancode set; the value is the byte that the keyboard tells, 0 to 3.
 #[unsafe(no_mangle)]
-pub extern "C" fn vd_keyboard_scancode_set(script: &[u8], log: &mut [u8]) -> PortWords
+pub extern "C" fn vd_keyboard_get_scancode_set(script: &[u8], log: &mut [u8]) -> PortWords
     ensures { Tells (told scancode_set_byte) get_scancode_set script.now log.old result log.new }
 {
-    keyboard_scancode_set(script, log)
+    keyboard_get_scancode_set(script, log)
 }
 
 // Detects the type of the keyboard.
@@ -82,10 +82,10 @@ pub extern "C" fn vd_keyboard_detect(script: &[u8], log: &mut [u8]) -> PortWords
 
 // Sends the byte of repeat rate and delay.
 #[unsafe(no_mangle)]
-pub extern "C" fn vd_keyboard_repeat(byte: u32, script: &[u8], log: &mut [u8]) -> PortWords
-    ensures { TellsAt (refusing means_nothing) (told no_value) set_keyboard_repeat (byte_at byte) script.now log.old result log.new }
+pub extern "C" fn vd_keyboard_set_repeat(byte: u32, script: &[u8], log: &mut [u8]) -> PortWords
+    ensures { TellsAt (refusing invalid_argument) (told no_value) set_keyboard_repeat (byte_at byte) script.now log.old result log.new }
 {
-    keyboard_repeat(byte, script, log)
+    keyboard_set_repeat(byte, script, log)
 }
 
 // Whether there is a byte of the keyboard to read: the value is 1 where there is.

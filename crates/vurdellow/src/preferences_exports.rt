@@ -1,7 +1,7 @@
 // A club's preferences: written, read and applied.
 ghost use Rattle.std.specs.Prelude.{◌≡◌};
 ghost use Rattle.preferences.specs.Reading.{read1, read2};
-ghost use Rattle.argument_words.specs.Arguments.{means_nothing};
+ghost use Rattle.argument_words.specs.Arguments.{invalid_argument};
 ghost use Rattle.preferences_application.specs.Application.{apply_preferences};
 ghost use Rattle.port_words.specs.Told.{refusing, no_value, told};
 ghost use Rattle.port_words.specs.Tells.{TellsAt};
@@ -48,7 +48,7 @@ pub extern "C" fn vd_preferences_apply(
     script: &[u8],
     log: &mut [u8],
 ) -> PortWords
-    ensures { TellsAt (refusing means_nothing) (told no_value) apply_preferences (preferences_at preferences) script.now log.old result log.new }
+    ensures { TellsAt (refusing invalid_argument) (told no_value) apply_preferences (preferences_at preferences) script.now log.old result log.new }
 {
     apply(preferences, script, log)
 }

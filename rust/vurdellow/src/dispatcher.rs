@@ -140,8 +140,8 @@ impl Dispatcher {
 
     /// Serves one source that waits, with one handler call or one packet: going round side 1, side 2 and the mouse from the one after the
     /// last served. The scripts are passed whole each time: the state knows how far each is used, and they may have grown.
-    pub fn step(&mut self, first: &[u8], second: &[u8], third: &[u8], log: &mut [u8]) -> Step {
-        let answer = raw::vd_dispatcher_step(&mut self.words, first, second, third, log);
+    pub fn step(&mut self, first: &[u8], second: &[u8], mouse: &[u8], log: &mut [u8]) -> Step {
+        let answer = raw::vd_dispatcher_step(&mut self.words, first, second, mouse, log);
         match answer.source {
             1 => Step::Key(Side::First, handled(answer.call)),
             2 => Step::Key(Side::Second, handled(answer.call)),

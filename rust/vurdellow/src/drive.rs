@@ -58,7 +58,7 @@ impl<P: Ports + ?Sized> Ports for &mut P {
 /// }
 ///
 /// let mut ports = Willing { acknowledges: false, sent: Vec::new() };
-/// let done = drive(&mut ports, Session::keyboard_lamps(Lamps::CAPS))?;
+/// let done = drive(&mut ports, Session::keyboard_set_lamps(Lamps::CAPS))?;
 /// assert_eq!((done.used, done.pairs), (6, 2));
 /// assert_eq!(ports.sent, [0xED, 0x04]);
 /// # Ok::<(), vurdellow::Refused<vurdellow::keyboard::Commanded>>(())
@@ -135,11 +135,11 @@ pub fn drive_within<S: Steps>(
 /// #     }
 /// # }
 /// let mut ports = Recorded::new(Willing(false));
-/// let done = drive(&mut ports, Session::keyboard_lamps(Lamps::CAPS));
+/// let done = drive(&mut ports, Session::keyboard_set_lamps(Lamps::CAPS));
 /// assert_eq!(ports.script, [0x00, 0x01, 0xFA, 0x00, 0x01, 0xFA]);
 /// assert_eq!(ports.log, [0x60, 0xED, 0x60, 0x04]);
 /// let mut log = [0; 4];
-/// assert_eq!(keyboard::lamps(Lamps::CAPS, &ports.script, &mut log), done);
+/// assert_eq!(keyboard::set_lamps(Lamps::CAPS, &ports.script, &mut log), done);
 /// ```
 #[cfg(feature = "std")]
 #[derive(Clone, Debug, Default)]

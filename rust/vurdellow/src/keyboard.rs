@@ -158,8 +158,8 @@ pub fn command(command: KeyboardCommand, script: &[u8], log: &mut [u8]) -> Comma
 }
 
 /// Lights these lamps, and puts out the others.
-pub fn lamps(lamps: Lamps, script: &[u8], log: &mut [u8]) -> Command {
-    commanded(raw::vd_keyboard_lamps(u32::from(lamps.0), script, log))
+pub fn set_lamps(lamps: Lamps, script: &[u8], log: &mut [u8]) -> Command {
+    commanded(raw::vd_keyboard_set_lamps(u32::from(lamps.0), script, log))
 }
 
 /// Asks the keyboard for a scancode set, then which one it speaks: another one is no refusal.
@@ -168,8 +168,8 @@ pub fn set_scancode_set(set: ScancodeSet, script: &[u8], log: &mut [u8]) -> Exch
 }
 
 /// Asks the keyboard which scancode set it speaks. A keyboard may also answer 0.
-pub fn scancode_set(script: &[u8], log: &mut [u8]) -> Exchange<u8> {
-    exchanged(raw::vd_keyboard_scancode_set(script, log), |set| set as u8)
+pub fn get_scancode_set(script: &[u8], log: &mut [u8]) -> Exchange<u8> {
+    exchanged(raw::vd_keyboard_get_scancode_set(script, log), |set| set as u8)
 }
 
 /// Asks what keyboard this is.
@@ -178,8 +178,8 @@ pub fn detect(script: &[u8], log: &mut [u8]) -> Exchange<KeyboardType> {
 }
 
 /// Sets repeat rate and delay.
-pub fn repeat(byte: u8, script: &[u8], log: &mut [u8]) -> Exchange<()> {
-    exchanged(raw::vd_keyboard_repeat(u32::from(byte), script, log), |_| ())
+pub fn set_repeat(byte: u8, script: &[u8], log: &mut [u8]) -> Exchange<()> {
+    exchanged(raw::vd_keyboard_set_repeat(u32::from(byte), script, log), |_| ())
 }
 
 /// Reads the status once: whether the keyboard has a byte to read.

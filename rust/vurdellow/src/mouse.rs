@@ -215,8 +215,8 @@ impl Mouse {
     }
 
     /// Asks the mouse for its identity.
-    pub fn read_identity(script: &[u8], log: &mut [u8]) -> Exchange<Identity> {
-        exchanged(raw::vd_mouse_identity(script, log), Identity::of)
+    pub fn get_identity(script: &[u8], log: &mut [u8]) -> Exchange<Identity> {
+        exchanged(raw::vd_mouse_get_identity(script, log), Identity::of)
     }
 
     /// Sends one command byte, up to four times until it is acknowledged.
@@ -226,12 +226,12 @@ impl Mouse {
 
     /// Sets the sampling rate.
     pub fn set_sampling_rate(rate: SamplingRate, script: &[u8], log: &mut [u8]) -> Exchange<()> {
-        exchanged(raw::vd_mouse_sampling_rate(rate as u32, script, log), |_| ())
+        exchanged(raw::vd_mouse_set_sampling_rate(rate as u32, script, log), |_| ())
     }
 
     /// Sets the resolution.
     pub fn set_resolution(resolution: Resolution, script: &[u8], log: &mut [u8]) -> Exchange<()> {
-        exchanged(raw::vd_mouse_resolution(resolution as u32, script, log), |_| ())
+        exchanged(raw::vd_mouse_set_resolution(resolution as u32, script, log), |_| ())
     }
 
     /// Reads the status once: whether the mouse has a byte to read.

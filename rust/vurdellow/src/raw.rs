@@ -218,22 +218,22 @@ functions! {
     fn vd_keyboard_init(words: &mut [u64], keyboards: u32, profile: u32, script: &[u8], log: &mut [u8]) -> vd_answer;
     fn vd_keyboard_reset(script: &[u8], log: &mut [u8]) -> vd_answer;
     fn vd_keyboard_command(byte: u32, script: &[u8], log: &mut [u8]) -> vd_kept;
-    fn vd_keyboard_lamps(lamps: u32, script: &[u8], log: &mut [u8]) -> vd_kept;
+    fn vd_keyboard_set_lamps(lamps: u32, script: &[u8], log: &mut [u8]) -> vd_kept;
     fn vd_keyboard_set_scancode_set(set: u32, script: &[u8], log: &mut [u8]) -> vd_answer;
-    fn vd_keyboard_scancode_set(script: &[u8], log: &mut [u8]) -> vd_answer;
+    fn vd_keyboard_get_scancode_set(script: &[u8], log: &mut [u8]) -> vd_answer;
     fn vd_keyboard_detect(script: &[u8], log: &mut [u8]) -> vd_answer;
-    fn vd_keyboard_repeat(byte: u32, script: &[u8], log: &mut [u8]) -> vd_answer;
+    fn vd_keyboard_set_repeat(byte: u32, script: &[u8], log: &mut [u8]) -> vd_answer;
     fn vd_keyboard_waits(script: &[u8]) -> vd_answer;
     fn vd_keyboard_read_scancode(script: &[u8]) -> vd_answer;
 
     fn vd_mouse_reset(script: &[u8], log: &mut [u8]) -> vd_answer;
     fn vd_mouse_start_packets(script: &[u8], log: &mut [u8]) -> vd_answer;
     fn vd_mouse_stop_packets(script: &[u8], log: &mut [u8]) -> vd_answer;
-    fn vd_mouse_identity(script: &[u8], log: &mut [u8]) -> vd_answer;
+    fn vd_mouse_get_identity(script: &[u8], log: &mut [u8]) -> vd_answer;
     fn vd_mouse_set_identity(identity: u32, script: &[u8], log: &mut [u8]) -> vd_answer;
     fn vd_mouse_command(byte: u32, script: &[u8], log: &mut [u8]) -> vd_kept;
-    fn vd_mouse_sampling_rate(rate: u32, script: &[u8], log: &mut [u8]) -> vd_answer;
-    fn vd_mouse_resolution(resolution: u32, script: &[u8], log: &mut [u8]) -> vd_answer;
+    fn vd_mouse_set_sampling_rate(rate: u32, script: &[u8], log: &mut [u8]) -> vd_answer;
+    fn vd_mouse_set_resolution(resolution: u32, script: &[u8], log: &mut [u8]) -> vd_answer;
     fn vd_mouse_waits(script: &[u8]) -> vd_answer;
     fn vd_mouse_read_packet(identity: u32, script: &[u8]) -> vd_packet;
 
@@ -268,5 +268,5 @@ functions! {
     fn vd_long_report_mean_y(report: vd_long_report) -> vd_mean;
 
     fn vd_dispatcher_fresh(words: &mut [u64], keyboards: u32, profile: u32, identity: u32) -> u32;
-    fn vd_dispatcher_step(words: &mut [u64], first: &[u8], second: &[u8], third: &[u8], log: &mut [u8]) -> vd_step;
+    fn vd_dispatcher_step(words: &mut [u64], first: &[u8], second: &[u8], mouse: &[u8], log: &mut [u8]) -> vd_step;
 }

@@ -103,8 +103,8 @@ pub enum Refusal {
     OutOfRange,
     /// 33: the key is outside the tournament profile.
     OutsideProfile,
-    /// 255: an argument means nothing. The types here leave no such argument, so no function of this crate gives it.
-    MeansNothing,
+    /// 255: an argument is invalid. The types here leave no such argument, so no function of this crate gives it.
+    InvalidArgument,
 }
 
 impl Refusal {
@@ -145,7 +145,7 @@ impl Refusal {
             Refusal::SideFull => 31,
             Refusal::OutOfRange => 32,
             Refusal::OutsideProfile => 33,
-            Refusal::MeansNothing => 255,
+            Refusal::InvalidArgument => 255,
         }
     }
 
@@ -186,7 +186,7 @@ impl Refusal {
             31 => Refusal::SideFull,
             32 => Refusal::OutOfRange,
             33 => Refusal::OutsideProfile,
-            255 => Refusal::MeansNothing,
+            255 => Refusal::InvalidArgument,
             _ => unreachable!("the library's answer has the number {refusal}, which no refusal has"),
         })
     }
@@ -236,7 +236,7 @@ impl fmt::Display for Refusal {
             Refusal::SideFull => "96 events of this side wait",
             Refusal::OutOfRange => "a count or a sum would be outside its range",
             Refusal::OutsideProfile => "the key is outside the tournament profile",
-            Refusal::MeansNothing => "an argument stands for nothing",
+            Refusal::InvalidArgument => "an argument is invalid",
         };
         write!(f, "refused {}: {words}", self.number())
     }

@@ -53,21 +53,21 @@ enum Operation {
     KeyboardInit = 2,
     KeyboardReset = 3,
     KeyboardCommand = 4,
-    KeyboardLamps = 5,
+    KeyboardSetLamps = 5,
     KeyboardSetScancodeSet = 6,
-    KeyboardScancodeSet = 7,
+    KeyboardGetScancodeSet = 7,
     KeyboardDetect = 8,
-    KeyboardRepeat = 9,
+    KeyboardSetRepeat = 9,
     KeyboardWaits = 10,
     KeyboardReadScancode = 11,
     MouseReset = 12,
     MouseStartPackets = 13,
     MouseStopPackets = 14,
-    MouseIdentity = 15,
+    MouseGetIdentity = 15,
     MouseSetIdentity = 16,
     MouseCommand = 17,
-    MouseSamplingRate = 18,
-    MouseResolution = 19,
+    MouseSetSamplingRate = 18,
+    MouseSetResolution = 19,
     MouseWaits = 20,
     MouseReadPacket = 21,
 }
@@ -205,8 +205,8 @@ impl Session<Exchange<()>> {
 
     /// Sets repeat rate and delay.
     #[must_use]
-    pub fn keyboard_repeat(byte: u8) -> Self {
-        Session::plain(Operation::KeyboardRepeat, byte)
+    pub fn keyboard_set_repeat(byte: u8) -> Self {
+        Session::plain(Operation::KeyboardSetRepeat, byte)
     }
 
     /// Resets the mouse, waits for its self test and reads one byte more.
@@ -229,14 +229,14 @@ impl Session<Exchange<()>> {
 
     /// Sets the mouse's sampling rate.
     #[must_use]
-    pub fn mouse_sampling_rate(rate: SamplingRate) -> Self {
-        Session::plain(Operation::MouseSamplingRate, rate as u8)
+    pub fn mouse_set_sampling_rate(rate: SamplingRate) -> Self {
+        Session::plain(Operation::MouseSetSamplingRate, rate as u8)
     }
 
     /// Sets the mouse's resolution.
     #[must_use]
-    pub fn mouse_resolution(resolution: Resolution) -> Self {
-        Session::plain(Operation::MouseResolution, resolution as u8)
+    pub fn mouse_set_resolution(resolution: Resolution) -> Self {
+        Session::plain(Operation::MouseSetResolution, resolution as u8)
     }
 }
 
@@ -244,8 +244,8 @@ impl Session<Exchange<()>> {
 impl Session<Exchange<u8>> {
     /// Asks the keyboard which scancode set it speaks. A keyboard may also answer 0.
     #[must_use]
-    pub fn keyboard_scancode_set() -> Self {
-        Session::begin(Operation::KeyboardScancodeSet, 0u8, |course, refusal| {
+    pub fn keyboard_get_scancode_set() -> Self {
+        Session::begin(Operation::KeyboardGetScancodeSet, 0u8, |course, refusal| {
             course.exchanged(refusal, |set| set as u8)
         })
     }
@@ -306,8 +306,8 @@ impl Session<Command> {
 
     /// Lights these lamps of the keyboard, and puts out the others.
     #[must_use]
-    pub fn keyboard_lamps(lamps: Lamps) -> Self {
-        Session::command(Operation::KeyboardLamps, lamps.bits())
+    pub fn keyboard_set_lamps(lamps: Lamps) -> Self {
+        Session::command(Operation::KeyboardSetLamps, lamps.bits())
     }
 
     /// Sends one command byte to the mouse, up to four times until it is acknowledged.
@@ -320,8 +320,8 @@ impl Session<Command> {
 impl Session<Exchange<Identity>> {
     /// Asks the mouse for its identity.
     #[must_use]
-    pub fn mouse_identity() -> Self {
-        Session::begin(Operation::MouseIdentity, 0u8, |course, refusal| {
+    pub fn mouse_get_identity() -> Self {
+        Session::begin(Operation::MouseGetIdentity, 0u8, |course, refusal| {
             course.exchanged(refusal, Identity::of)
         })
     }
@@ -519,10 +519,10 @@ impl Applying {
             preferences.numbers();
         Some(match field {
             0 => Session::plain(Operation::KeyboardSetScancodeSet, set),
-            1 => Session::plain(Operation::MouseSamplingRate, rate),
-            2 => Session::plain(Operation::MouseResolution, resolution),
-            3 => Session::plain(Operation::KeyboardLamps, lamps),
-            4 if version == 2 => Session::plain(Operation::KeyboardRepeat, repeat),
+            1 => Session::plain(Operation::MouseSetSamplingRate, rate),
+            2 => Session::plain(Operation::MouseSetResolution, resolution),
+            3 => Session::plain(Operation::KeyboardSetLamps, lamps),
+            4 if version == 2 => Session::plain(Operation::KeyboardSetRepeat, repeat),
             _ => return None,
         })
     }

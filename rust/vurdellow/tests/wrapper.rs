@@ -155,7 +155,7 @@ fn commands_hand_back_what_they_threw_away() {
         (Refusal::SelfTestFailed, &[0x1E; 16][..], 2)
     );
     let mut log = [0; 8];
-    let done = keyboard::lamps(Lamps::CAPS | Lamps::NUM, &[0x00, 0x01, 0xFA, 0x00, 0x01, 0xFA], &mut log).unwrap();
+    let done = keyboard::set_lamps(Lamps::CAPS | Lamps::NUM, &[0x00, 0x01, 0xFA, 0x00, 0x01, 0xFA], &mut log).unwrap();
     assert_eq!((done.pairs, log[..4].to_vec()), (2, vec![0x60, 0xED, 0x60, 0x06]));
 }
 
@@ -164,13 +164,13 @@ fn keyboard_and_mouse_answer() {
     let ack = [0x00, 0x01, 0xFA];
     let mut script: Vec<u8> = ack.repeat(2);
     script.extend([0x01, 0x02]);
-    assert_eq!(keyboard::scancode_set(&script, &mut [0; 16]).unwrap().value, 2);
+    assert_eq!(keyboard::get_scancode_set(&script, &mut [0; 16]).unwrap().value, 2);
     assert!(keyboard::waits(&[0x01]).unwrap().value);
     assert_eq!(keyboard::read_scancode(&[0x1E]).unwrap().value, 0x1E);
     let mut log = [0; 16];
     let mut script = ack.to_vec();
     script.extend([0x21, 0x03]);
-    assert_eq!(Mouse::read_identity(&script, &mut log).unwrap(), Done { value: Identity::Wheel, used: 5, pairs: 2 });
+    assert_eq!(Mouse::get_identity(&script, &mut log).unwrap(), Done { value: Identity::Wheel, used: 5, pairs: 2 });
     assert_eq!(log[..4], [0x64, 0xD4, 0x60, 0xF2]);
     let mut mouse = Mouse { identity: Identity::Wheel };
     assert_eq!(mouse.set_identity(&[], &mut []).unwrap_err().number(), 3);

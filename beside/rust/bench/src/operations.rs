@@ -357,11 +357,11 @@ fn ports() -> Vec<Row> {
         ),
         on_ports(
             &oracle,
-            "`vd_keyboard_lamps`, a willing keyboard",
+            "`vd_keyboard_set_lamps`, a willing keyboard",
             LAMPS,
             "6 reads and 2 writes",
             |script, log| {
-                let answer = vd::keyboard_lamps(4, script, log);
+                let answer = vd::keyboard_set_lamps(4, script, log);
                 (answer.refusal, answer.used, answer.pairs)
             },
         ),

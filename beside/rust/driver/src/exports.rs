@@ -267,17 +267,17 @@ impl Comparison {
         let script = chance::exchanges(rng, 2);
         let room = if rng.once_in(3) { rng.below(12) } else { 20 };
         let mut log = vec![0; room];
-        let answer = self.port.note("vd_keyboard_repeat", vd::keyboard_repeat(byte as u32, &script, &mut log));
+        let answer = self.port.note("vd_keyboard_set_repeat", vd::keyboard_set_repeat(byte as u32, &script, &mut log));
         let told = (by::KEYBOARD_REPEAT, byte.into());
         if let Err(why) = self.port.alike_by_bytes(told, &script, answer, &log, &[]) {
-            differ(self.calls, &format!("vd_keyboard_repeat {byte} {script:02X?}"), &why, "and that is wrong", "")
+            differ(self.calls, &format!("vd_keyboard_set_repeat {byte} {script:02X?}"), &why, "and that is wrong", "")
         }
         let (end, used, logged) = plain_handler::repeat(rust, byte, &script, room);
         let port = if end == 2 { rust.port_lacked() as u32 } else { 0 };
         let expected = vd::PortWords { refusal: end as u32, port, used, pairs: logged.len() / 2, value: 0 };
         log.truncate(logged.len());
         if (answer, &log) != (expected, &logged) {
-            let line = format!("vd_keyboard_repeat {byte} {script:02X?} {room}");
+            let line = format!("vd_keyboard_set_repeat {byte} {script:02X?} {room}");
             differ(self.calls, &line, &format!("{answer:?} {log:02X?}"), OTHERS, &format!("{expected:?} {logged:02X?}"))
         }
         self.count(Source::Chance);

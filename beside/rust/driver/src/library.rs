@@ -96,21 +96,21 @@ exports! {
     vd_keyboard_init keyboard_init(words: &mut [u64], keyboards: u32, profile: u32, script: &[u8], log: &mut [u8],) -> PortWords;
     vd_keyboard_reset keyboard_reset(script: &[u8], log: &mut [u8],) -> PortWords;
     vd_keyboard_command keyboard_command(byte: u32, script: &[u8], log: &mut [u8],) -> KeptWords;
-    vd_keyboard_lamps keyboard_lamps(lamps: u32, script: &[u8], log: &mut [u8],) -> KeptWords;
+    vd_keyboard_set_lamps keyboard_set_lamps(lamps: u32, script: &[u8], log: &mut [u8],) -> KeptWords;
     vd_keyboard_set_scancode_set keyboard_set_scancode_set(set: u32, script: &[u8], log: &mut [u8],) -> PortWords;
-    vd_keyboard_scancode_set keyboard_scancode_set(script: &[u8], log: &mut [u8],) -> PortWords;
+    vd_keyboard_get_scancode_set keyboard_get_scancode_set(script: &[u8], log: &mut [u8],) -> PortWords;
     vd_keyboard_detect keyboard_detect(script: &[u8], log: &mut [u8],) -> PortWords;
-    vd_keyboard_repeat keyboard_repeat(byte: u32, script: &[u8], log: &mut [u8],) -> PortWords;
+    vd_keyboard_set_repeat keyboard_set_repeat(byte: u32, script: &[u8], log: &mut [u8],) -> PortWords;
     vd_keyboard_waits keyboard_waits(script: &[u8],) -> PortWords;
     vd_keyboard_read_scancode keyboard_read_scancode(script: &[u8],) -> PortWords;
     vd_mouse_reset mouse_reset(script: &[u8], log: &mut [u8],) -> PortWords;
     vd_mouse_start_packets mouse_start_packets(script: &[u8], log: &mut [u8],) -> PortWords;
     vd_mouse_stop_packets mouse_stop_packets(script: &[u8], log: &mut [u8],) -> PortWords;
-    vd_mouse_identity mouse_identity(script: &[u8], log: &mut [u8],) -> PortWords;
+    vd_mouse_get_identity mouse_get_identity(script: &[u8], log: &mut [u8],) -> PortWords;
     vd_mouse_set_identity mouse_set_identity(identity: u32, script: &[u8], log: &mut [u8],) -> PortWords;
     vd_mouse_command mouse_command(byte: u32, script: &[u8], log: &mut [u8],) -> KeptWords;
-    vd_mouse_sampling_rate mouse_sampling_rate(rate: u32, script: &[u8], log: &mut [u8],) -> PortWords;
-    vd_mouse_resolution mouse_resolution(resolution: u32, script: &[u8], log: &mut [u8],) -> PortWords;
+    vd_mouse_set_sampling_rate mouse_set_sampling_rate(rate: u32, script: &[u8], log: &mut [u8],) -> PortWords;
+    vd_mouse_set_resolution mouse_set_resolution(resolution: u32, script: &[u8], log: &mut [u8],) -> PortWords;
     vd_mouse_waits mouse_waits(script: &[u8],) -> PortWords;
     vd_mouse_read_packet mouse_read_packet(identity: u32, script: &[u8],) -> PacketWords;
     vd_begin begin(words: &mut [u64], operation: u32, argument: u64,) -> RequestWords;
@@ -139,7 +139,7 @@ exports! {
     vd_long_report_mean_x long_report_mean_x(report: LongReport,) -> MeanWords;
     vd_long_report_mean_y long_report_mean_y(report: LongReport,) -> MeanWords;
     vd_dispatcher_fresh dispatcher_fresh(words: &mut [u64], keyboards: u32, profile: u32, identity: u32,) -> u32;
-    vd_dispatcher_step dispatcher_step(words: &mut [u64], first: &[u8], second: &[u8], third: &[u8], log: &mut [u8],) -> StepWords;
+    vd_dispatcher_step dispatcher_step(words: &mut [u64], first: &[u8], second: &[u8], mouse: &[u8], log: &mut [u8],) -> StepWords;
 }
 
 exports! {
@@ -161,7 +161,7 @@ exports! {
     vdt_handler_calls_by_value handler_calls_by_value(script: &[u8], other: &[u8], log: &mut [u8], times: usize, two: bool, tournament: bool, second: bool,) -> usize;
     vdt_handler_calls_in_place handler_calls_in_place(script: &[u8], other: &[u8], log: &mut [u8], times: usize, two: bool, tournament: bool, second: bool,) -> usize;
     vdt_handler_calls_on_state handler_calls_on_state(script: &[u8], other: &[u8], log: &mut [u8], times: usize, two: bool, tournament: bool, second: bool,) -> usize;
-    vdt_dispatcher_steps dispatcher_steps(first: &[u8], second: &[u8], third: &[u8], log: &mut [u8], times: usize,) -> usize;
+    vdt_dispatcher_steps dispatcher_steps(first: &[u8], second: &[u8], mouse: &[u8], log: &mut [u8], times: usize,) -> usize;
 }
 
 words! {

@@ -362,20 +362,20 @@ impl Port {
             Op::Keyboard(K::SetScancodeSet(set)) => {
                 ("vd_keyboard_set_scancode_set", vd::keyboard_set_scancode_set(set as u32, script, bytes))
             }
-            Op::Keyboard(K::GetScancodeSet) => ("vd_keyboard_scancode_set", vd::keyboard_scancode_set(script, bytes)),
+            Op::Keyboard(K::GetScancodeSet) => ("vd_keyboard_get_scancode_set", vd::keyboard_get_scancode_set(script, bytes)),
             Op::Keyboard(K::Detect) => ("vd_keyboard_detect", vd::keyboard_detect(script, bytes)),
             Op::Mouse(M::Reset, _) => ("vd_mouse_reset", vd::mouse_reset(script, bytes)),
             Op::Mouse(M::Enable, _) => ("vd_mouse_start_packets", vd::mouse_start_packets(script, bytes)),
             Op::Mouse(M::Disable, _) => ("vd_mouse_stop_packets", vd::mouse_stop_packets(script, bytes)),
-            Op::Mouse(M::Id, _) => ("vd_mouse_identity", vd::mouse_identity(script, bytes)),
+            Op::Mouse(M::Id, _) => ("vd_mouse_get_identity", vd::mouse_get_identity(script, bytes)),
             Op::Mouse(M::SetId, id) => {
                 ("vd_mouse_set_identity", vd::mouse_set_identity(id.unwrap_or(0) as u32, script, bytes))
             }
             Op::Mouse(M::SetSamplingRate(rate), _) => {
-                ("vd_mouse_sampling_rate", vd::mouse_sampling_rate(rate as u32, script, bytes))
+                ("vd_mouse_set_sampling_rate", vd::mouse_set_sampling_rate(rate as u32, script, bytes))
             }
             Op::Mouse(M::Resolution(resolution), _) => {
-                ("vd_mouse_resolution", vd::mouse_resolution(resolution as u32, script, bytes))
+                ("vd_mouse_set_resolution", vd::mouse_set_resolution(resolution as u32, script, bytes))
             }
             _ => return Err("there is no export".to_string()),
         };
@@ -483,7 +483,7 @@ impl Port {
             Op::Keyboard(K::DataLed(lamps)) => {
                 ("vdt_keyboard_data_lamps", vd::keyboard_data_lamps(lamps as u32, script, bytes))
             }
-            Op::Keyboard(K::SetLed(lamps)) => ("vd_keyboard_lamps", vd::keyboard_lamps(lamps as u32, script, bytes)),
+            Op::Keyboard(K::SetLed(lamps)) => ("vd_keyboard_set_lamps", vd::keyboard_set_lamps(lamps as u32, script, bytes)),
             Op::Mouse(M::Command(byte), _) => ("vd_mouse_command", vd::mouse_command(byte as u32, script, bytes)),
             Op::Mouse(M::DataRate(rate), _) => ("vdt_mouse_data_rate", vd::mouse_data_rate(rate as u32, script, bytes)),
             Op::Mouse(M::DataResolution(resolution), _) => {
@@ -830,13 +830,13 @@ impl Port {
             let (script, log) = (&script[used..], &mut own[2 * pairs..]);
             let answer = match field {
                 0 => vd::keyboard_set_scancode_set(set, script, log),
-                1 => vd::mouse_sampling_rate(rate, script, log),
-                2 => vd::mouse_resolution(resolution, script, log),
+                1 => vd::mouse_set_sampling_rate(rate, script, log),
+                2 => vd::mouse_set_resolution(resolution, script, log),
                 3 => {
-                    let KeptWords { refusal, port, used, pairs, .. } = vd::keyboard_lamps(lamps, script, log);
+                    let KeptWords { refusal, port, used, pairs, .. } = vd::keyboard_set_lamps(lamps, script, log);
                     PortWords { refusal, port, used, pairs, value: 0 }
                 }
-                _ => vd::keyboard_repeat(repeat, script, log),
+                _ => vd::keyboard_set_repeat(repeat, script, log),
             };
             used += answer.used;
             pairs += answer.pairs;

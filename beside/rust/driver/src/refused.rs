@@ -9,7 +9,7 @@ use crate::port::{Lent, Port, Refusing};
 use crate::words::{self, DISPATCHER_WORDS, HANDLER_WORDS};
 
 /// What is answered where an argument stands for nothing.
-const MEANS_NOTHING: u32 = 255;
+const INVALID_ARGUMENT: u32 = 255;
 const MALFORMED: u32 = 21;
 
 /// A number that is none of these: next to one, or any.
@@ -106,22 +106,22 @@ pub fn check(kind: usize, port: &mut Port) -> Result<(), String> {
             let mut bench = plain(rng);
             let number = none_of(rng, &$known);
             let answer = port.note($name, vd::$export(number, &bench.script, &mut bench.log.bytes));
-            bench.ended(&format!("{} {number}", $name), answer, refusing($answer::zero(), MEANS_NOTHING))
+            bench.ended(&format!("{} {number}", $name), answer, refusing($answer::zero(), INVALID_ARGUMENT))
         }};
     }
     match kind {
         0 => on_ports!("vd_keyboard_command", keyboard_command, KEYBOARD_COMMANDS.map(u32::from), KeptWords),
-        1 => on_ports!("vd_keyboard_lamps", keyboard_lamps, [0, 1, 2, 3, 4, 5, 6, 7], KeptWords),
+        1 => on_ports!("vd_keyboard_set_lamps", keyboard_set_lamps, [0, 1, 2, 3, 4, 5, 6, 7], KeptWords),
         2 => on_ports!("vd_keyboard_set_scancode_set", keyboard_set_scancode_set, [1, 2, 3], PortWords),
-        3 => on_ports!("vd_keyboard_repeat", keyboard_repeat, (0..=255).collect::<Vec<_>>(), PortWords),
+        3 => on_ports!("vd_keyboard_set_repeat", keyboard_set_repeat, (0..=255).collect::<Vec<_>>(), PortWords),
         4 => on_ports!("vd_mouse_set_identity", mouse_set_identity, identities, PortWords),
         5 => on_ports!("vd_mouse_command", mouse_command, MOUSE_COMMANDS.map(u32::from), KeptWords),
-        6 => on_ports!("vd_mouse_sampling_rate", mouse_sampling_rate, RATES.map(u32::from), PortWords),
-        7 => on_ports!("vd_mouse_resolution", mouse_resolution, [0, 1, 2, 3], PortWords),
+        6 => on_ports!("vd_mouse_set_sampling_rate", mouse_set_sampling_rate, RATES.map(u32::from), PortWords),
+        7 => on_ports!("vd_mouse_set_resolution", mouse_set_resolution, [0, 1, 2, 3], PortWords),
         8 => {
             let (bench, number) = (plain(rng), none_of(rng, &identities));
             let answer = port.note("vd_mouse_read_packet", vd::mouse_read_packet(number, &bench.script));
-            bench.ended("vd_mouse_read_packet", answer, refusing(PacketWords::zero(), MEANS_NOTHING))
+            bench.ended("vd_mouse_read_packet", answer, refusing(PacketWords::zero(), INVALID_ARGUMENT))
         }
         9 | 10 => {
             // The table is asked before the length.
@@ -132,7 +132,7 @@ pub fn check(kind: usize, port: &mut Port) -> Result<(), String> {
                 if is_table { [1 + rng.below(2) as u32, rng.below(2) as u32] } else { table(rng) };
             let answer = vd::keyboard_init(&mut bench.words, keyboards, profile, &bench.script, &mut bench.log.bytes);
             let answer = port.note("vd_keyboard_init", answer);
-            let refusal = if is_table { MALFORMED } else { MEANS_NOTHING };
+            let refusal = if is_table { MALFORMED } else { INVALID_ARGUMENT };
             bench.ended("vd_keyboard_init", answer, refusing(PortWords::zero(), refusal))
         }
         11 | 12 => {
@@ -142,7 +142,7 @@ pub fn check(kind: usize, port: &mut Port) -> Result<(), String> {
             let [keyboards, profile] =
                 if is_table { [1 + rng.below(2) as u32, rng.below(2) as u32] } else { table(rng) };
             let answer = port.note("vd_handler_fresh", vd::handler_fresh(&mut bench.words, keyboards, profile));
-            bench.ended("vd_handler_fresh", answer, if is_table { MALFORMED } else { MEANS_NOTHING })
+            bench.ended("vd_handler_fresh", answer, if is_table { MALFORMED } else { INVALID_ARGUMENT })
         }
         13 | 14 => {
             let is_table = kind == 14;
@@ -157,7 +157,7 @@ pub fn check(kind: usize, port: &mut Port) -> Result<(), String> {
             }
             let answer = vd::dispatcher_fresh(&mut bench.words, keyboards, profile, identity);
             let answer = port.note("vd_dispatcher_fresh", answer);
-            bench.ended("vd_dispatcher_fresh", answer, if is_table { MALFORMED } else { MEANS_NOTHING })
+            bench.ended("vd_dispatcher_fresh", answer, if is_table { MALFORMED } else { INVALID_ARGUMENT })
         }
         15 | 16 => {
             // The side is asked before the length.
@@ -167,7 +167,7 @@ pub fn check(kind: usize, port: &mut Port) -> Result<(), String> {
             let side = if is_side { 1 + rng.below(2) as u32 } else { none_of(rng, &[1, 2]) };
             let answer =
                 port.note("vd_handle", vd::handle(&mut bench.words, side, &bench.script, &mut bench.log.bytes));
-            let refusal = if is_side { MALFORMED } else { MEANS_NOTHING };
+            let refusal = if is_side { MALFORMED } else { INVALID_ARGUMENT };
             bench.ended("vd_handle", answer, refusing(HandledWords::zero(), refusal))
         }
         17 => {
@@ -220,7 +220,7 @@ pub fn check(kind: usize, port: &mut Port) -> Result<(), String> {
             let keycode = if is_flags { rng.pick(&keycodes) } else { none_of(rng, &keycodes) };
             let flags = if is_flags { rng.next() as u32 | 0x10000 << rng.below(16) } else { rng.next() as u16 as u32 };
             let answer = port.note("vd_character", vd::character(keycode, flags));
-            plain(rng).ended(&format!("vd_character {keycode} {flags}"), answer, MEANS_NOTHING)
+            plain(rng).ended(&format!("vd_character {keycode} {flags}"), answer, INVALID_ARGUMENT)
         }
         23 => {
             let keycodes: Vec<u32> = (0..=LAST_KEYCODE).chain(RELEASE_KEYCODES).map(u32::from).collect();
@@ -228,14 +228,14 @@ pub fn check(kind: usize, port: &mut Port) -> Result<(), String> {
             let keycode = if is_action { rng.pick(&keycodes) } else { none_of(rng, &keycodes) };
             let action = if is_action { none_of(rng, &[0, 1]) } else { rng.below(2) as u32 };
             let answer = port.note("vd_event_code", vd::event_code(keycode, action));
-            plain(rng).ended(&format!("vd_event_code {keycode} {action}"), answer, MEANS_NOTHING)
+            plain(rng).ended(&format!("vd_event_code {keycode} {action}"), answer, INVALID_ARGUMENT)
         }
         24 => {
             let mut bench = Bench::new(rng, 20);
             let number = none_of(rng, &identities);
             let answer = vd::salvage(number, &bench.script, &mut bench.log.bytes, &mut bench.words);
             let answer = port.note("vd_salvage", answer);
-            bench.ended("vd_salvage", answer, refusing(SalvagedWords::zero(), MEANS_NOTHING))
+            bench.ended("vd_salvage", answer, refusing(SalvagedWords::zero(), INVALID_ARGUMENT))
         }
         25 => {
             let mut bench = plain(rng);
@@ -244,18 +244,18 @@ pub fn check(kind: usize, port: &mut Port) -> Result<(), String> {
             if rng.once_in(2) {
                 let answer = vd::preferences_write(preferences, &mut bench.log.bytes);
                 let answer = port.note("vd_preferences_write", answer);
-                return bench.ended("vd_preferences_write", answer, refusing(WrittenWords::zero(), MEANS_NOTHING));
+                return bench.ended("vd_preferences_write", answer, refusing(WrittenWords::zero(), INVALID_ARGUMENT));
             }
             let answer = vd::preferences_apply(preferences, &bench.script, &mut bench.log.bytes);
             let answer = port.note("vd_preferences_apply", answer);
-            bench.ended("vd_preferences_apply", answer, refusing(PortWords::zero(), MEANS_NOTHING))
+            bench.ended("vd_preferences_apply", answer, refusing(PortWords::zero(), INVALID_ARGUMENT))
         }
         26 => {
             let (bench, number) = (plain(rng), none_of(rng, &identities));
             let report = Report { presses: [rng.next() as u32; KEYS], packets: rng.next() as u32, x: 1, y: -1 };
             let answer = vd::report_add(report, number, &bench.script, &bench.script);
             let answer = port.note("vd_report_add", answer);
-            bench.ended("vd_report_add", answer, ReportAddedWords { refusal: MEANS_NOTHING, report })
+            bench.ended("vd_report_add", answer, ReportAddedWords { refusal: INVALID_ARGUMENT, report })
         }
         28 => on_ports!("vdt_polling_send", polling_send, [0, 1, 2, 3], PortWords),
         29 => on_ports!("vdt_keyboard_set_scancode_set", keyboard_set_any_set, [0, 1, 2, 3], PortWords),
@@ -266,7 +266,7 @@ pub fn check(kind: usize, port: &mut Port) -> Result<(), String> {
         34 => {
             let (bench, number) = (plain(rng), none_of(rng, &identities));
             let answer = port.note("vdt_mouse_read_packet", vd::mouse_read_rust_packet(number, &bench.script));
-            bench.ended("vdt_mouse_read_packet", answer, refusing(RustPacketWords::zero(), MEANS_NOTHING))
+            bench.ended("vdt_mouse_read_packet", answer, refusing(RustPacketWords::zero(), INVALID_ARGUMENT))
         }
         // A byte at a time: operation and argument are asked before the length.
         35 | 36 => {
@@ -295,7 +295,7 @@ pub fn check(kind: usize, port: &mut Port) -> Result<(), String> {
                 (*told, if rng.once_in(4) { wide } else { none_of(rng, meant).into() })
             };
             let answer = port.note("vd_begin", vd::begin(&mut bench.words, told, argument));
-            bench.ended(&format!("vd_begin {told} {argument}"), answer, refusing(RequestWords::zero(), MEANS_NOTHING))
+            bench.ended(&format!("vd_begin {told} {argument}"), answer, refusing(RequestWords::zero(), INVALID_ARGUMENT))
         }
         37 => {
             let length = length(rng, STEP_WORDS, true);
@@ -315,7 +315,7 @@ pub fn check(kind: usize, port: &mut Port) -> Result<(), String> {
                 bench.before.clone_from(&bench.words);
             }
             let byte = if is_byte { rng.below(256) as u32 } else { none_of(rng, &(0..256).collect::<Vec<_>>()) };
-            let refusal = if is_byte { MALFORMED } else { MEANS_NOTHING };
+            let refusal = if is_byte { MALFORMED } else { INVALID_ARGUMENT };
             if is_byte {
                 let wanted = port.note("vd_wanted", vd::wanted(&bench.words));
                 let kept = port.note("vd_step_kept", vd::step_kept(&bench.words));
@@ -331,7 +331,7 @@ pub fn check(kind: usize, port: &mut Port) -> Result<(), String> {
             let report = LongReport { presses: [rng.next(); KEYS], packets: rng.next(), x: 1, y: -1 };
             let answer = vd::long_report_add(report, number, &bench.script, &bench.script);
             let answer = port.note("vd_long_report_add", answer);
-            bench.ended("vd_long_report_add", answer, LongAddedWords { refusal: MEANS_NOTHING, report })
+            bench.ended("vd_long_report_add", answer, LongAddedWords { refusal: INVALID_ARGUMENT, report })
         }
     }
 }

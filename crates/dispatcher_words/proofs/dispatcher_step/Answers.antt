@@ -13,7 +13,7 @@ pub returns-in-Some-Keyboard : goal.returns-in-Some-Keyboard
 returns-in-Some-Keyboard c =
     step_made c.in-Some.ensures.cases (sym c.is_dispatcher.ensures ∙ c.if-not-is_dispatcher.false)
     (side_step c.in-Some.lent.now _ c.args.log.now c.waits_in-waits.result c.waits_in-waits.ensures c.last_in.ensures c.serves.ensures c.in-Some-Keyboard.side
-    (c.in-Some-Keyboard.is ∙ ap (λ (o : Source). Some o) c.in-Some-Keyboard.field-0-is) (rw (c.side_script.ensures c.args.third.now) at c.serve_keyboard.ensures))
+    (c.in-Some-Keyboard.is ∙ ap (λ (o : Source). Some o) c.in-Some-Keyboard.field-0-is) (rw (c.side_script.ensures c.args.mouse.now) at c.serve_keyboard.ensures))
 
 pub returns-in-Some-Mouse : goal.returns-in-Some-Mouse
 returns-in-Some-Mouse c =

@@ -2,7 +2,7 @@
 -- Assumes nothing.
 use mathlib.Core.Bool.{true≢false}
 use mathlib.Core.Path.{sym, ◌∙◌}
-use Rattle.keyboard_scancodes.proofs.Plain.{plain_sounds, plain_lamps}
+use Rattle.keyboard_scancodes.proofs.Plain.{plain_not_silent, plain_lamps}
 use Rattle.handler_words.proofs.is_plain_key.Goals as goal
 use Rattle.handler_words.proofs.is_plain_key.Goals.{then-is_from_script, else-is_from_script}
 
@@ -15,7 +15,7 @@ returns-then-is_plain c =
           record {
             is_so = λ e.
                 record {
-                  alone = record { taken = c.is_from_script.ensures.is_so w.if-is_from_script.true; sounds = plain_sounds _ plain; no_lamps = plain_lamps _ plain };
+                  alone = record { taken = c.is_from_script.ensures.is_so w.if-is_from_script.true; not_silent = plain_not_silent _ plain; no_lamps = plain_lamps _ plain };
                   plain = plain;
                   ready = ready ∙ e;
                 };

@@ -157,20 +157,20 @@ fn plain(kind: usize, direct: &mut Direct, arguments: Arguments) -> (Result<(), 
         ),
         2 => (
             direct.pair(Way::First, 0xF3, byte),
-            Box::new(Session::keyboard_repeat(byte)),
-            Box::new(move |s, l| keyboard::repeat(byte, s, l)),
+            Box::new(Session::keyboard_set_repeat(byte)),
+            Box::new(move |s, l| keyboard::set_repeat(byte, s, l)),
         ),
         3 => (direct.reset(Way::Second), Box::new(Session::mouse_reset()), Box::new(Mouse::reset)),
         4 => (direct.start_packets(), Box::new(Session::mouse_start_packets()), Box::new(Mouse::start_packets)),
         5 => (direct.stop_packets(), Box::new(Session::mouse_stop_packets()), Box::new(Mouse::stop_packets)),
         6 => (
             direct.sampling_rate(rate as u8),
-            Box::new(Session::mouse_sampling_rate(rate)),
+            Box::new(Session::mouse_set_sampling_rate(rate)),
             Box::new(move |s, l| Mouse::set_sampling_rate(rate, s, l)),
         ),
         7 => (
             direct.resolution(resolution as u8),
-            Box::new(Session::mouse_resolution(resolution)),
+            Box::new(Session::mouse_set_resolution(resolution)),
             Box::new(move |s, l| Mouse::set_resolution(resolution, s, l)),
         ),
         _ => {
@@ -289,14 +289,14 @@ fn one(kind: usize, seed: u64) -> usize {
             let lamps = lamps.fold(Lamps::NONE, |all, (bit, lamp)| if byte >> bit & 1 == 1 { all | lamp } else { all });
             let expected = direct.lamps(Way::First, byte & 7);
             let thrown = std::mem::take(&mut direct.thrown);
-            let outcome = driven(what, &device, &other, Session::keyboard_lamps(lamps), |script, log| {
-                keyboard::lamps(lamps, script, log)
+            let outcome = driven(what, &device, &other, Session::keyboard_set_lamps(lamps), |script, log| {
+                keyboard::set_lamps(lamps, script, log)
             });
             kept(what, outcome, expected, &thrown);
         }
         4 => {
             let expected = direct.scancode_set();
-            let outcome = driven(what, &device, &other, Session::keyboard_scancode_set(), keyboard::scancode_set);
+            let outcome = driven(what, &device, &other, Session::keyboard_get_scancode_set(), keyboard::get_scancode_set);
             assert_eq!(without_counts(outcome), expected, "{what}");
         }
         5 => {
@@ -318,7 +318,7 @@ fn one(kind: usize, seed: u64) -> usize {
         }
         8 => {
             let expected = direct.identity();
-            let outcome = driven(what, &device, &other, Session::mouse_identity(), Mouse::read_identity);
+            let outcome = driven(what, &device, &other, Session::mouse_get_identity(), Mouse::get_identity);
             assert_eq!(without_counts(outcome), expected, "{what}");
         }
         9 => {
@@ -459,7 +459,7 @@ fn wrong_drivers_are_found() {
         let found = |seed: &u64| {
             let (mut device, mut other) = (Device::new(*seed), Device::new(*seed));
             let _ = Direct { ports: &mut other, thrown: Vec::new() }.lamps(Way::First, 4);
-            drive_wrongly(wrong, &mut device, Session::keyboard_lamps(Lamps::CAPS));
+            drive_wrongly(wrong, &mut device, Session::keyboard_set_lamps(Lamps::CAPS));
             device.seen != other.seen
         };
         assert!((0..100).filter(found).count() > 90, "{wrong:?}");
@@ -528,7 +528,7 @@ impl Ports for Slow {
 fn patience_waits_by_time() {
     let begin = Instant::now();
     let mut ports = Recorded::new(Patient::new(Slow::new(20, 60), Duration::from_secs(60)));
-    assert!(drive(&mut ports, Session::keyboard_lamps(Lamps::CAPS)).is_ok());
+    assert!(drive(&mut ports, Session::keyboard_set_lamps(Lamps::CAPS)).is_ok());
     assert!(begin.elapsed() >= Duration::from_millis(120));
     assert_eq!(ports.log, [0x60, 0xED, 0x60, 0x04]);
     // Every poll is in the script, and waits are a sixteenth of the silence, so they are few: so many that 255 last longer.
@@ -547,7 +547,7 @@ fn a_silent_device_is_given_up() {
     let limit = Duration::from_millis(50);
     let mut ports = Recorded::new(Patient::new(Slow::new(0, 1_000_000_000), limit));
     let begin = Instant::now();
-    let outcome = drive(&mut ports, Session::keyboard_lamps(Lamps::CAPS));
+    let outcome = drive(&mut ports, Session::keyboard_set_lamps(Lamps::CAPS));
     assert!(begin.elapsed() >= limit);
     // One look before ED is sent, and 65,535 polls that find nothing.
     assert_eq!(outcome.map_err(|refused| refused.refusal).err(), Some(Refusal::LedsNotSet));
