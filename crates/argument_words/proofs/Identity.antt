@@ -1,5 +1,4 @@
 -- A mouse's identity is found by its number.
--- Assumes nothing.
 use mathlib.Core.Option.{some}
 use mathlib.Core.Path.{◌≡◌, refl}
 use Rattle.bits.specs.Table.{decode}

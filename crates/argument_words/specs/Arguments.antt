@@ -1,5 +1,4 @@
 -- What the number of an argument stands for, if anything.
--- Assumes nothing.
 use Rattle.std.proofs.Math.Option.{Option, none, some}
 use Rattle.std.specs.Prelude.{ℕ, Some, None}
 use Rattle.std.specs.Prelude as rust

@@ -1,5 +1,4 @@
 -- A text that is put into a buffer, as much of it as there is room for.
--- Assumes nothing.
 use Rattle.std.specs.Prelude.{cond, List, [], ◌∷◌, ◌++◌, ◌≡◌, ℕ, ◌+◌, ltb, length, set, take, drop}
 
 -- A text was put at the start of a buffer: as many of its bytes as there was room for, which are counted; behind them the buffer is as it was.

@@ -1,5 +1,4 @@
 -- A writer: the place that is next in the buffer that was lent to it.
--- Assumes nothing.
 use Rattle.std.specs.Prelude.{◌≡◌, List, ℕ}
 use Rattle.buffer.specs.declared.Writer.{Writer}
 use Rattle.buffer.specs.Buffer.{Place, place, put}

@@ -1,5 +1,4 @@
 -- A number above a byte has no keycode. What is answered besides characters and events is no number of theirs: 0 and 255.
--- Assumes nothing.
 use mathlib.Core.Bool.{Bool, true, false, ◌||◌, xor}
 use mathlib.Core.Path.{◌≡◌, refl, ap}
 use Prim.Native.Nat.{ℕ, ◌≤◌, ◌<◌}

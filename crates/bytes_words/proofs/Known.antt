@@ -1,5 +1,4 @@
 -- A keycode that a number has is that number's.
--- Assumes nothing.
 use mathlib.Core.Bool.{true, false≢true}
 use mathlib.Core.Path.{◌≡◌, ap}
 use Prim.Native.Nat.{ℕ}

@@ -1,5 +1,4 @@
 -- Worked arguments: characters, events for a report, and what stands for nothing.
--- Assumes nothing.
 use mathlib.Core.Bool.{xor}
 use mathlib.Core.Path.{◌≡◌, refl}
 use Prim.Native.Nat.{ℕ}

@@ -1,5 +1,4 @@
 -- A key's character, and an event's byte in a report, where key, flags and action are numbers.
--- Assumes nothing.
 use Rattle.std.specs.Prelude.{cond, ℕ, eqb, ltb, Option, None, Some}
 use Rattle.argument_words.specs.Arguments.{invalid_argument}
 use Rattle.keyboard_modifiers.specs.declared.KeyboardModifiers.{KeyboardModifiers}

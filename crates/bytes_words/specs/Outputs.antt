@@ -1,5 +1,4 @@
 -- What the operations that write bytes answer as numbers, and what they leave in their outputs.
--- Assumes nothing.
 use Rattle.std.specs.Prelude.{List, ◌≡◌, ℕ, length}
 use Rattle.std.proofs.Math.Option.{Option, none, some}
 use Rattle.argument_words.specs.Arguments.{invalid_argument}

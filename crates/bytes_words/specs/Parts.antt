@@ -1,5 +1,4 @@
 -- What the parts of the code that have contracts of their own promise.
--- Assumes nothing.
 use Rattle.std.specs.Prelude.{Bool, true, false}
 use Rattle.std.specs.Prelude.{Option, Some, None}
 use Rattle.keycodes_ascii.specs.declared.Keycode.{Keycode}

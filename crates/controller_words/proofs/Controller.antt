@@ -1,5 +1,4 @@
 -- A record's numbers stand for it, so a next call begins with the record that this one left.
--- Assumes nothing.
 use mathlib.Core.Bool.{Bool, true, false, not}
 use mathlib.Core.Path.{◌≡◌, refl}
 use lib.Dec.{eqb}

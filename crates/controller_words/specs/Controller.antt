@@ -1,5 +1,4 @@
 -- The controller's record as numbers, and what its initialisation answers.
--- Assumes nothing.
 use Rattle.std.specs.Prelude.{not, ℕ, eqb}
 use Rattle.bits.specs.Bits.{weigh}
 use Rattle.exchange.specs.Exchange.{End, yields, lacks, told_end}

@@ -1,5 +1,4 @@
 -- The code's answers, each by what says its meaning. docs/CUT-SCRIPTS.md has which functions give them.
--- Assumes nothing.
 use Prim.Native.Nat.{ℕ, ◌-◌}
 use mathlib.Core.Bool.{Bool, true, false}
 use mathlib.Core.List.{List, [], ◌∷◌}

@@ -1,5 +1,4 @@
 -- What holds of what the code's answers say holds of the answers.
--- Assumes nothing.
 use Prim.Native.Nat.{ℕ}
 use mathlib.Core.List.{List}
 use mathlib.Core.Path.{◌≡◌, ap, ap₂, sym, ◌∙◌}

@@ -1,5 +1,4 @@
 -- The one law: whatever a call makes of the end of its play, on a script that is cut it hands back what it should.
--- Assumes nothing.
 use Prim.Native.Nat.{ℕ, ◌*◌}
 use mathlib.Core.List.{List, ◌++◌}
 use mathlib.Core.Path.{◌≡◌, ap, sym, ◌∙◌}

@@ -1,5 +1,4 @@
 -- Scripts that are cut short, for the code's own answers and records: by the form of contract where an answer stands alone or with kept bytes, and entry by entry where there is a record. The premises are the contracts of one call on the script and of one on its first n bytes.
--- Assumes nothing.
 use Prim.Native.Nat.{ℕ}
 use mathlib.Core.List.{List}
 use mathlib.Core.Path.{◌≡◌}

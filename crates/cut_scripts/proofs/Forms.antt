@@ -1,5 +1,4 @@
 -- The law for each form of contract: where one call met its contract on the whole script and another on the first n bytes of it, with the same records and log, the second handed back what it should. docs/CUT-SCRIPTS.md has the form of every entry.
--- Assumes nothing.
 use Prim.Native.Nat.{ℕ}
 use mathlib.Core.List.{List}
 use mathlib.Core.Path.{◌≡◌, refl, ap, ap₂, sym, ◌∙◌}

@@ -1,5 +1,4 @@
 -- The law for the keyboard's initialisation on a lent record's numbers: with 2 they are as they were passed.
--- Assumes nothing.
 use Prim.Native.Nat.{ℕ}
 use mathlib.Core.List.{List}
 use mathlib.Core.Option.{none, some}

@@ -1,5 +1,4 @@
 -- The law for the setting of a mouse's identity by numbers: with 2 the value is the identity that was passed.
--- Assumes nothing.
 use Prim.Native.Nat.{ℕ}
 use mathlib.Core.List.{List}
 use mathlib.Core.Option.{Option, none, some}

@@ -1,5 +1,4 @@
 -- What is handed back with a lack of script has the number 2, in every form.
--- Assumes nothing.
 use mathlib.Core.Path.{◌≡◌, refl}
 use Rattle.exchange.specs.Exchange.{Port}
 use Rattle.exchange.specs.Answer.{number_ended}

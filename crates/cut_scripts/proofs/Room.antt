@@ -1,5 +1,4 @@
 -- An operation that found no room for a write, run again with a log that has more.
--- Assumes nothing.
 use Prim.Native.Nat.{ℕ, zero-le}
 use native.Mathlib.Omega.{arith}
 use mathlib.Core.List.{List, [], ◌∷◌, ◌++◌}

@@ -1,5 +1,4 @@
 -- A driver of real ports runs an operation on the bytes read so far, and again with one byte more.
--- Assumes nothing.
 use Prim.Native.Nat.{ℕ, suc, ◌≤◌}
 use native.Mathlib.Omega.{arith}
 use mathlib.Core.List.{List}

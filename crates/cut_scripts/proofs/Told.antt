@@ -1,5 +1,4 @@
 -- The laws for operations that answer by numbers: a script and a log, and a script alone; each also where an argument is a number.
--- Assumes nothing.
 use Prim.Native.Nat.{ℕ}
 use mathlib.Core.List.{List}
 use mathlib.Core.Option.{Option, none, some}

@@ -1,5 +1,4 @@
 -- The law for a handler call on a lent record's numbers.
--- Assumes nothing.
 use Prim.Native.Nat.{ℕ}
 use mathlib.Core.List.{List}
 use mathlib.Core.Option.{none, some}

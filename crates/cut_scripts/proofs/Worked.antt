@@ -1,5 +1,4 @@
 -- The reading of the configuration, whole and cut before its one byte: 20 is written to port 64 both times, and the lack names port 60, which the whole run read.
--- Assumes nothing.
 use mathlib.Core.List.{[], ◌∷◌}
 use mathlib.Core.Path.{◌≡◌, refl}
 use lib.ListN.{take}

@@ -1,5 +1,4 @@
 -- Answers as the code gives them: its results and enums, with the records, the kept bytes and the count of dropped ones beside them.
--- Assumes nothing.
 use Rattle.std.specs.Prelude.{ℕ, Bool, false, List, Result, Ok, Err, ◌≡◌, Option, None}
 use Rattle.exchange.specs.Exchange.{Port, p60, p64, End}
 use Rattle.exchange.specs.Answer.{Answer}

@@ -1,6 +1,5 @@
 -- What calls hand back beside their counts, by the forms of their contracts, and what that is with the answer 2: "after 2, 3 or 21 records are as passed in", nothing is kept, and 0 bytes are dropped.
 -- An operation that hands back an answer and a value alone hands back the end of its play; with the answer 2 that is `lack p`.
--- Assumes nothing.
 use Rattle.std.specs.Prelude.{ℕ}
 use Rattle.std.proofs.Math.Option.{Option, none}
 use Rattle.exchange.specs.Exchange.{Port, no_script, End, lacks}

@@ -1,5 +1,4 @@
 -- A log with more room: an operation that found none for a write is run again, on the same script.
--- Assumes nothing.
 use Rattle.std.specs.Prelude.{ℕ, List, ◌++◌, ◌≡◌}
 use Rattle.exchange.specs.Exchange.{Exchange, no_log, lacks, played, play}
 use Rattle.cut_scripts.specs.SoFar.{WroteFirst}

@@ -1,5 +1,4 @@
 -- What a driver of real ports has of it: an operation is run on the bytes read so far, and again with more of them.
--- Assumes nothing.
 use Rattle.std.specs.Prelude.{ℕ, suc, ◌*◌, ◌≤◌, List, ◌≡◌, take}
 use Rattle.exchange.specs.Exchange.{Exchange, Played, lacks, no_script, play}
 use Rattle.cut_scripts.specs.CutShort.{next_port}

@@ -1,5 +1,4 @@
 -- What port operations hand back that answer by numbers: the counts, and the answer with the counts left out.
--- Assumes nothing.
 use Rattle.std.specs.Prelude.{ℕ, List, ◌≡◌}
 use Rattle.exchange.specs.Exchange.{End}
 use Rattle.port_words.specs.declared.PortWords.{PortWords}

@@ -1,5 +1,4 @@
 -- What a handler call on a lent record's numbers hands back beside its counts: the numbers of its answer, and the record's as it leaves them.
--- Assumes nothing.
 use Rattle.std.specs.Prelude.{ℕ, List}
 use Rattle.exchange.specs.Exchange.{Port, number}
 use Rattle.handler_words.specs.declared.HandledWords.{HandledWords}

@@ -1,5 +1,4 @@
 -- The history rule through the dispatcher, for every lamp exchange, and for the keyboards' own.
--- Assumes nothing.
 use mathlib.Core.List.{List}
 use mathlib.Core.Option as math
 use Rattle.std.specs.Prelude.{Option, None, Some}

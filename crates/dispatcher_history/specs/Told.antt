@@ -1,5 +1,4 @@
 -- What a list of steps and takings says by itself: whom each step serves, which part of its script that call is given, and so which handler calls are made. No dispatcher's state is run here.
--- Assumes nothing.
 use Rattle.std.specs.Prelude.{Bool, List, ℕ, ◌+◌, length, Option, None, Some}
 use Rattle.exchange.specs.Exchange.{Exchange}
 use Rattle.exchange.specs.Answer.{Answer}

@@ -1,5 +1,4 @@
 -- Whether the numbers of a dispatcher name something: asked of each, all its bits.
--- Assumes nothing.
 use mathlib.Core.Path.{◌≡◌, refl, sym}
 use mathlib.Core.Bool.{Bool, true, false, and-false, ◌||◌}
 use mathlib.Core.List.{List}

@@ -1,5 +1,4 @@
 -- A run of steps and takings on lent numbers is a list of the dispatcher's theorem.
--- Assumes nothing.
 use mathlib.Core.Path.{◌≡◌, refl, sym, ap, ◌∙◌}
 use mathlib.Core.Bool.{Bool, true, ◌&&◌, ◌||◌, and-eq-true_iff}
 use mathlib.Core.List.{List, ◌++◌}

@@ -1,5 +1,4 @@
 -- A step on a dispatcher's numbers is the step on the state that they stand for.
--- Assumes nothing.
 use mathlib.Core.Path.{◌≡◌, refl, sym, ap, ◌∙◌}
 use mathlib.Core.Bool.{true, false, true≢false}
 use mathlib.Core.List.{List}

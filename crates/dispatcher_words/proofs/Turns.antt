@@ -1,5 +1,4 @@
 -- A turn on a dispatcher's numbers is that turn of the state that they stand for.
--- Assumes nothing.
 use mathlib.Core.Path.{◌≡◌, refl, sym, ap, ◌∙◌}
 use mathlib.Core.List.{List, ◌++◌}
 use mathlib.Core.Option.{some}

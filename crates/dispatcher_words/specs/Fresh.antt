@@ -1,5 +1,4 @@
 -- What making a dispatcher's numbers anew means.
--- Assumes nothing.
 use Rattle.std.specs.Prelude.{List, ◌≡◌, ℕ, length}
 use Rattle.std.proofs.Math.Option.{Option, none, some}
 use Rattle.ps2_bytes.specs.declared.response.MouseId.{MouseId}

@@ -1,5 +1,4 @@
 -- Which number of a lent dispatcher stands for what: those of the handler's record, and five more.
--- Assumes nothing.
 use Rattle.std.specs.Prelude.{ℕ, ◌+◌}
 use Rattle.handler_words.specs.Layout.{words_length}
 use Rattle.keyboard_sides.specs.declared.Side.{Side}

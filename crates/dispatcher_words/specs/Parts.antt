@@ -1,5 +1,4 @@
 -- What the parts of the code that have contracts of their own promise.
--- Assumes nothing.
 use Rattle.std.specs.Prelude.{List, [], ◌∷◌, ℕ}
 use Rattle.ps2_bytes.specs.Responses.{mouse_id_byte}
 use Rattle.ps2_bytes.specs.declared.response.MouseId.{MouseId}

@@ -1,5 +1,4 @@
 -- Steps and takings on lent numbers, one after another: each on the numbers that the last one left.
--- Assumes nothing.
 use Rattle.std.specs.Prelude.{true, List, ◌++◌, ◌≡◌, ℕ, length, drop}
 use Rattle.std.proofs.Math.Option.{some}
 use Rattle.ps2_bytes.specs.declared.response.MouseId.{MouseId}

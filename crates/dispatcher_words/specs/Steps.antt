@@ -1,5 +1,4 @@
 -- What a step of a lent dispatcher means: the answer as numbers, the numbers left, and the state that they stand for.
--- Assumes nothing.
 use Rattle.std.specs.Prelude.{true, false, List, ◌++◌, ◌≡◌, ℕ, length, drop, set, Option, None, Some}
 use Rattle.exchange.specs.Answer.{number_answered, number_ended}
 use Rattle.port_words.specs.Told.{port_lacked}

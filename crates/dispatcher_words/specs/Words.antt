@@ -1,5 +1,4 @@
 -- The dispatcher as 149 numbers of 64 bits: the state that they stand for, and the numbers of a state.
--- Assumes nothing.
 use Rattle.std.specs.Prelude.{Bool, cond, ◌&&◌, ◌||◌, List, [], ◌∷◌, ◌++◌, ◌≡◌, ℕ, eqb, ltb, length, get_or, take, Option, Some, None}
 use Rattle.ps2_bytes.specs.Responses.{mouse_id_byte}
 use Rattle.ps2_bytes.specs.declared.response.MouseId.{MouseId}

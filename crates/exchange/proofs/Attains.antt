@@ -1,5 +1,4 @@
 -- Bounds that are attained: by a sequence, by a repetition, and what they mean for a play.
--- Assumes nothing.
 use Prim.Native.Nat.{ℕ, zero, suc, ◌+◌, ◌*◌, ◌≤◌}
 use native.Mathlib.Nat.{zero-add, add-zero, suc-add, zero-mul}
 use native.Mathlib.Numerals.{add-one}

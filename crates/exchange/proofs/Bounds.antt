@@ -1,5 +1,4 @@
 -- The most reads and writes: of a sequence and of a repetition, and what they mean for every play.
--- Assumes nothing.
 use Prim.Native.Nat.{ℕ, zero, suc, ◌+◌, ◌*◌, ◌≤◌, zero-le}
 use native.Mathlib.Nat.{suc-add, not-suc-le-zero, le_of_suc-le-suc}
 use native.Mathlib.Omega.{arith}

@@ -1,5 +1,4 @@
 -- What a caller cites of a callee: its outcome on the whole script and log, or on the parts that are left, as a step of the caller's own operation.
--- Assumes nothing.
 use Prim.Native.Nat.{ℕ, ◌+◌, ◌*◌, ◌≤◌}
 use native.Mathlib.Nat.{zero-add, add-zero}
 use native.Mathlib.Omega.{arith}

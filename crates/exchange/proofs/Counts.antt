@@ -1,5 +1,4 @@
 -- What code asks of the counts of its calls, in the form in which it asks: a part that is lent on is within its slice, and no sum or product of counts wraps. At such a goal `search counts` finds the law and the calls' contracts that it cites.
--- Assumes nothing.
 use Prim.Native.Nat.{ℕ, ◌+◌, ◌*◌, ◌^◌, ◌<◌}
 use native.Mathlib.Omega.{arith}
 use mathlib.Core.List.{List}

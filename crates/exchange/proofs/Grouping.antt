@@ -1,5 +1,4 @@
 -- Operations one after another, by what each gives, grouped in another way.
--- Assumes nothing.
 use mathlib.Core.Path.{◌≡◌, refl, ap, ◌∙◌, fun_ext}
 use Rattle.exchange.specs.Exchange.{Exchange, bind}
 use Rattle.exchange.specs.Answer.{Answer, gives, refuses, on_given, and_then}

@@ -1,5 +1,4 @@
 -- An operation with a note of the bytes that it read: without the note it is what it was; its parts; its bounds.
--- Assumes nothing.
 use Prim.Native.Nat.{ℕ, suc, ◌≤◌}
 use native.Mathlib.Omega.{arith}
 use mathlib.Core.List.{List}

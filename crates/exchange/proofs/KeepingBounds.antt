@@ -1,5 +1,4 @@
 -- A note of the bytes that are read adds no read and no write.
--- Assumes nothing.
 use Prim.Native.Nat.{ℕ}
 use Rattle.exchange.specs.Exchange.{Exchange}
 use Rattle.exchange.specs.Attains.{Attains, attains_done, attains_read, attains_write}

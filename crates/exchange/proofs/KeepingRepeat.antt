@@ -1,5 +1,4 @@
 -- A repetition with a note of the bytes that it read, turn by turn: the note goes from turn to turn.
--- Assumes nothing.
 use Prim.Native.Nat.{ℕ, suc, ◌+◌, ◌*◌, ◌-◌, ◌≤◌, ◌<◌}
 use native.Mathlib.Omega.{arith}
 use mathlib.Core.List.{List}

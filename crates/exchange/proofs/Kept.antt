@@ -1,5 +1,4 @@
 -- No play uses or writes more than there is, and what it does not write stays as it was.
--- Assumes nothing.
 use Prim.Native.Nat.{ℕ, ◌+◌, ◌*◌, ◌≤◌}
 use native.Mathlib.Omega.{arith}
 use mathlib.Core.List.{List}

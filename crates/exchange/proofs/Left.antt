@@ -1,5 +1,4 @@
 -- The record that an operation leaves, from the end that the code tells.
--- Assumes nothing.
 use Prim.Native.Nat.{ℕ}
 use mathlib.Core.List.{List}
 use mathlib.Core.Path.{◌≡◌, sym, ap, ◌∙◌}

@@ -1,5 +1,4 @@
 -- What reads no data notes nothing, so the note goes past it.
--- Assumes nothing.
 use Prim.Native.Nat.{ℕ, zero, suc}
 use mathlib.Core.Path.{◌≡◌, refl, ap, fun_ext}
 use Rattle.exchange.specs.Exchange.{p64, Exchange, read, write, bind}

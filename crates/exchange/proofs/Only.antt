@@ -1,5 +1,4 @@
 -- What an operation can yield, of a sequence and of every play.
--- Assumes nothing.
 use Prim.Native.Nat.{ℕ}
 use mathlib.Core.List.{List, [], ◌∷◌}
 use mathlib.Core.Path.{◌≡◌, ap, subst, fun_ext}

@@ -1,5 +1,4 @@
 -- Parts of a slice as Rattle hands them on and takes them back, and the pairs at a log's start.
--- Assumes nothing.
 use Prim.Native.Nat.{ℕ, suc, ◌+◌, ◌*◌, ◌-◌, ◌≤◌, ◌<◌}
 use native.Mathlib.Nat.{le_of_eq}
 use native.Mathlib.Numerals.{add-one, add-two}

@@ -1,5 +1,4 @@
 -- From one position of an operation to the next: by a read, a write, or a call that was handed what is left.
--- Assumes nothing.
 use Prim.Native.Nat.{ℕ, ◌+◌, ◌*◌, ◌-◌, ◌≤◌, ◌<◌, zero-le}
 use native.Mathlib.Nat.{zero-add, add_assoc, add-zero}
 use native.Mathlib.Numerals.{one-add}

@@ -1,5 +1,4 @@
 -- Positions of an operation that only reads: the laws of positions, with every log.
--- Assumes nothing.
 use Prim.Native.Nat.{ℕ, suc, ◌+◌, ◌-◌, ◌≤◌, ◌<◌}
 use native.Mathlib.Omega.{arith}
 use mathlib.Core.List.{List, []}

@@ -1,5 +1,4 @@
 -- Positions in a repetition with something after it, of an operation that only reads: as a loop in the middle of one goes.
--- Assumes nothing.
 use Prim.Native.Nat.{ℕ, suc, ◌+◌, ◌-◌, ◌≤◌, ◌<◌}
 use native.Mathlib.Omega.{arith}
 use mathlib.Core.List.{List}

@@ -1,5 +1,4 @@
 -- A repetition with something after it, turn by turn: as a loop in the middle of an operation goes.
--- Assumes nothing.
 use Prim.Native.Nat.{ℕ, suc, ◌≤◌}
 use mathlib.Core.Path.{◌≡◌, refl}
 use Rattle.exchange.specs.Exchange.{Exchange, bind}

@@ -1,5 +1,4 @@
 -- What must have been read where a repetition, or one operation after another, yields what it does.
--- Assumes nothing.
 use Prim.Native.Nat.{ℕ, zero, suc, ◌+◌, ◌*◌}
 use native.Mathlib.Nat.{add-zero}
 use native.Mathlib.Omega.{arith}

@@ -1,5 +1,4 @@
 -- What an operation can write: of a sequence, of a repetition, and of the accesses it makes.
--- Assumes nothing.
 use Prim.Native.Nat.{ℕ, zero, suc}
 use mathlib.Core.List.{List, []}
 use mathlib.Core.Path.{◌≡◌, refl}

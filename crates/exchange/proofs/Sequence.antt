@@ -1,5 +1,4 @@
 -- One operation after another: the play of `bind`, and that order of grouping does not matter.
--- Assumes nothing.
 use Prim.Native.Nat.{ℕ, suc, ◌+◌}
 use native.Mathlib.Nat.{zero-add, suc-add, add_assoc}
 use mathlib.Core.List.{List, [], ◌∷◌, ◌++◌, append_assoc}

@@ -1,5 +1,4 @@
 -- The answer of a repetition that found none comes only after all its turns; and turns that find none, one after another, reach the bounds.
--- Assumes nothing.
 use Prim.Native.Nat.{ℕ, zero, suc, ◌+◌, ◌*◌, ◌≤◌, ◌<◌}
 use native.Mathlib.Nat.{zero-add, suc-add, add-zero, zero-mul, mul-zero, not-suc-le-zero, le_of_suc-le-suc}
 use native.Mathlib.Omega.{arith}

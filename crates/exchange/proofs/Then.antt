@@ -1,5 +1,4 @@
 -- One operation after another, by what the first gives; and an operation whose refusals are renumbered or forgiven: their bounds, their refusals, what they write.
--- Assumes nothing.
 use Prim.Native.Nat.{ℕ, zero, suc, ◌+◌}
 use native.Mathlib.Nat.{add-zero}
 use mathlib.Core.Bool.{Bool, true, false, cond, ◌&&◌, ◌||◌}

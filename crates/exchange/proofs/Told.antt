@@ -1,5 +1,4 @@
 -- An operation whose answer is told in another way, with nothing read or written after it.
--- Assumes nothing.
 use Prim.Native.Nat.{ℕ}
 use mathlib.Core.List.{List}
 use mathlib.Core.Path.{◌≡◌, refl}

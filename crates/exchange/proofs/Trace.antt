@@ -1,5 +1,4 @@
 -- Every play counts each of its reads and writes, and ends where it is done or lacks a byte or room.
--- Assumes nothing.
 use Prim.Native.Nat.{ℕ, suc, zero-le}
 use native.Mathlib.Omega.{arith}
 use mathlib.Core.List.{List, [], ◌∷◌}

@@ -1,5 +1,4 @@
 -- What an operation answers: what it is for, or a refusal by document 01's number.
--- Assumes nothing.
 use Rattle.std.specs.Prelude.{ℕ}
 use Rattle.exchange.specs.Exchange.{Exchange, done, bind, Lack, no_script, no_log, End, yields, lacks}
 

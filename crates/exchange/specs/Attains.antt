@@ -1,5 +1,4 @@
 -- Bounds that are attained: a way through an operation, by bytes that it may read.
--- Assumes nothing.
 use Rattle.std.specs.Prelude.{ℕ, suc, ◌*◌, ◌≤◌, ◌<◌, List, [], ◌∷◌, ◌≡◌, length}
 use Rattle.exchange.specs.Exchange.{Port, Exchange, done, read, write, yields, play}
 use Rattle.exchange.specs.Bounds.{Within}

@@ -1,5 +1,4 @@
 -- The most reads and writes that an operation can make, whatever it reads.
--- Assumes nothing.
 use Rattle.std.specs.Prelude.{ℕ, suc}
 use Rattle.exchange.specs.Exchange.{Port, Exchange, done, read, write}
 

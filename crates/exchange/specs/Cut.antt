@@ -1,5 +1,4 @@
 -- A script that is cut short.
--- Assumes nothing.
 use Rattle.std.specs.Prelude.{ℕ, ◌*◌, ◌≤◌, ◌<◌, List, ◌≡◌, take, get_or}
 use Rattle.exchange.specs.Exchange.{Port, p60, no_script, lacks, Played}
 

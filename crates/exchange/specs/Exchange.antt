@@ -1,5 +1,4 @@
 -- An operation on the controller's ports, as a tree of its reads and writes, and what it comes to on a script and a log.
--- Assumes nothing.
 use Rattle.std.specs.Prelude.{ℕ, suc, List, [], ◌∷◌, ◌≡◌}
 
 -- The two ports of the 8042: 60 is data; 64 is the status where it is read, and the command where it is written.

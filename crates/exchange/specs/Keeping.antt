@@ -1,5 +1,4 @@
 -- An operation that also yields a note of the bytes that it read from port 60.
--- Assumes nothing.
 use Rattle.std.specs.Prelude.{ℕ}
 use Rattle.exchange.specs.Exchange.{Port, p60, p64, Exchange, done, read, write, End, told_end}
 

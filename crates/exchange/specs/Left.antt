@@ -1,5 +1,4 @@
 -- An operation on a record that is passed by value: its answer, and the record as it is left.
--- Assumes nothing.
 use Rattle.exchange.specs.Exchange.{End, yields, lacks}
 use Rattle.exchange.specs.Answer.{Answer, answered}
 

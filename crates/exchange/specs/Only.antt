@@ -1,5 +1,4 @@
 -- What an operation can yield.
--- Assumes nothing.
 use Rattle.std.specs.Prelude.{ℕ}
 use Rattle.exchange.specs.Exchange.{Port, Exchange, done, read, write}
 

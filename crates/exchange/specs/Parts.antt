@@ -1,5 +1,4 @@
 -- What is left of a slice, in the form in which Rattle hands it to a callee and takes it back.
--- Assumes nothing.
 use Rattle.std.specs.Prelude.{ℕ, ◌-◌, List, ◌++◌, length, take, drop}
 
 -- The part from k on, `&l[k..]`.

@@ -1,5 +1,4 @@
 -- Where an operation has come to, with how much of the script and of the log behind it.
--- Assumes nothing.
 use Rattle.std.specs.Prelude.{ℕ, ◌*◌, ◌≤◌, List, ◌≡◌, length, take, drop}
 use Rattle.exchange.specs.Exchange.{Exchange, play}
 use Rattle.exchange.specs.Sequence.{onward}

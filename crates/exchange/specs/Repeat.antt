@@ -1,5 +1,4 @@
 -- A bounded repetition: polls, and attempts.
--- Assumes nothing.
 use Rattle.std.specs.Prelude.{ℕ, zero, suc, ◌*◌, List, [], ◌++◌, ◌≡◌, drop}
 use Rattle.exchange.specs.Exchange.{Exchange, done, bind, End, yields, told_end, play}
 

@@ -1,5 +1,4 @@
 -- What a script brings: to a repetition, turn by turn, and to one operation after another.
--- Assumes nothing.
 use Rattle.std.specs.Prelude.{ℕ, zero, suc, ◌*◌, List, ◌≡◌, drop}
 use Rattle.exchange.specs.Exchange.{Exchange, yields, play}
 use Rattle.exchange.specs.Repeat.{Turn, found, again}

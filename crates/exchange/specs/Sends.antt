@@ -1,5 +1,4 @@
 -- What an operation can write.
--- Assumes nothing.
 use Rattle.std.specs.Prelude.{ℕ, List, [], ◌∷◌}
 use Rattle.exchange.specs.Exchange.{Port, p60, p64, Exchange, done, read, write}
 use Rattle.exchange.specs.Trace.{Access, brought, wrote}

@@ -1,5 +1,4 @@
 -- One play after another.
--- Assumes nothing.
 use Rattle.std.specs.Prelude.{ℕ, ◌+◌, ◌*◌, List, ◌++◌, take, drop}
 use Rattle.exchange.specs.Exchange.{Exchange, End, yields, lacks, Played, played, play}
 

@@ -1,5 +1,4 @@
 -- The reads and writes that a play makes, one by one, and what its counts and its log say of them.
--- Assumes nothing.
 use Rattle.std.specs.Prelude.{ℕ, ◌*◌, ◌≤◌, List, [], ◌∷◌, ◌++◌, ◌≡◌, length, drop}
 use Rattle.exchange.specs.Exchange.{Port, number, Exchange, done, read, write, no_script, no_log, End, yields, lacks, Played}
 

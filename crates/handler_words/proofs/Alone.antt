@@ -1,5 +1,4 @@
 -- A call whose byte is a key's and asks for no lamp exchange, where none waits: what it gives back.
--- Assumes nothing.
 use mathlib.Core.Path.{◌≡◌, refl, sym, ap, subst, ◌∙◌}
 use mathlib.Core.Bool.{Bool, true, false, cond, ◌||◌, true≢false}
 use mathlib.Core.Logic.{⊎_elim}

@@ -1,5 +1,4 @@
 -- What a handler call leaves of a state: its side's keyboard, with 16 places for waiting bytes, and where an event joins the queue one more of its side.
--- Assumes nothing.
 use mathlib.Core.Path.{◌≡◌, refl, sym}
 use mathlib.Core.List.{List, ◌++◌}
 use mathlib.Core.Option.{Option, none, some}

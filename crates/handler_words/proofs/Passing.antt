@@ -1,5 +1,4 @@
 -- What 21 asks of the numbers: where they don't pass, they stand for no well-formed record; where they pass, each is found in its field.
--- Assumes nothing.
 use mathlib.Core.Path.{◌≡◌, refl, sym, ap, ◌∙◌}
 use mathlib.Core.Bool.{Bool, true, false, cond, ◌&&◌, ◌||◌, and-false, and-eq-true_iff, true≢false}
 use mathlib.Core.Logic.{⊎_elim}

@@ -1,5 +1,4 @@
 -- A call whose byte is of a key that has no flag, on a record that is ready for its event: what it gives back.
--- Assumes nothing.
 use mathlib.Core.Path.{◌≡◌, refl, sym}
 use mathlib.Core.Bool.{true}
 use mathlib.Core.List.{List}

@@ -1,5 +1,4 @@
 -- A taking from a record's numbers is the taking from the record that they stand for.
--- Assumes nothing.
 use mathlib.Core.Path.{◌≡◌, refl, sym, ap, ◌∙◌}
 use mathlib.Core.Bool.{true, false}
 use mathlib.Core.List.{List, ◌∷◌}

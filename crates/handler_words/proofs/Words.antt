@@ -1,5 +1,4 @@
 -- A record's numbers, one by one: what storing does to the record that they stand for, and the numbers of a record, which stand for it.
--- Assumes nothing.
 use mathlib.Core.Path.{◌≡◌, refl, sym, ap, subst, ◌∙◌}
 use mathlib.Core.Bool.{Bool, true, false, not, cond, ◌&&◌, ◌||◌, true≢false}
 use mathlib.Core.List.{List, [], ◌∷◌, map}

@@ -1,5 +1,4 @@
 -- What the parts of the code that have contracts of their own promise.
--- Assumes nothing.
 use Rattle.std.proofs.Math.Option.{Option, none, some}
 use Rattle.std.specs.Prelude.{◌≡◌, ℕ, ◌+◌, ◌<◌, ◌≤◌, Bool, true, false, ◌&&◌, ◌||◌, List, [], eqb, ltb, length, get_or, Option as Maybe, Some, None}
 use Rattle.exchange.specs.Answer.{number_answered}

@@ -1,5 +1,4 @@
 -- The calls of a listing, one after another: for each that another follows one byte fewer is left, of the script or waiting.
--- Assumes nothing.
 use mathlib.Core.Path.{◌≡◌, refl, ap, ap₂, sym, subst, ◌∙◌}
 use mathlib.Core.Bool.{Bool, true, false, cond, true≢false}
 use mathlib.Core.List.{List, [], ◌∷◌, ◌++◌, append-nil}

@@ -1,5 +1,4 @@
 -- A listing is what the history rule's words say byte by byte; 3, 20, 21, 31 and 33 never occur. So it has a line at most for each script byte, since a byte that waited was one, and 13 bytes for each hold it.
--- Assumes nothing.
 use mathlib.Core.Path.{◌≡◌, refl, sym, ap, ◌∙◌}
 use mathlib.Core.Bool.{Bool, true, false, cond}
 use mathlib.Core.List.{List, [], ◌∷◌, ◌++◌, append-nil}

@@ -1,5 +1,4 @@
 -- A call of a listing: its record is as the counted bytes say, with an empty queue. What it answers, what is then taken, and that the record after it is so again.
--- Assumes nothing.
 use mathlib.Core.Path.{◌≡◌, refl, ap, sym, subst, ◌∙◌}
 use mathlib.Core.Bool.{Bool, true, false, not, cond, true≢false}
 use mathlib.Core.List.{List, [], ◌∷◌, map}

@@ -1,5 +1,4 @@
 -- The script bytes that a call uses: its own where none waits, and those that the lamp exchange of a lock reads. The exchange throws away no more than it reads, so of the bytes that are left one fewer is left for each call.
--- Assumes nothing.
 use mathlib.Core.Path.{◌≡◌, refl, ap, sym, subst, ◌∙◌}
 use mathlib.Core.Bool.{Bool, true, false, cond, true≢false}
 use mathlib.Core.List.{List, [], ◌∷◌, ◌++◌}

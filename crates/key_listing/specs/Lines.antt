@@ -1,5 +1,4 @@
 -- The lines that are printed of an event and of a refusal.
--- Assumes nothing.
 use Rattle.std.specs.Prelude.{cond, List, [], ◌++◌, ℕ, eqb}
 use Rattle.std.proofs.Math.Option.{Option, none, some}
 use Rattle.exchange.specs.Answer.{Answer, gives, refuses}

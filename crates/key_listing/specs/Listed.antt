@@ -1,5 +1,4 @@
 -- What a listing is, byte by byte, in the words of the history rule: no record is spoken of.
--- Assumes nothing.
 use Rattle.std.specs.Prelude.{Bool, true, false, cond, ◌&&◌, List, [], ◌++◌, ◌≡◌, ℕ, ◌+◌, ◌≤◌, length, drop}
 use Rattle.std.proofs.Math.Option.{some}
 use Rattle.exchange.specs.Exchange.{Played, play}

@@ -1,5 +1,4 @@
 -- What the program tablekeys prints of a script.
--- Assumes nothing.
 use Rattle.std.specs.Prelude.{cond, List, [], ◌++◌, ℕ, zero, suc, ◌+◌, eqb, length, take, drop, replicate}
 use Rattle.exchange.specs.Answer.{number_ended}
 use Rattle.keyboard_scancodes.specs.declared.Profile.{Profile}

@@ -1,5 +1,4 @@
 -- What a call makes of its keyboard's part, and what a call with a new event, or with none, makes of the places.
--- Assumes nothing.
 use Rattle.std.specs.Prelude.{Option as Maybe, Some, Err}
 use mathlib.Core.Path.{◌≡◌, refl, sym, ap, ◌∙◌}
 use mathlib.Core.Bool.{true}

@@ -1,5 +1,4 @@
 -- What the code gives back, as the definitions have it, and the parts of a call that code has of its own.
--- Assumes nothing.
 use Rattle.std.specs.Prelude.{false, List, [], ◌∷◌, ◌++◌, ◌≡◌, ℕ, ◌≤◌, length, Option as Maybe, Some, None, Result}
 use Rattle.std.proofs.Math.Option.{Option, none, some}
 use Rattle.exchange.specs.Exchange.{p60, no_script, Exchange, done, bind, End, yields, lacks, play}

@@ -1,5 +1,4 @@
 -- A keyboard that is remembered as some counted bytes and waiting bytes say: a fresh one is, and each call leaves one, with the event that they say.
--- Assumes nothing.
 use mathlib.Core.Path.{◌≡◌, refl, ap, ap₂, sym, ◌∙◌, fun_ext}
 use mathlib.Core.Bool.{Bool, true, false, ◌||◌}
 use mathlib.Core.List.{List, [], ◌∷◌, ◌++◌, append-nil}

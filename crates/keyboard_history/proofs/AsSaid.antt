@@ -1,5 +1,4 @@
 -- A record that is as the counted bytes and waiting bytes of each side and a row of events say: a fresh one is, and each call leaves one, with the answers that they say.
--- Assumes nothing.
 use mathlib.Core.Path.{◌≡◌, refl, ap, ap₂, sym, subst⁻¹, ◌∙◌}
 use mathlib.Core.Bool.{Bool, true, false, not}
 use mathlib.Core.List.{List, [], ◌∷◌, ◌++◌, append-nil}

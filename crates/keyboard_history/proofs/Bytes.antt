@@ -1,5 +1,4 @@
 -- Every scancode that a list of calls counts, and every one that waits after it, is a byte of its scripts.
--- Assumes nothing.
 use mathlib.Core.Bool.{Bool, true, false, not, cond, ◌&&◌}
 use mathlib.Core.List.{List, [], ◌∷◌, ◌++◌}
 use mathlib.Core.Option.{Option, none, some}

@@ -1,5 +1,4 @@
 -- The flags: one byte's effect on the word of flags, by the table, is what the bytes say with that byte counted.
--- Assumes nothing.
 use mathlib.Core.Path.{◌≡◌, refl, ap, ap₂, sym, ◌∙◌}
 use mathlib.Core.Bool.{Bool, true, false, not, cond, and-eq-true_iff}
 use mathlib.Core.List.{List, [], ◌∷◌, Memᴰ}

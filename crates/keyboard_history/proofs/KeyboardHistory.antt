@@ -1,5 +1,4 @@
 -- The history rule for the keyboards' own lamp exchanges, those that `handle` makes.
--- Assumes nothing.
 use Rattle.keyboard.specs.KeyboardLamps.{keyboard_lamps}
 use Rattle.keyboard_record.specs.declared.Table.{Table}
 use Rattle.keyboard_history.specs.Past.{Past}

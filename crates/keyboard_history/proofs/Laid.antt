@@ -1,5 +1,4 @@
 -- "The profile is chosen by the call that makes a fresh handler and changed by no other": on any record, which no fresh one needs to have led to, no list of calls and takings changes what the table is laid with.
--- Assumes nothing.
 use mathlib.Core.Path.{◌≡◌, refl, ◌∙◌}
 use mathlib.Core.List.{List, [], ◌∷◌}
 use Prim.Native.Nat.{ℕ}

@@ -1,5 +1,4 @@
 -- The calls of a side: one more of its own, one of the other side's, one of a side that is not at the table.
--- Assumes nothing.
 use mathlib.Core.Path.{◌≡◌, refl}
 use mathlib.Core.Bool.{true, false, and-false}
 use mathlib.Core.List.{List}

@@ -1,5 +1,4 @@
 -- The events of one side, by its own bytes alone: the rule's clauses on byte order and on the row, put together.
--- Assumes nothing.
 use mathlib.Core.Path.{◌≡◌, refl, ap, sym, ◌∙◌}
 use mathlib.Core.Bool.{Bool, true, false, cond}
 use mathlib.Core.List.{List, [], ◌∷◌}

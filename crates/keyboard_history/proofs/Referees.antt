@@ -1,5 +1,4 @@
 -- Under the tournament profile: no lock is on after any list of calls, and every event that is taken, or waits, is one of a rated game.
--- Assumes nothing.
 use mathlib.Core.Path.{◌≡◌, refl, sym, ◌∙◌}
 use mathlib.Core.Bool.{Bool, true, false, not, and-eq-true_iff}
 use mathlib.Core.List.{List, [], ◌∷◌, ◌++◌}

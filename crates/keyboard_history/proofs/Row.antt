@@ -1,5 +1,4 @@
 -- The row of waiting events: what joins it, with room and without, and how the lists of events given grow.
--- Assumes nothing.
 use mathlib.Core.Path.{◌≡◌, refl, ap, sym}
 use mathlib.Core.Bool.{true, false, or-false}
 use mathlib.Core.List.{List, [], ◌∷◌, ◌++◌, append-nil, append_assoc}

@@ -1,5 +1,4 @@
 -- What two keyboards are promised of the one queue, over every list of calls: a side with few events waiting is never refused for want of room.
--- Assumes nothing.
 use mathlib.Core.Path.{◌≡◌, refl, sym, ◌∙◌}
 use mathlib.Core.Bool.{Bool, true, false}
 use mathlib.Core.List.{List}

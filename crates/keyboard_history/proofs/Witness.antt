@@ -1,5 +1,4 @@
 -- The history rule is not vacuous: lists of calls that fill the queue, or a side's share of it, go on and drain it; in which a lamp exchange fails; and that go on after a 2.
--- Assumes nothing.
 use mathlib.Core.Path.{◌≡◌, refl, ap, ap₂, sym, ◌∙◌}
 use mathlib.Core.Bool.{Bool, true, false, true≢false}
 use mathlib.Core.List.{List, [], ◌∷◌, ◌++◌, append-nil}

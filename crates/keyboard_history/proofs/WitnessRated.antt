@@ -1,5 +1,4 @@
 -- The history rule speaks of the tournament profile: a short game with Caps Lock and Alt, whatever the lamp exchange. What the list says is computed; the record and the answers follow by the rule.
--- Assumes nothing.
 use mathlib.Core.Path.{◌≡◌, refl, ◌∙◌}
 use mathlib.Core.Bool.{true, false}
 use mathlib.Core.List.{List, [], ◌∷◌}

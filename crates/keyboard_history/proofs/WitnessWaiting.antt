@@ -1,5 +1,4 @@
 -- The history rule speaks of bytes that wait: a letter typed during a lamp exchange, 17 of them, a lock among them, and a 2 that leaves one where it was. What the list says is computed; the record and the answers follow by the rule.
--- Assumes nothing.
 use mathlib.Core.Path.{◌≡◌, refl, ◌∙◌}
 use mathlib.Core.Bool.{true, false}
 use mathlib.Core.List.{[], ◌∷◌}

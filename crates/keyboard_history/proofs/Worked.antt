@@ -1,5 +1,4 @@
 -- Closed examples of the flags that bytes say, by computation.
--- Assumes nothing.
 use mathlib.Core.Path.{◌≡◌, refl}
 use Rattle.bits.specs.Bits.{odd, put_bit}
 use Rattle.keyboard_history.specs.Past.{nothing, ◌▸◌}

@@ -1,5 +1,4 @@
 -- The calls of a list, those of each side, which of them count a scancode, and the bytes that wait after them: from scripts and logs, not from answers and without the record.
--- Assumes nothing.
 use Rattle.std.specs.Prelude.{Bool, true, false, cond, ◌&&◌, List, [], ◌++◌, ℕ, ◌-◌, length, take, drop}
 use Rattle.std.proofs.Math.Option.{Option, none, some}
 use Rattle.exchange.specs.Exchange.{Exchange}

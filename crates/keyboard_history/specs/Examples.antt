@@ -1,5 +1,4 @@
 -- Lists of calls that show that the history rule speaks of something.
--- Assumes nothing.
 use Rattle.std.specs.Prelude.{cond, List, [], ◌∷◌, ℕ, zero, suc, eqb}
 use Rattle.exchange.specs.Exchange.{p60, Exchange, done, read, write}
 use Rattle.exchange.specs.Answer.{Answer, gives, refuses}

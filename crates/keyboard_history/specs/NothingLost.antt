@@ -1,5 +1,4 @@
 -- Nothing is lost, of either side: each byte that the lamp exchange of a counted call threw away was taken by a later call, or still waits, or is among those that its call reported.
--- Assumes nothing.
 use Rattle.std.specs.Prelude.{List, [], ◌++◌, ◌≡◌, ℕ, length}
 use Rattle.exchange.specs.Exchange.{Exchange}
 use Rattle.exchange.specs.Answer.{Answer}

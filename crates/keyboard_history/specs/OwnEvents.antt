@@ -1,5 +1,4 @@
 -- The events of one side, by its own bytes alone.
--- Assumes nothing.
 use Rattle.std.specs.Prelude.{◌++◌, ◌≡◌, ℕ, length}
 use Rattle.exchange.specs.Exchange.{Exchange}
 use Rattle.exchange.specs.Answer.{Answer}

@@ -1,5 +1,4 @@
 -- Things in the order in which they came.
--- Assumes nothing.
 use Rattle.std.specs.Prelude.{List, [], ◌∷◌}
 
 infixl 5 ◌▸◌

@@ -1,5 +1,4 @@
 -- What referees are promised of rated games: the events that they are shown.
--- Assumes nothing.
 use Rattle.std.specs.Prelude.{true, false, List, [], ◌∷◌, ◌≡◌}
 use Rattle.bits.specs.Bits.{bit}
 use Rattle.keyboard_modifiers.specs.Flags.{caps_lock, num_lock, scroll_lock}

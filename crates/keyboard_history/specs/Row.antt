@@ -1,5 +1,4 @@
 -- The row of waiting events, one for both sides, kept from the list of calls alone, and the events that joined it or met 33, 96 of their side or 128.
--- Assumes nothing.
 use Rattle.std.specs.Prelude.{Bool, false, cond, ◌||◌, List, [], ◌∷◌, ◌++◌, map, ℕ, eqb}
 use Rattle.std.proofs.Math.Option.{Option, none, some}
 use Rattle.exchange.specs.Exchange.{Exchange}

@@ -1,5 +1,4 @@
 -- The calls of a list made one after another, the first on a fresh record for a table and each other on the record that the last one left.
--- Assumes nothing.
 use Rattle.std.specs.Prelude.{Bool, true, false, ◌&&◌, List, [], ◌∷◌, ◌++◌, ℕ}
 use Rattle.std.proofs.Math.Option.{Option, none, some}
 use Rattle.exchange.specs.Exchange.{Exchange, End}

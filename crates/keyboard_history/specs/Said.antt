@@ -1,5 +1,4 @@
 -- What a list of bytes says of the keys, by the history rule: the flags, and the events given. Which bytes are counted is said elsewhere.
--- Assumes nothing.
 use Rattle.std.specs.Prelude.{Bool, false, cond, List, [], ◌∷◌, ◌++◌, ℕ, suc}
 use Rattle.bits.specs.Bits.{odd, put_bit}
 use Rattle.keycodes_ascii.specs.declared.KeyEvent.{KeyEvent}

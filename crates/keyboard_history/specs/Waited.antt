@@ -1,5 +1,4 @@
 -- What became of the bytes that the lamp exchanges of one keyboard's calls threw away, kept from the calls alone.
--- Assumes nothing.
 use Rattle.std.specs.Prelude.{List, [], ◌∷◌, ◌++◌, ℕ}
 use Rattle.std.proofs.Math.Option.{Option, none, some}
 use Rattle.keyboard.specs.Rules.{Rules}

@@ -1,5 +1,4 @@
 -- The history rule over set 2 for the keyboards' own lamp exchanges, those that `handle` makes.
--- Assumes nothing.
 use mathlib.Core.Path.{◌≡◌}
 use mathlib.Core.List.{List}
 use Prim.Native.Nat.{ℕ}

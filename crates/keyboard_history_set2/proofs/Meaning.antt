@@ -1,5 +1,4 @@
 -- The words of the rule mean over set 2 what they should: the flags, code by code.
--- Assumes nothing.
 use mathlib.Core.Path.{◌≡◌, refl, sym, ap, ◌∙◌, subst}
 use mathlib.Core.Bool.{Bool, true, false, not, cond, ◌&&◌, and-true, and-false, beq}
 use mathlib.Core.List.{List, map, Memᴰ}

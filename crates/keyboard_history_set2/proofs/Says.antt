@@ -1,5 +1,4 @@
 -- A code of set 2 and the byte of set 1 that it becomes say the same: prefix or not, and the same stroke.
--- Assumes nothing.
 use mathlib.Core.Path.{◌≡◌, refl, sym, ap, ◌∙◌}
 use mathlib.Core.Bool.{Bool, true, false, false≢true, beq}
 use mathlib.Core.List.{[], ◌∷◌}

@@ -1,5 +1,4 @@
 -- The row of the history rule, turn by turn; and that its turns are those read over what the counted scancodes of each side give.
--- Assumes nothing.
 use mathlib.Core.Path.{◌≡◌, refl, sym, subst, ap, ap₂, ◌∙◌}
 use mathlib.Core.Bool.{Bool, true, false, cond}
 use mathlib.Core.List.{List, [], ◌++◌}

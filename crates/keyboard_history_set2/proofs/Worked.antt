@@ -1,5 +1,4 @@
 -- Closed examples of the rule over set 2, by computation; the first by the theorems, so that their premises are met by something.
--- Assumes nothing.
 use mathlib.Core.Path.{◌≡◌, refl, ◌∙◌}
 use mathlib.Core.List.{List, [], ◌∷◌}
 use Prim.Native.Nat.{ℕ}

@@ -1,5 +1,4 @@
 -- The history rule read over a set 2 stream, for one side whatever the other sends, and for both. On the right of each equation stands what the streams and the list of calls say; on the left, the record after the calls and the answers given, as in `History`.
--- Assumes nothing.
 use Rattle.std.specs.Prelude.{cond, List, ◌++◌, ◌≡◌, ℕ}
 use Rattle.exchange.specs.Exchange.{Exchange}
 use Rattle.exchange.specs.Answer.{Answer}

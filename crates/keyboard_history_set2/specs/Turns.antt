@@ -1,5 +1,4 @@
 -- A list of calls, read over what the counted scancodes of each side say: what each call does to the row of waiting events, one for both sides.
--- Assumes nothing.
 use Rattle.std.specs.Prelude.{Bool, false, cond, List, [], ◌++◌, ℕ}
 use Rattle.std.proofs.Math.Option.{Option}
 use Rattle.exchange.specs.Exchange.{Exchange}

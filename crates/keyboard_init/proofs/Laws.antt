@@ -1,5 +1,4 @@
 -- What keyboard initialisation refuses with, and how much it reads and writes at most.
--- Assumes nothing.
 use Prim.{tt}
 use Prim.Native.Nat.{ℕ}
 use mathlib.Core.List.{List, [], ◌∷◌}

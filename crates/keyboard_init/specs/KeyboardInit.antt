@@ -1,5 +1,4 @@
 -- Keyboard initialisation as a tree of its reads and writes.
--- Assumes nothing.
 use Rattle.exchange.specs.Exchange.{Exchange}
 use Rattle.exchange.specs.Answer.{Answer, and_then, refusing_as}
 use Rattle.ps2_bytes.specs.declared.data.ScancodeSet.TheVariants.{Set1}

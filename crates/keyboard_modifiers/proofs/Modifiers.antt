@@ -1,5 +1,4 @@
 -- A question about flags: sharing a bit with a flag's mask is having the flag; with two flags joined, having either.
--- Assumes nothing.
 use mathlib.Core.Path.{◌≡◌, ap, ◌∙◌}
 use mathlib.Core.Bool.{Bool, ◌||◌}
 use Prim.Native.Nat.{ℕ, ◌^◌}

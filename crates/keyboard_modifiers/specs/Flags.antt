@@ -1,5 +1,4 @@
 -- The modifier flags, as document 01 numbers them: a flag's number is its bit in the word of flags.
--- Assumes nothing.
 use Rattle.std.specs.Prelude.{ℕ}
 
 abbrev pub shift_left : ℕ

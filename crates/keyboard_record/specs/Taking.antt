@@ -1,5 +1,4 @@
 -- What a taking from the queue means, on any record.
--- Assumes nothing.
 use Rattle.std.specs.Prelude.{cond, eqb, Option as Maybe, Result, Ok, Err, Some, None}
 use Rattle.std.proofs.Math.Option.{Option, none, some}
 use Rattle.exchange.specs.Answer.{Answer, gives, refuses}

@@ -1,5 +1,4 @@
 -- The keycode of a scancode's low part: there is one exactly where the low part is at most 5D.
--- Assumes nothing.
 use mathlib.Core.Path.{◌≡◌, sym, ap, ◌∙◌}
 use mathlib.Core.Bool.{Bool, true, false}
 use Prim.Native.Nat.{ℕ}

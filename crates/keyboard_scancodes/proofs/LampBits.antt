@@ -1,5 +1,4 @@
 -- The byte of lamps, put together bit by bit.
--- Assumes nothing.
 use mathlib.Core.Path.{◌≡◌, refl}
 use mathlib.Core.Bool.{Bool, true, false}
 use Rattle.bits.specs.Bits.{put_bit}

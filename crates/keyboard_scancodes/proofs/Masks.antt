@@ -1,5 +1,4 @@
 -- A stroke changes the word of flags by masks: its key's flags are put in or taken out, a lock's is turned over. By induction over the rows of a table.
--- Assumes nothing.
 use mathlib.Core.Path.{◌≡◌, refl, ap, ap₂, sym, ◌∙◌}
 use mathlib.Core.Bool.{Bool, true, false, not, cond, xor, ◌&&◌, ◌||◌, and-eq-true_iff, and-false}
 use mathlib.Core.List.{List, [], ◌∷◌}

@@ -1,5 +1,4 @@
 -- The byte of a key that has no flag: it is no silent one, its key has an event, and neither flags nor lamps follow it.
--- Assumes nothing.
 use mathlib.Core.Path.{◌≡◌, refl}
 use mathlib.Core.Bool.{Bool, true, false, not, ◌&&◌, and-false, and-eq-true_iff}
 use mathlib.Core.List.{List, [], ◌∷◌}

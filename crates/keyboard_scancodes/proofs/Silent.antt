@@ -1,5 +1,4 @@
 -- The bytes 00, E0, E1 and FA: they are strokes of no key of the table, press no lock, and give no event. Every other byte gives one if its low part is a keycode.
--- Assumes nothing.
 use mathlib.Core.Path.{◌≡◌, refl, sym, subst}
 use mathlib.Core.Bool.{Bool, true, false, ◌||◌}
 use mathlib.Core.Logic.{⊎_elim}

@@ -1,5 +1,4 @@
 -- The tournament profile: the keys inside it, the flags that it follows, and that no lock is followed under it.
--- Assumes nothing.
 use mathlib.Core.Path.{◌≡◌, refl, sym, ◌∙◌}
 use mathlib.Core.Bool.{Bool, true, false, cond, true≢false}
 use mathlib.Core.List.{List, [], ◌∷◌}

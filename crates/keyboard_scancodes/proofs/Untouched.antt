@@ -1,5 +1,4 @@
 -- A code of no key of the table has no flag; a byte that is no lock's press has no lamp exchange.
--- Assumes nothing.
 use mathlib.Core.Path.{◌≡◌, refl}
 use mathlib.Core.Bool.{Bool, true, false, ◌&&◌}
 use mathlib.Core.Logic.{◌≢◌}

@@ -1,5 +1,4 @@
 -- The bytes that wait, by their places: how many, the last of them, and what the places of a list's first 16 hold.
--- Assumes nothing.
 use mathlib.Core.Path.{◌≡◌, refl, ap, ◌∙◌}
 use mathlib.Core.List.{List, [], ◌∷◌, ◌++◌}
 use Prim.Native.Nat.{ℕ, zero, suc, ◌≤◌}

@@ -1,5 +1,4 @@
 -- The event that a scancode makes.
--- Assumes nothing.
 use Rattle.std.specs.Prelude.{Bool, not, cond, ◌&&◌, ℕ, eqb, leb}
 use Rattle.std.specs.Prelude.{Option, Some, None}
 use Rattle.keycodes_ascii.specs.declared.KeyAction.{KeyAction}

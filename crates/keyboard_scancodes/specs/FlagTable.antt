@@ -1,5 +1,4 @@
 -- The table of flags: which key each flag follows, and how.
--- Assumes nothing.
 use Rattle.std.specs.Prelude.{Bool, true, false, not, ◌&&◌, ◌||◌, List, [], ◌∷◌, ℕ, ◌^◌, eqb, length}
 use Rattle.keyboard_modifiers.specs.Flags.{shift_left, shift_right, control_left, control_right, alt, super_key_left, super_key_right, caps_lock, num_lock, scroll_lock, alt_right}
 use Rattle.keyboard_scancodes.specs.Strokes.{Stroke}

@@ -1,5 +1,4 @@
 -- What one stroke does to the flags, by the table.
--- Assumes nothing.
 use Rattle.std.specs.Prelude.{Bool, true, false, not, cond, ◌&&◌, List, [], ◌∷◌, ℕ}
 use Rattle.bits.specs.Bits.{bit, put_bit}
 use Rattle.keyboard_scancodes.specs.declared.KeyboardState.{KeyboardState}

@@ -1,5 +1,4 @@
 -- The lamps that the flags light.
--- Assumes nothing.
 use Rattle.std.specs.Prelude.{ℕ}
 use Rattle.bits.specs.Bits.{bit}
 use Rattle.keyboard_modifiers.specs.Flags.{caps_lock, num_lock, scroll_lock}

@@ -1,5 +1,4 @@
 -- The keys that have no flag.
--- Assumes nothing.
 use Rattle.std.specs.Prelude.{Bool, false, not, ◌&&◌, ◌||◌, List, [], ◌∷◌, ℕ, eqb, leb, ltb}
 use Rattle.keyboard_scancodes.specs.Strokes.{low_part}
 use Rattle.keyboard_scancodes.specs.FlagTable.{FlagRow, flag_table}

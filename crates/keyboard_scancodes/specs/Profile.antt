@@ -1,5 +1,4 @@
 -- Document 02's profile: which keys are queued under it, and which flags are followed.
--- Assumes nothing.
 use Rattle.std.specs.Prelude.{Bool, true, false, cond, ◌||◌, List, [], ◌∷◌, ℕ, eqb}
 use Rattle.keycodes_ascii.specs.declared.Keycode.{Keycode}
 use Rattle.keycodes_ascii.specs.Keycode.{number_of}

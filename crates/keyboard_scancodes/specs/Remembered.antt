@@ -1,5 +1,4 @@
 -- What is remembered of one keyboard.
--- Assumes nothing.
 use Rattle.std.specs.Prelude.{Bool, false, [], ℕ}
 use Rattle.keyboard_scancodes.specs.declared.KeyboardState.{KeyboardState}
 use Rattle.keyboard_scancodes.specs.declared.WaitingBytes.{WaitingBytes}

@@ -1,5 +1,4 @@
 -- The strokes that single bytes of scan code set 1 say.
--- Assumes nothing.
 use Rattle.std.specs.Prelude.{Bool, ◌||◌, ℕ, ◌%◌, eqb, ltb}
 
 -- A stroke of a key: the key's code, whether it was pressed or released, and whether the stroke came directly after a prefix.

@@ -1,5 +1,4 @@
 -- The bytes that wait to be taken by later calls: a lamp exchange threw them away.
--- Assumes nothing.
 use Rattle.std.specs.Prelude.{List, [], ◌∷◌, ℕ, zero, suc, get_or}
 use Rattle.ps2_kept.specs.declared.KeptBytes.{KeptBytes}
 use Rattle.ps2_kept.specs.Kept.{kept_of}

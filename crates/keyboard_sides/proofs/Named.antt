@@ -1,5 +1,4 @@
 -- Things beside their sides: one more behind both, the first off both, and how many are of a side.
--- Assumes nothing.
 use mathlib.Core.Path.{◌≡◌, refl, ap}
 use mathlib.Core.Bool.{Bool, true, false, cond}
 use mathlib.Core.List.{List, [], ◌∷◌, ◌++◌}

@@ -1,5 +1,4 @@
 -- What a row of bits means as a list of sides: one more behind it, the oldest off, and the count of its set bits.
--- Assumes nothing.
 use mathlib.Core.Path.{◌≡◌, refl, sym, ap, ap₂, ◌∙◌}
 use mathlib.Core.Bool.{Bool, true, false}
 use mathlib.Core.List.{List, [], ◌∷◌, ◌++◌}

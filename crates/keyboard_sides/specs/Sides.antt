@@ -1,5 +1,4 @@
 -- The sides of the events that wait: the bits of a number, the lowest first, each a side.
--- Assumes nothing.
 use Rattle.std.specs.Prelude.{Bool, true, false, cond, List, [], ◌∷◌, ℕ, zero, suc, ◌+◌, ◌*◌, ◌/◌, ◌%◌, ◌^◌, ltb}
 use Rattle.bits.specs.Bits.{odd, weigh, put_bit}
 use Rattle.keyboard_sides.specs.declared.Side.{Side}

@@ -1,5 +1,4 @@
 -- What an argument below a limit stands for.
--- Assumes nothing.
 use mathlib.Core.Bool.{cond}
 use mathlib.Core.Option.{none, some}
 use mathlib.Core.Path.{◌≡◌}

@@ -1,5 +1,4 @@
 -- The initialisation on a lent record, by the table that its numbers stand for and by how the exchange ended.
--- Assumes nothing.
 use mathlib.Core.List.{List}
 use mathlib.Core.Option.{Option, none, some}
 use mathlib.Core.Path.{◌≡◌, refl, sym, ap, ◌∙◌}

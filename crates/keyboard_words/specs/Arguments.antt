@@ -1,5 +1,4 @@
 -- What the numbers of an argument stand for.
--- Assumes nothing.
 use Rattle.std.specs.Prelude.{cond, List, [], ◌∷◌, ℕ, ltb}
 use Rattle.std.proofs.Math.Option.{Option, none, some}
 use Rattle.bits.specs.Table.{rows, decode}

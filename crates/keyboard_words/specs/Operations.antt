@@ -1,5 +1,4 @@
 -- What the operations come to whose answers are numbers.
--- Assumes nothing.
 use Rattle.std.specs.Prelude.{List, ◌≡◌, ℕ, length}
 use Rattle.exchange.specs.Exchange.{Exchange, End, yields, lacks, play}
 use Rattle.exchange.specs.Answer.{Answer}

@@ -1,5 +1,4 @@
 -- The page of the characters, src/layout.rt, agrees with the rule: one test, computed over all of its entries.
--- Assumes nothing.
 use mathlib.Core.Path.{refl}
 use mathlib.Core.Bool.{xor}
 use Rattle.keycodes_ascii.specs.declared.layout.TheConstants.{CHARACTERS}

@@ -1,6 +1,5 @@
 -- Laws of the table of characters. That a table agrees with the rule is one test, computed over all of its entries; `agreement`
 -- turns it into the rule at each entry.
--- Assumes nothing.
 use mathlib.Core.Path.{◌≡◌, refl, sym, ap, ap₂, subst, ◌∙◌}
 use mathlib.Core.Bool.{Bool, true, false, not, ◌&&◌, ◌||◌, xor, true≢false}
 use mathlib.Core.List.{List, [], ◌∷◌}

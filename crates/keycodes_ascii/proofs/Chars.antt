@@ -1,5 +1,4 @@
 -- Laws of the characters: what Caps Lock does, and which flags matter.
--- Assumes nothing.
 use mathlib.Core.Path.{◌≡◌, refl}
 use mathlib.Core.Bool.{Bool, true, false, not, ◌||◌, xor, true≢false, false≢true}
 use Rattle.bits.specs.Bits.{bit}

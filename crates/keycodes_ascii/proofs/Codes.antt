@@ -1,5 +1,4 @@
 -- Laws over all keycodes: each is listed, so a test that is computed over the list holds of every keycode; its number gives it back.
--- Assumes nothing.
 use mathlib.Core.Path.{◌≡◌, refl, sym, ap, subst, ◌∙◌}
 use mathlib.Core.Bool.{Bool, true, false, cond}
 use mathlib.Core.List.{List, [], ◌∷◌}

@@ -1,5 +1,4 @@
 -- How the characters stand in the table of src/layout.rt, and when such a table agrees with the rule.
--- Assumes nothing.
 use Rattle.std.specs.Prelude.{◌≡◌, Bool, true, false, List, [], ℕ, zero, suc, get_or, Option, Some, None}
 use Rattle.keycodes_ascii.specs.declared.Keycode.{Keycode}
 use Rattle.keycodes_ascii.specs.Keycode.{number_of}

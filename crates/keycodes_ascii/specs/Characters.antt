@@ -1,5 +1,4 @@
 -- The characters, key by key: the US layout as the Rust has it.
--- Assumes nothing.
 use Rattle.std.specs.Prelude.{Bool, true, false, cond, ◌||◌, ℕ, Option, Some, None}
 use Rattle.std.specs.Bool.{xor}
 use Prim.Native.Char.{Char, code}

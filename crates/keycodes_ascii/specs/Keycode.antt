@@ -1,5 +1,4 @@
 -- The keycodes and their numbers: a keycode's number is the key's press code in scan code set 1.
--- Assumes nothing.
 use Rattle.std.specs.Prelude.{cond, List, [], ◌∷◌, ℕ, eqb, Option, Some, None, Result, ok_or}
 use Rattle.keycodes_ascii.specs.declared.Keycode.{Keycode}
 use Rattle.keycodes_ascii.specs.declared.NoKeycode.{NoKeycode}

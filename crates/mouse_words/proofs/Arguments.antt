@@ -1,5 +1,4 @@
 -- Every command, rate and resolution is found by its number.
--- Assumes nothing.
 use mathlib.Core.Option.{some}
 use mathlib.Core.Path.{◌≡◌, refl}
 use Rattle.bits.specs.Table.{decode}

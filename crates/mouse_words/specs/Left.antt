@@ -1,5 +1,4 @@
 -- An answer that comes with the mouse's record as it is left.
--- Assumes nothing.
 use Rattle.std.specs.Prelude.{List, ◌≡◌, ℕ}
 use Rattle.std.proofs.Math.Option.{Option}
 use Rattle.exchange.specs.Exchange.{End}

@@ -1,5 +1,4 @@
 -- From a promise on an answer by value to that on its numbers.
--- Assumes nothing.
 use Prim.Native.Nat.{ℕ}
 use mathlib.Core.List.{List}
 use mathlib.Core.Option.{Option, none, some}

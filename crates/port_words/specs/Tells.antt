@@ -1,5 +1,4 @@
 -- What functions promise that answer by numbers: the numbers are those of the operation's play.
--- Assumes nothing.
 use Rattle.std.specs.Prelude.{ℕ, List, ◌≡◌}
 use Rattle.std.proofs.Math.Option.{Option, none, some}
 use Rattle.exchange.specs.Exchange.{Exchange, End, play}

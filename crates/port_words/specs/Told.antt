@@ -1,5 +1,4 @@
 -- What the end of a play and its counts are as numbers.
--- Assumes nothing.
 use Rattle.std.specs.Prelude.{ℕ}
 use Rattle.exchange.specs.Exchange.{Lack, no_script, no_log, End, yields, lacks, number}
 use Rattle.exchange.specs.Answer.{Answer, gives, refuses, number_ended}

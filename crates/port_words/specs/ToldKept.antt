@@ -1,5 +1,4 @@
 -- The same with the bytes that the operation threw away.
--- Assumes nothing.
 use Rattle.std.specs.Prelude.{ℕ}
 use Rattle.exchange.specs.Exchange.{End, yields, lacks, told_end}
 use Rattle.exchange.specs.Answer.{Answer, number_ended}

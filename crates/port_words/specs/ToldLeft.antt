@@ -1,5 +1,4 @@
 -- The same of an operation on a record that is passed by value: its answer comes with the record as it is left.
--- Assumes nothing.
 use Rattle.std.specs.Prelude.{ℕ}
 use Rattle.exchange.specs.Exchange.{End, told_end}
 use Rattle.exchange.specs.Answer.{Answer}

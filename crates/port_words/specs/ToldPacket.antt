@@ -1,5 +1,4 @@
 -- The same of the reading of a mouse's packet, whose wheel is signed.
--- Assumes nothing.
 use Rattle.std.specs.Prelude.{ℕ, ◌+◌, ◌*◌, pos}
 use Rattle.bits.specs.Bits.{bit, weigh}
 use Rattle.exchange.specs.Exchange.{End}

@@ -1,5 +1,4 @@
 -- The questions of the four fields, and of the fifth behind them, one after another.
--- Assumes nothing.
 use mathlib.Core.Bool.{Bool, true, false, ◌&&◌}
 use mathlib.Core.Path.{◌≡◌, refl}
 use Prim.Native.Nat.{ℕ}

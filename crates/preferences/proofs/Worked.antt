@@ -1,5 +1,4 @@
 -- Closed examples of records as bytes, by computation.
--- Assumes nothing.
 use mathlib.Core.Path.{◌≡◌, refl}
 use mathlib.Core.List.{[], ◌∷◌}
 use Rattle.exchange.specs.Answer.{gives, refuses}

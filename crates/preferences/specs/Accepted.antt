@@ -1,5 +1,4 @@
 -- Which strings are accepted, and which question refuses the others: what the laws compare reading with.
--- Assumes nothing.
 use Rattle.std.specs.Prelude.{Bool, true, false, List, [], ◌∷◌, ◌++◌, ◌≡◌, ℕ, ◌<◌}
 use Rattle.exchange.specs.Answer.{gives, refuses}
 use Rattle.preferences.specs.Coding.{numbers_end, coding}

@@ -1,5 +1,4 @@
 -- What a string begins with: what the laws compare reading with.
--- Assumes nothing.
 use Rattle.std.specs.Prelude.{List, ◌++◌, ◌≡◌, ℕ, ◌<◌, length}
 use Rattle.exchange.specs.Answer.{gives, refuses}
 use Rattle.preferences.specs.Coding.{numbers_end, coding}

@@ -1,5 +1,4 @@
 -- The bytes of a number: "a number below 4,294,967,296 in groups of seven bits, lowest first, top bit set on all but the last, shortest form".
--- Assumes nothing.
 use Rattle.std.specs.Prelude.{cond, List, [], ◌∷◌, ℕ, zero, suc, ◌+◌, ◌/◌, ◌%◌, ltb}
 
 -- "below 4,294,967,296"

@@ -1,5 +1,4 @@
 -- The bytes of a record: "version, field count, then the fields in that order, each a number".
--- Assumes nothing.
 use Rattle.std.specs.Prelude.{cond, List, [], ◌∷◌, ◌++◌, ℕ, eqb}
 use Rattle.preferences.specs.Coding.{coding}
 use Rattle.preferences.specs.declared.Preferences.{Preferences}

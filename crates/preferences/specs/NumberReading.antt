@@ -1,5 +1,4 @@
 -- A number read from the start of a string of bytes.
--- Assumes nothing.
 use Rattle.std.specs.Prelude.{Bool, true, false, cond, not, ◌&&◌, List, [], ◌∷◌, ℕ, ◌+◌, ◌*◌, ◌-◌, eqb, ltb, length, Result, Ok, Err}
 use Rattle.std.proofs.Math.Option.{Option, none, some}
 use Rattle.exchange.specs.Answer.{Answer, gives, refuses}

@@ -1,5 +1,4 @@
 -- A record read from a string of bytes.
--- Assumes nothing.
 use Rattle.std.specs.Prelude.{Bool, true, cond, ◌||◌, List, [], ◌∷◌, ◌++◌, ℕ, eqb, take, drop, Result, Ok, Err}
 use Rattle.exchange.specs.Answer.{Answer, gives, refuses}
 use Rattle.preferences.specs.declared.numbers.Number.{Number}

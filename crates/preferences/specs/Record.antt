@@ -1,5 +1,4 @@
 -- What a record holds: its version, and its fields in order.
--- Assumes nothing.
 use Rattle.std.specs.Prelude.{Bool, List, [], ◌∷◌, ◌++◌, ℕ}
 use Rattle.preferences.specs.Values.{is_repeat_byte, four_values, each_within}
 use Rattle.preferences.specs.declared.Fields.{Fields}

@@ -1,5 +1,4 @@
 -- What the parts of a reading say of the whole: what private functions promise.
--- Assumes nothing.
 use Rattle.std.specs.Prelude.{Bool, true, false, cond, List, [], ◌∷◌, ◌++◌, ◌≡◌, ℕ, eqb, drop, Result, Ok, Err}
 use Rattle.exchange.specs.Answer.{Answer, refuses}
 use Rattle.preferences.specs.NumberReading.{read_number}

@@ -1,5 +1,4 @@
 -- The most reads and writes of an application, and scripts that take them.
--- Assumes nothing.
 use mathlib.Core.Bool.{Bool, true, false}
 use mathlib.Core.Path.{◌≡◌, refl}
 use Prim.Native.Nat.{ℕ}

@@ -1,5 +1,4 @@
 -- The values of the fields are the devices' own: each rate and resolution that the tables list, each scancode set but 0, which asks, and each state of the lamps.
--- Assumes nothing.
 use mathlib.Core.Bool.{Bool, true, false}
 use mathlib.Core.Path.{◌≡◌, refl}
 use Rattle.ps2_layouts.specs.Leds.{lamp_byte}

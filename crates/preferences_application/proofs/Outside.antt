@@ -1,5 +1,4 @@
 -- A record with a field outside its values is refused with 28 before any read or write; one within its values is applied, and never refused with 28.
--- Assumes nothing.
 use mathlib.Core.Bool.{true, false}
 use mathlib.Core.List.{List}
 use mathlib.Core.Path.{◌≡◌}

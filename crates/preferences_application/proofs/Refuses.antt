@@ -1,5 +1,4 @@
 -- What an application is refused with: each step with its own numbers, and with 28 nothing but a record that has a field outside its values.
--- Assumes nothing.
 use mathlib.Core.Bool.{Bool, true, false}
 use mathlib.Core.List.{List, [], ◌∷◌}
 use mathlib.Core.Path.{◌≡◌, refl}

@@ -1,5 +1,4 @@
 -- The bytes that the settings of a record send are its fields, each in its place.
--- Assumes nothing.
 use mathlib.Core.Bool.{Bool, true, false, ◌||◌, not}
 use mathlib.Core.Path.{◌≡◌, sym, subst}
 use Prim.Native.Nat.{ℕ}

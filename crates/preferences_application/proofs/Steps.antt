@@ -1,5 +1,4 @@
 -- The steps of an application: in field order, and those of version 2 are version 1's and then the repeat byte's.
--- Assumes nothing.
 use mathlib.Core.List.{List, [], ◌∷◌, ◌++◌}
 use mathlib.Core.Path.{◌≡◌, refl, sym, ◌∙◌, ap, fun_ext}
 use Prim.Native.Nat.{ℕ}

@@ -1,5 +1,4 @@
 -- Settings, one after another, from the place in the list that has been reached.
--- Assumes nothing.
 use Prim.Native.Nat.{ℕ, ◌+◌, ◌≤◌, ◌<◌}
 use native.Mathlib.Numerals.{add-one}
 use mathlib.Core.List.{List}

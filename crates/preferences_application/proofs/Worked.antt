@@ -1,5 +1,4 @@
 -- Closed runs of the application, by computation.
--- Assumes nothing.
 use mathlib.Core.List.{[], ◌∷◌, ◌++◌}
 use mathlib.Core.Path.{◌≡◌, refl}
 use Rattle.bits.specs.Bits.{bit, odd}

@@ -1,5 +1,4 @@
 -- The application of a record to the devices, as a tree of its reads and writes.
--- Assumes nothing.
 use Rattle.std.specs.Prelude.{cond, List, [], ◌∷◌, ℕ}
 use Rattle.exchange.specs.Exchange.{Exchange, done}
 use Rattle.exchange.specs.Answer.{Answer, gives, refuses, and_then}

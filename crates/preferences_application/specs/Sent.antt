@@ -1,5 +1,4 @@
 -- The byte by which a setting tells its device the value: the data behind its command.
--- Assumes nothing.
 use Rattle.std.specs.Prelude.{List, [], ◌∷◌, ℕ}
 use Rattle.ps2_bytes.specs.declared.writable.HostToKeyboardCommandOrData.TheVariants as Keyboard
 use Rattle.ps2_bytes.specs.declared.writable.HostToMouseCommandOrData.TheVariants as Mouse

@@ -1,5 +1,4 @@
 -- What the fields of a record ask of the devices, in their order.
--- Assumes nothing.
 use Rattle.std.specs.Prelude.{List, [], ◌∷◌, ◌++◌, ℕ}
 use Rattle.std.specs.Result.{result_unwrap_or}
 use Rattle.ps2_layouts.specs.declared.leds.LEDState.{LEDState}

@@ -1,5 +1,4 @@
 -- What is written of a record is read back as its numbers.
--- Assumes nothing.
 use mathlib.Core.Bool.{true}
 use mathlib.Core.Path.{◌≡◌, ap}
 use Rattle.preferences.specs.declared.Preferences.{Preferences}

@@ -1,5 +1,4 @@
 -- The numbers of a record stand for it.
--- Assumes nothing.
 use mathlib.Core.Option.{some}
 use mathlib.Core.Path.{◌≡◌, refl}
 use Rattle.preferences.specs.declared.Preferences.{Preferences}

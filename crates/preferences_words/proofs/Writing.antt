@@ -1,5 +1,4 @@
 -- A writing by numbers, from that of the record that they stand for.
--- Assumes nothing.
 use mathlib.Core.List.{List}
 use mathlib.Core.Option.{none}
 use mathlib.Core.Path.{◌≡◌}

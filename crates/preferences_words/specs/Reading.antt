@@ -1,5 +1,4 @@
 -- What a reader answers, as numbers.
--- Assumes nothing.
 use Rattle.std.specs.Prelude.{List, [], ◌∷◌, ℕ}
 use Rattle.exchange.specs.Answer.{Answer, gives, refuses}
 use Rattle.preferences.specs.Format.{field_count}

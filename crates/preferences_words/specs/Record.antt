@@ -1,5 +1,4 @@
 -- The six numbers of a record: its version, then its fields in order.
--- Assumes nothing.
 use Rattle.std.specs.Prelude.{cond, List, ℕ, eqb, get_or}
 use Rattle.std.proofs.Math.Option.{Option, none, some}
 use Rattle.preferences.specs.declared.Fields.{Fields}

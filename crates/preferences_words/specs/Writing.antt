@@ -1,5 +1,4 @@
 -- A record's numbers written into an output as bytes.
--- Assumes nothing.
 use Rattle.std.specs.Prelude.{List, ◌≡◌, length, ℕ}
 use Rattle.std.proofs.Math.Option.{Option, none, some}
 use Rattle.exchange.specs.Answer.{refuses, number_answered}

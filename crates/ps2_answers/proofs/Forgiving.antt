@@ -1,5 +1,4 @@
 -- The outcome of an exchange, from what the code's `outcome` answers: a value or a failure goes on, as what its play yields, and a lack ends the whole.
--- Assumes nothing.
 use Prim.Native.Nat.{ℕ}
 use mathlib.Core.List.{List}
 use mathlib.Core.Path.{◌≡◌, refl}

@@ -1,5 +1,4 @@
 -- One exchange after another, where each only reads: what is left of the whole, where a refusal ends it, its last exchange, and the turns of a repetition.
--- Assumes nothing.
 use Prim.Native.Nat.{ℕ, suc, ◌+◌, ◌≤◌, ◌<◌, ◌^◌}
 use native.Mathlib.Omega.{arith}
 use mathlib.Core.List.{List}

@@ -1,5 +1,4 @@
 -- A refusal is passed up unchanged: that of the first of two operations ends both.
--- Assumes nothing.
 use Prim.Native.Nat.{ℕ}
 use mathlib.Core.List.{List}
 use mathlib.Core.Path.{◌≡◌, refl}

@@ -1,5 +1,4 @@
 -- One exchange after another, from what the code's calls answered: what is left of the whole, where a refusal ends it, and its last exchange.
--- Assumes nothing.
 use Prim.Native.Nat.{ℕ, ◌+◌, ◌*◌, ◌≤◌, ◌<◌, ◌^◌}
 use native.Mathlib.Omega.{arith}
 use mathlib.Core.List.{List}

@@ -1,5 +1,4 @@
 -- What the code's answers say of the end of a play, and an answer with the counts of what came before it.
--- Assumes nothing.
 use Rattle.std.specs.Prelude.{ℕ, ◌+◌, ◌%◌, ◌^◌, ◌≡◌, List, Result, Ok, Err}
 use Rattle.exchange.specs.Exchange.{Exchange, End, yields, Played, played, play, Reads, Writes}
 use Rattle.exchange.specs.Answer.{Answer, gives}

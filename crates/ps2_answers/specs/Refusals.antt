@@ -1,5 +1,4 @@
 -- Refusals: the number that document 01 gives to each, and what an answer says of a play's end.
--- Assumes nothing.
 use Rattle.std.specs.Prelude.{ℕ}
 use Rattle.exchange.specs.Exchange.{Port, p60, p64, no_script, no_log, End, yields, lacks}
 use Rattle.exchange.specs.Exchange as exchange

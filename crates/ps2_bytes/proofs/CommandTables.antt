@@ -1,5 +1,4 @@
 -- The tables of commands list no byte twice, and which of their commands are never sent.
--- Assumes nothing.
 use mathlib.Core.Bool.{Bool, false, cond, ◌||◌}
 use mathlib.Core.List.{List, [], ◌∷◌}
 use mathlib.Core.Path.{◌≡◌, refl}

@@ -1,5 +1,4 @@
 -- Each byte of a table, decoded, gives back the value that it belongs to.
--- Assumes nothing.
 use mathlib.Core.Path.{◌≡◌, refl}
 use Rattle.std.specs.Prelude.{Ok}
 use Rattle.bits.specs.Table.{decode}

@@ -1,5 +1,4 @@
 -- Commands: the bytes of the OSDev wiki's tables, which row of them each of our commands is, and which command to a device a byte stands for.
--- Assumes nothing.
 use Rattle.std.specs.Prelude.{List, [], ◌∷◌, ℕ, Result, Ok, Err}
 use Prim.Native.String.{String}
 use Rattle.bits.specs.Table.{rows, decode, listed}

@@ -1,5 +1,4 @@
 -- Two commands to a device that acknowledges both at once, by computation.
--- Assumes nothing.
 use mathlib.Core.Bool.{Bool, true, false, not, cond, ◌&&◌, true≢false}
 use mathlib.Core.List.{List, [], ◌∷◌, ◌++◌}
 use mathlib.Core.Logic.{◌⊎◌, inl, inr, ⊎_elim}

@@ -1,5 +1,4 @@
 -- One attempt, from what the code's sending and receiving answered.
--- Assumes nothing.
 use Prim.Native.Nat.{ℕ}
 use mathlib.Core.List.{List}
 use mathlib.Core.Path.{◌≡◌, refl}

@@ -1,5 +1,4 @@
 -- The most reads and writes of a command (525,300 and 4, or 5 where D4 goes before it) and of the search for AA.
--- Assumes nothing.
 use Prim.Native.Nat.{ℕ, suc, ◌+◌, ◌*◌, ◌<◌}
 use native.Mathlib.Omega.{arith}
 use mathlib.Core.Bool.{Bool, true, false, cond}

@@ -1,5 +1,4 @@
 -- What a command, and the search for AA, refuse with.
--- Assumes nothing.
 use Prim.Native.Nat.{ℕ}
 use mathlib.Core.Bool.{Bool}
 use mathlib.Core.List.{List, [], ◌∷◌}

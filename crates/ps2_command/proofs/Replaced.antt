@@ -1,5 +1,4 @@
 -- An operation whose refusals are replaced by a failure of its own, from what the code's operation inside answered.
--- Assumes nothing.
 use Prim.Native.Nat.{ℕ}
 use mathlib.Core.List.{List}
 use mathlib.Core.Path.{◌≡◌, refl}

@@ -1,5 +1,4 @@
 -- A reset needs an AA of its own, after the response that accepted its command; and 10 needs all its reads.
--- Assumes nothing.
 use Prim.Native.Nat.{ℕ}
 use mathlib.Core.List.{List}
 use mathlib.Core.Path.{◌≡◌, refl}

@@ -1,5 +1,4 @@
 -- What closed runs are written with.
--- Assumes nothing.
 use Prim.Native.Nat.{ℕ}
 use mathlib.Core.List.{List, [], ◌∷◌}
 use Rattle.exchange.specs.Repeat.{times}

@@ -1,5 +1,4 @@
 -- What a script must have brought where a search gives a byte, or refuses.
--- Assumes nothing.
 use Prim.Native.Nat.{ℕ}
 use mathlib.Core.Bool.{Bool, true, false, cond}
 use mathlib.Core.List.{List, [], ◌∷◌}

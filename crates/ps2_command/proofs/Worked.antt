@@ -1,5 +1,4 @@
 -- Closed runs of a command, by computation: one for each kind of response.
--- Assumes nothing.
 use mathlib.Core.List.{List, [], ◌∷◌, ◌++◌}
 use mathlib.Core.Path.{◌≡◌, refl}
 use Prim.Native.Nat.{ℕ}

@@ -1,5 +1,4 @@
 -- A device that acknowledges two commands at once: nothing is waited for, and nothing is thrown away.
--- Assumes nothing.
 use Rattle.std.specs.Prelude.{Option, Some, None, Bool, false, not, cond, ◌&&◌, List, [], ◌∷◌, ◌≡◌, ℕ, ◌*◌, ◌<◌, ◌≤◌, eqb, leb, length, set, drop}
 use Rattle.bits.specs.Bits.{bit}
 use Rattle.exchange.specs.Exchange.{Exchange, yields}

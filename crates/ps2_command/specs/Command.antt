@@ -1,5 +1,4 @@
 -- The command rule: one byte to a device, in up to four attempts.
--- Assumes nothing.
 use Rattle.std.specs.Prelude.{ℕ, Bool, true, false, Result, Ok, Err}
 use Rattle.exchange.specs.Exchange.{Exchange, done, bind}
 use Rattle.exchange.specs.Answer.{Answer, gives, refuses, and_then}

@@ -1,5 +1,4 @@
 -- A refusal that an operation's own failure replaces.
--- Assumes nothing.
 use Rattle.ps2_answers.specs.declared.Failure.{Failure}
 use Rattle.ps2_answers.specs.declared.Refusal.{Refusal}
 use Rattle.ps2_answers.specs.declared.Refusal.TheVariants.{Lacking, Failed}

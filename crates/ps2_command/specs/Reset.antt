@@ -1,5 +1,4 @@
 -- What a script brings to a reset: an AA of its own, or none.
--- Assumes nothing.
 use Rattle.std.specs.Prelude.{ℕ, List, ◌≡◌}
 use Rattle.exchange.specs.Exchange.{Exchange, yields, play}
 use Rattle.exchange.specs.Answer.{Answer, gives}

@@ -1,5 +1,4 @@
 -- Searches for a byte: polls of the status, and reads of data without it.
--- Assumes nothing.
 use Rattle.std.specs.Prelude.{ℕ, Bool, true, false, cond, List, ◌∷◌, ◌≡◌}
 use Rattle.bits.specs.Table.{decode}
 use Rattle.exchange.specs.Exchange.{p64, Exchange, done, read}

@@ -1,5 +1,4 @@
 -- The most reads and writes of a detection, and a script that takes them.
--- Assumes nothing.
 use native.Mathlib.Omega.{arith}
 use Rattle.bits.specs.Table.{decode}
 use Rattle.exchange.specs.Exchange.{done}

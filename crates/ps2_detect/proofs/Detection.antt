@@ -1,5 +1,4 @@
 -- 12: what must have been read before it.
--- Assumes nothing.
 use Prim.Native.Nat.{ℕ}
 use native.Mathlib.Omega.{arith}
 use mathlib.Core.List.{List}

@@ -1,5 +1,4 @@
 -- What a detection refuses with.
--- Assumes nothing.
 use mathlib.Core.List.{[], ◌∷◌}
 use Rattle.exchange.specs.Only.{only_done}
 use Rattle.exchange.specs.Refuses.{RefusesWith, Refuses}

@@ -1,5 +1,4 @@
 -- One turn of the two searches of a detection, from what the code made of a byte.
--- Assumes nothing.
 use Prim.Native.Nat.{ℕ}
 use mathlib.Core.Bool.{true, false}
 use mathlib.Core.Path.{◌≡◌, refl}

@@ -1,5 +1,4 @@
 -- What the detection's code says of a search, and of a byte.
--- Assumes nothing.
 use Rattle.std.specs.Prelude.{ℕ, Option, Some, None, Result, Ok, Err}
 use Rattle.bits.specs.Table.{decode}
 use Rattle.exchange.specs.Answer.{Answer, gives, refuses}

@@ -1,5 +1,4 @@
 -- The detection of a keyboard's type as a tree of its reads and writes.
--- Assumes nothing.
 use Rattle.std.specs.Prelude.{cond, List, [], ◌∷◌, ℕ, eqb}
 use Rattle.exchange.specs.Exchange.{Exchange, done, bind}
 use Rattle.exchange.specs.Answer.{Answer, gives, refuses, and_then}

@@ -1,5 +1,4 @@
 -- Parts of the detection that are functions of their own in the code.
--- Assumes nothing.
 use Rattle.exchange.specs.Exchange.{Exchange, done, bind}
 use Rattle.exchange.specs.Answer.{Answer, and_then}
 use Rattle.ps2_bytes.specs.declared.command.HostToKeyboardCommand.TheVariants.{EnableScanning}

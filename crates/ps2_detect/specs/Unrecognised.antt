@@ -1,5 +1,4 @@
 -- What a script brings to a keyboard detection that recognises no type.
--- Assumes nothing.
 use Rattle.std.specs.Prelude.{ℕ, List, ◌≡◌}
 use Rattle.bits.specs.Bits.{bit}
 use Rattle.exchange.specs.Exchange.{yields, play}

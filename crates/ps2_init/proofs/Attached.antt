@@ -1,5 +1,4 @@
 -- A device is attached exactly where its reset passed, whatever the record said before.
--- Assumes nothing.
 use Prim.Native.Nat.{ℕ}
 use mathlib.Core.Bool.{Bool, true}
 use mathlib.Core.List.{List}

@@ -1,5 +1,4 @@
 -- The most reads and writes of initialisation, 1,837,024 and 24, and a script that takes them.
--- Assumes nothing.
 use Prim.Native.Nat.{ℕ}
 use native.Mathlib.Omega.{arith}
 use mathlib.Core.Bool.{Bool, true, false, cond}

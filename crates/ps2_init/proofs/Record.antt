@@ -1,5 +1,4 @@
 -- The record that `init` leaves, from what the code's steps answered.
--- Assumes nothing.
 use Prim.Native.Nat.{ℕ}
 use mathlib.Core.Bool.{Bool, true, false, cond}
 use mathlib.Core.List.{List}

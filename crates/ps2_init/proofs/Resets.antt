@@ -1,5 +1,4 @@
 -- The resets one by one, each followed by all that comes after it.
--- Assumes nothing.
 use mathlib.Core.Bool.{Bool}
 use mathlib.Core.Path.{◌≡◌, ap, ◌∙◌, fun_ext}
 use Rattle.exchange.specs.Exchange.{Exchange, done, bind}

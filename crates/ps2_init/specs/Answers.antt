@@ -1,5 +1,4 @@
 -- What the answer of the initialisation's code says of the end of a play.
--- Assumes nothing.
 use Rattle.std.specs.Prelude.{Result}
 use Rattle.exchange.specs.Exchange.{End, told_end}
 use Rattle.exchange.specs.Left.{Left, left}

@@ -1,5 +1,4 @@
 -- Which record `init` leaves with which answer.
--- Assumes nothing.
 use Rattle.std.specs.Prelude.{Bool, true, false, ◌≡◌}
 use Rattle.exchange.specs.Answer.{gives, refuses}
 use Rattle.exchange.specs.Left.{Left, left}

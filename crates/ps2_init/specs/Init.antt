@@ -1,5 +1,4 @@
 -- Initialisation of the controller as a tree of its reads and writes, and the devices that it found.
--- Assumes nothing.
 use Rattle.std.specs.Prelude.{Bool, true, cond, Option, Some, None}
 use Rattle.bits.specs.Bits.{bit}
 use Rattle.exchange.specs.Exchange.{Exchange, done, bind}

@@ -1,5 +1,4 @@
 -- Promises of functions that hand back bytes: from nothing kept; and without the bytes, the promise of the operation as it was.
--- Assumes nothing.
 use Prim.Native.Nat.{ℕ, ◌≤◌}
 use mathlib.Core.List.{List, []}
 use mathlib.Core.Path.{◌≡◌, refl, ◌∙◌}

@@ -1,5 +1,4 @@
 -- One operation after another, with the bytes kept handed on from the first to the second.
--- Assumes nothing.
 use Prim.Native.Nat.{ℕ, ◌+◌, ◌*◌}
 use mathlib.Core.List.{List}
 use mathlib.Core.Path.{◌≡◌, refl, ap}

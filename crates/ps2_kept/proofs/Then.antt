@@ -1,5 +1,4 @@
 -- One exchange after another with the bytes that are kept, from what the code's calls answered.
--- Assumes nothing.
 use Prim.Native.Nat.{ℕ, ◌+◌, ◌*◌, ◌≤◌, ◌<◌, ◌^◌}
 use native.Mathlib.Omega.{arith}
 use mathlib.Core.List.{List}

@@ -1,5 +1,4 @@
 -- The list of all bytes that an operation throws away, and what code keeps of it byte by byte.
--- Assumes nothing.
 use Prim.Native.Nat.{ℕ, suc, ◌+◌, ◌≤◌}
 use native.Mathlib.Omega.{arith}
 use mathlib.Core.Bool.{Bool, true, false, cond}

@@ -1,5 +1,4 @@
 -- Bytes that come behind those kept before, one by one, as code adds them.
--- Assumes nothing.
 use Rattle.std.specs.Prelude.{ℕ, ◌+◌, cond, List, [], ◌∷◌, ltb, set}
 use Rattle.exchange.specs.Exchange.{Exchange}
 use Rattle.exchange.specs.Keeping.{Kept, keeping}

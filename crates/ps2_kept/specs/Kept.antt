@@ -1,5 +1,4 @@
 -- What is handed back of the bytes that were thrown away.
--- Assumes nothing.
 use Rattle.std.specs.Prelude.{ℕ, ◌-◌, List, [], ◌++◌, length, take, replicate}
 use Rattle.exchange.specs.Exchange.{Exchange, done, bind, End, yields, lacks}
 use Rattle.exchange.specs.Keeping.{Kept, keeping, retold}

@@ -1,5 +1,4 @@
 -- What the code's functions promise that hand back bytes beside their answer and counts.
--- Assumes nothing.
 use Rattle.std.specs.Prelude.{ℕ, List, ◌≡◌, Result}
 use Rattle.exchange.specs.Answer.{Answer}
 use Rattle.exchange.specs.Exchange.{Exchange, End, Reads, Played, played, play}

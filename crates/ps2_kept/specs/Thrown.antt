@@ -1,5 +1,4 @@
 -- The bytes that an operation throws away.
--- Assumes nothing.
 use Rattle.std.specs.Prelude.{ℕ, Bool, true, false, cond, List, [], ◌∷◌, ◌++◌}
 use Rattle.bits.specs.Table.{decode}
 use Rattle.exchange.specs.Exchange.{p60, p64}

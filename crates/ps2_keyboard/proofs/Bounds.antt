@@ -1,5 +1,4 @@
 -- The most reads and writes of each of the keyboard's operations, and scripts that take them.
--- Assumes nothing.
 use native.Mathlib.Omega.{arith}
 use mathlib.Core.Bool.{true}
 use Rattle.bits.specs.Bits.{bit, odd}

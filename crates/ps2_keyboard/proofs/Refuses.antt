@@ -1,5 +1,4 @@
 -- What each of the keyboard's operations refuses with.
--- Assumes nothing.
 use Prim.Native.Nat.{ℕ}
 use mathlib.Core.List.{[], ◌∷◌}
 use Rattle.exchange.specs.Exchange.{Exchange}

@@ -1,5 +1,4 @@
 -- The keyboard's reset needs an AA of its own, after the response that accepted FF; and 10 needs 262,140 data reads.
--- Assumes nothing.
 use mathlib.Core.List.{List}
 use mathlib.Core.Path.{◌≡◌}
 use Prim.Native.Nat.{ℕ}

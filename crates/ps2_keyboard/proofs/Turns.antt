@@ -1,5 +1,4 @@
 -- One turn of a search by a table, from what the code made of a byte.
--- Assumes nothing.
 use Rattle.std.specs.Prelude.{Result, Ok, Err}
 use Rattle.ps2_bytes.specs.declared.Unlisted.{Unlisted}
 use Prim.Native.Nat.{ℕ}

@@ -1,5 +1,4 @@
 -- The keyboard's operations, each as a tree of its reads and writes.
--- Assumes nothing.
 use Rattle.std.specs.Prelude.{Bool, ℕ}
 use Rattle.bits.specs.Bits.{bit}
 use Rattle.exchange.specs.Exchange.{Exchange, done}

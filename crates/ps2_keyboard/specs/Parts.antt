@@ -1,5 +1,4 @@
 -- A part of the keyboard's operations that is a function of its own in the code.
--- Assumes nothing.
 use Rattle.exchange.specs.Exchange.{Exchange}
 use Rattle.exchange.specs.Answer.{Answer, refuses}
 use Rattle.exchange.specs.Repeat.{repeat}

@@ -1,5 +1,4 @@
 -- The LEDs' byte, put together bit by bit, is the sum of the lamps' weights.
--- Assumes nothing.
 use mathlib.Core.Path.{◌≡◌, refl}
 use mathlib.Core.Bool.{Bool, true, false}
 use Rattle.bits.specs.Bits.{put_bit}

@@ -1,5 +1,4 @@
 -- The configuration byte: its bits as the OSDev wiki's "8042 PS/2 Controller" numbers them.
--- Assumes nothing.
 use Rattle.std.specs.Prelude.{ℕ}
 
 -- The first port's interrupt is enabled.

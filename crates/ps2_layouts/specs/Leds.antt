@@ -1,5 +1,4 @@
 -- The keyboard's LEDs: the bits of the byte that follows ED.
--- Assumes nothing.
 use Rattle.std.specs.Prelude.{Bool, ℕ, ◌+◌, ◌*◌}
 use Rattle.bits.specs.Bits.{weigh}
 

@@ -1,5 +1,4 @@
 -- The status register: its bits as the OSDev wiki's "8042 PS/2 Controller" numbers them.
--- Assumes nothing.
 use Rattle.std.specs.Prelude.{ℕ}
 
 -- Output buffer full: must be set before a read of port 60.

@@ -1,5 +1,4 @@
 -- The most reads and writes of each of the mouse's operations, and scripts that take them.
--- Assumes nothing.
 use Prim.Native.Nat.{ℕ}
 use native.Mathlib.Omega.{arith}
 use mathlib.Core.Bool.{true}

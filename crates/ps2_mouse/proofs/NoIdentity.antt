@@ -1,5 +1,4 @@
 -- 11 of a mouse: F2 was accepted, and then none of 65,535 polls brought an identity.
--- Assumes nothing.
 use Prim.Native.Nat.{ℕ}
 use mathlib.Core.List.{List}
 use mathlib.Core.Path.{◌≡◌}

@@ -1,5 +1,4 @@
 -- One poll for an identity, from what the code's reads answer.
--- Assumes nothing.
 use Rattle.std.specs.Prelude.{Option, Result, Ok, Err}
 use Rattle.std.specs.Result.{result_ok}
 use Rattle.ps2_bytes.specs.declared.Unlisted.{Unlisted}

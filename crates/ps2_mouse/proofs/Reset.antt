@@ -1,5 +1,4 @@
 -- The mouse's reset needs an AA of its own, after the response that accepted FF; and 10 needs 196,605 data reads.
--- Assumes nothing.
 use Prim.Native.Nat.{ℕ}
 use mathlib.Core.List.{List}
 use mathlib.Core.Path.{◌≡◌}

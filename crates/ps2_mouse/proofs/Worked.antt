@@ -1,5 +1,4 @@
 -- Closed runs of the mouse's reset, by computation.
--- Assumes nothing.
 use mathlib.Core.List.{[], ◌∷◌}
 use mathlib.Core.Path.{◌≡◌, refl}
 use Rattle.bits.specs.Bits.{bit, odd}

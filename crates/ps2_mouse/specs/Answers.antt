@@ -1,5 +1,4 @@
 -- The record of a new mouse, and what the code's poll for an identity is worth.
--- Assumes nothing.
 use Rattle.std.specs.Prelude.{Option, Some, None}
 use Rattle.exchange.specs.Answer.{Answer, gives}
 use Rattle.exchange.specs.Repeat.{Turn, found, again}

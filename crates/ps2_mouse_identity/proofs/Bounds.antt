@@ -1,5 +1,4 @@
 -- The most reads and writes of `set_mouse_id`, and a script that takes them.
--- Assumes nothing.
 use Prim.Native.Nat.{suc, ◌*◌, ◌+◌}
 use native.Mathlib.Omega.{arith}
 use mathlib.Core.List.{List, [], ◌∷◌}

@@ -1,5 +1,4 @@
 -- What follows an identity that was asked for after some rates, by what was read of it: grouped as the definitions have it.
--- Assumes nothing.
 use Prim.Native.Nat.{ℕ}
 use mathlib.Core.List.{List}
 use mathlib.Core.Path.{◌≡◌, refl, ap, ◌∙◌, fun_ext}

@@ -1,5 +1,4 @@
 -- The mouse's record at each end of `set_mouse_id`.
--- Assumes nothing.
 use Prim.Native.Nat.{ℕ}
 use mathlib.Core.List.{List, [], ◌∷◌}
 use mathlib.Core.Path.{◌≡◌, refl}

@@ -1,5 +1,4 @@
 -- The record that `set_mouse_id` leaves: where no identity was found as it was passed, and else as the start of the packets leaves it.
--- Assumes nothing.
 use Prim.Native.Nat.{ℕ, ◌+◌, ◌*◌, ◌≤◌, ◌<◌, ◌^◌}
 use native.Mathlib.Omega.{arith}
 use mathlib.Core.Bool.{true, false, true≢false}

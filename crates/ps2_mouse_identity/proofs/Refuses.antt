@@ -1,5 +1,4 @@
 -- What `set_mouse_id` refuses with before F4: 13, 15 and 16. Its own identities refuse nothing.
--- Assumes nothing.
 use Prim.Native.Nat.{ℕ}
 use mathlib.Core.List.{List, [], ◌∷◌}
 use Rattle.exchange.specs.Answer.{Answer, gives, refuses}

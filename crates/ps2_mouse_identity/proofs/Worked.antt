@@ -1,5 +1,4 @@
 -- Closed runs of `set_mouse_id`, by computation.
--- Assumes nothing.
 use Prim.Native.Nat.{ℕ}
 use mathlib.Core.List.{List, [], ◌∷◌, ◌++◌}
 use mathlib.Core.Path.{◌≡◌, refl}

@@ -1,5 +1,4 @@
 -- What the answers of the code that sets the identity say of the ends of plays.
--- Assumes nothing.
 use Rattle.std.specs.Prelude.{Option, Result}
 use Rattle.exchange.specs.Exchange.{End, told_end}
 use Rattle.exchange.specs.Answer.{Answer, gives}

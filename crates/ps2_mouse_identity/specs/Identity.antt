@@ -1,5 +1,4 @@
 -- `set_mouse_id`: the sequence of rates and identities, and the mouse's record at each of its ends.
--- Assumes nothing.
 use Rattle.std.specs.Prelude.{List, [], ◌∷◌, Option, Some, None}
 use Rattle.exchange.specs.Exchange.{Exchange, done, bind}
 use Rattle.exchange.specs.Answer.{Answer, gives, refuses, and_then}

@@ -1,5 +1,4 @@
 -- Which record `set_mouse_id` leaves with which answer.
--- Assumes nothing.
 use Rattle.std.specs.Prelude.{ℕ, [], ◌∷◌, T}
 use Rattle.exchange.specs.Answer.{gives, refuses}
 use Rattle.exchange.specs.Left.{Left, left}

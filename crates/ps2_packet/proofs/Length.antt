@@ -1,5 +1,4 @@
 -- The length of a packet.
--- Assumes nothing.
 use mathlib.Core.Path.{◌≡◌, refl}
 use lib.ListN.{length}
 use Rattle.ps2_packet.specs.Packet.{packet_id, packet_bytes, packet_length}

@@ -1,5 +1,4 @@
 -- To read the four bits of the wheel as signed changes the wheel of identity 4 alone.
--- Assumes nothing.
 use mathlib.Core.Path.{◌≡◌, refl}
 use Prim.Native.Nat.{ℕ}
 use native.Mathlib.Omega.{arith}

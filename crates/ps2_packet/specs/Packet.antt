@@ -1,5 +1,4 @@
 -- Mouse packets: what their bits mean.
--- Assumes nothing.
 use Rattle.std.specs.Prelude.{Bool, false, cond, List, [], ◌∷◌, ◌++◌, ℕ, ◌%◌, ℤ, pos}
 use Rattle.bits.specs.Bits.{bit}
 use Rattle.ps2_packet.specs.Signed.{less_if, twos_complement}

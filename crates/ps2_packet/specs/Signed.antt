@@ -1,5 +1,4 @@
 -- Signed numbers in bits, ranges of them, and their remainders.
--- Assumes nothing.
 use Rattle.std.specs.Prelude.{◌≡◌, Bool, cond, ℕ, zero, suc, ◌%◌, ◌^◌, ℤ, pos, ◌+ℤ◌, ◌-ℤ◌, ◌*ℤ◌, ◌≤ℤ◌}
 use Rattle.bits.specs.Bits.{bit}
 

@@ -1,5 +1,4 @@
 -- What it changes to read the four bits of a five-button mouse's wheel as signed.
--- Assumes nothing.
 use Rattle.std.specs.Prelude.{◌≡◌, pos, neg_ℤ}
 use Rattle.ps2_bytes.specs.declared.response.MouseId.TheVariants.{Four}
 use Rattle.ps2_packet.specs.Signed.{Between, AgreeModulo}

@@ -1,5 +1,4 @@
 -- An operation, and the same one that gives what it gave in another form: their plays are alike.
--- Assumes nothing.
 use Prim.Native.Nat.{ℕ}
 use mathlib.Core.List.{List}
 use mathlib.Core.Path.{◌≡◌, refl}

@@ -1,5 +1,4 @@
 -- The reads of a packet.
--- Assumes nothing.
 use native.Mathlib.Omega.{arith}
 use Rattle.exchange.specs.Answer.{gives}
 use Rattle.exchange.specs.Attains.{attains_done, attains_read, Most}

@@ -1,5 +1,4 @@
 -- A packet is read from just its bytes, in their order; from fewer it is not.
--- Assumes nothing.
 use Prim.Native.Nat.{ℕ, ◌<◌}
 use native.Mathlib.Omega.{arith}
 use mathlib.Core.List.{List, [], ◌∷◌}

@@ -1,5 +1,4 @@
 -- The three bytes that every packet starts with, and what follows them at each identity: the reading of the packet.
--- Assumes nothing.
 use mathlib.Core.Path.{◌≡◌, refl}
 use Rattle.exchange.specs.Exchange.{Exchange, done, bind}
 use Rattle.exchange.specs.Answer.{Answer, gives, and_then}

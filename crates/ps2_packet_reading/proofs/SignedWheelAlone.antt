@@ -1,5 +1,4 @@
 -- The two packet reads differ in the wheel of identity 4 alone: for every identity, script and log.
--- Assumes nothing.
 use Prim.Native.Nat.{ℕ}
 use mathlib.Core.List.{List}
 use Rattle.exchange.specs.Exchange.{play}

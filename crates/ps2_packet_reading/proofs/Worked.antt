@@ -1,5 +1,4 @@
 -- Closed runs of the read with a signed wheel, by computation.
--- Assumes nothing.
 use mathlib.Core.List.{[], ◌∷◌}
 use mathlib.Core.Path.{◌≡◌, refl}
 use lib.IntN.{pos, neg_ℤ}

@@ -1,5 +1,4 @@
 -- Two plays that differ in what they give alone.
--- Assumes nothing.
 use Rattle.std.specs.Prelude.{ℕ, ◌≡◌}
 use Rattle.exchange.specs.Exchange.{Lack, End, yields, lacks, Played}
 use Rattle.exchange.specs.Answer.{Answer, gives, refuses}

@@ -1,5 +1,4 @@
 -- The reading of a mouse's packet as a tree of its reads.
--- Assumes nothing.
 use Rattle.std.specs.Prelude.{ℕ}
 use Rattle.exchange.specs.Exchange.{p60, Exchange, done, read}
 use Rattle.exchange.specs.Answer.{Answer, gives, and_then}

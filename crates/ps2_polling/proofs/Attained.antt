@@ -1,5 +1,4 @@
 -- Polling and the controller's tests can take their most reads and writes and still succeed: what is waited for comes with the last turn.
--- Assumes nothing.
 use Prim.Native.Nat.{ℕ, ◌<◌}
 use native.Mathlib.Omega.{arith}
 use mathlib.Core.Path.{◌≡◌}

@@ -1,5 +1,4 @@
 -- The most reads and writes of sending, receiving and the tests, and scripts that reach them.
--- Assumes nothing.
 use mathlib.Core.Bool.{Bool, true, false, cond}
 use Prim.Native.Nat.{ℕ, zero, suc, ◌+◌}
 use mathlib.Core.List.{List, [], ◌∷◌, ◌++◌}

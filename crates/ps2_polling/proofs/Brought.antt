@@ -1,5 +1,4 @@
 -- A poll whose byte is worth something else than an answer, from what the code's one poll answers.
--- Assumes nothing.
 use Prim.Native.Nat.{ℕ}
 use mathlib.Core.List.{List, []}
 use mathlib.Core.Path.{◌≡◌, refl, sym, ap}

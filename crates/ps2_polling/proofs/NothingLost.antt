@@ -1,5 +1,4 @@
 -- A receiving loses no data byte: each that it read is the response, or is among the bytes that it threw away.
--- Assumes nothing.
 use Rattle.std.specs.Prelude.{Result, Ok, Err}
 use Rattle.ps2_bytes.specs.declared.Unlisted.{Unlisted}
 use Prim.Native.Nat.{ℕ, zero, suc}

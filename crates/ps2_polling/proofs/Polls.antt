@@ -1,5 +1,4 @@
 -- One turn of a polling, from what the code's one read or one poll answers.
--- Assumes nothing.
 use Rattle.ps2_bytes.specs.declared.Unlisted.{Unlisted}
 use mathlib.Core.Bool.{Bool, true, false, cond, true≢false}
 use Prim.Native.Nat.{ℕ}

@@ -1,5 +1,4 @@
 -- One poll of a receiving that keeps what it throws away, from what the code's one poll answers.
--- Assumes nothing.
 use Rattle.std.specs.Prelude.{Result, Ok, Err}
 use Rattle.ps2_bytes.specs.declared.response.DeviceToHostResponse.{DeviceToHostResponse}
 use Rattle.ps2_bytes.specs.declared.Unlisted.{Unlisted}

@@ -1,5 +1,4 @@
 -- What polling and the controller's tests refuse with, and what they write.
--- Assumes nothing.
 use Prim.Native.Nat.{ℕ}
 use mathlib.Core.List.{List, [], ◌∷◌}
 use mathlib.Core.Path.{◌≡◌, refl}

@@ -1,5 +1,4 @@
 -- No 4, 5, 8 or 9 before the script held the full number of status bytes, polls or data bytes, all of them in vain.
--- Assumes nothing.
 use Rattle.std.specs.Prelude.{Result, Ok, Err}
 use Rattle.ps2_bytes.specs.declared.response.DeviceToHostResponse.{DeviceToHostResponse}
 use Rattle.ps2_bytes.specs.declared.Unlisted.{Unlisted}

@@ -1,5 +1,4 @@
 -- Closed examples of the polling: what is read, written and answered on given scripts and logs.
--- Assumes nothing.
 use mathlib.Core.List.{[], ◌∷◌, ◌++◌}
 use mathlib.Core.Path.{◌≡◌, refl}
 use lib.ListN.{replicate}

@@ -1,5 +1,4 @@
 -- Polling: sending a byte to a device, receiving a response, and the controller's tests, as operations on the ports.
--- Assumes nothing.
 use Rattle.std.specs.Prelude.{cond, ℕ, eqb, Option, Some, None}
 use Rattle.bits.specs.Bits.{bit}
 use Rattle.bits.specs.Table.{decode}

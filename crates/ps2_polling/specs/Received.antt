@@ -1,5 +1,4 @@
 -- What becomes of the data bytes that a receiving reads: the words of the law that none is lost.
--- Assumes nothing.
 use Rattle.std.specs.Prelude.{Ok}
 use Rattle.std.specs.Prelude.{ℕ, List, [], ◌∷◌, ◌++◌, ◌≡◌}
 use Rattle.exchange.specs.Exchange.{p60, p64}

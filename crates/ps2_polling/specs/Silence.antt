@@ -1,5 +1,4 @@
 -- What a script must hold before a polling may give up: the words of the laws on 4, 5, 8 and 9.
--- Assumes nothing.
 use Rattle.std.specs.Prelude.{true, false, ℕ, suc, ◌≤◌, ◌<◌, List, ◌∷◌, ◌≡◌, length, get_or}
 use Rattle.bits.specs.Bits.{bit}
 use Rattle.ps2_bytes.specs.Responses.{response_byte}

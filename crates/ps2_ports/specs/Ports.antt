@@ -1,5 +1,4 @@
 -- The registers of the controller, as operations on its ports. Data is port 60; status and commands are port 64.
--- Assumes nothing.
 use Rattle.std.specs.Prelude.{ℕ}
 use Rattle.exchange.specs.Exchange.{Port, p60, p64, Exchange, done, read, write}
 use Rattle.exchange.specs.Answer.{Answer, gives}

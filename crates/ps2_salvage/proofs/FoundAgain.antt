@@ -1,5 +1,4 @@
 -- Packets and loose bytes, laid out with a short tail behind them, are found again.
--- Assumes nothing.
 use mathlib.Core.Path.{◌≡◌, refl, sym}
 use mathlib.Core.List.{List, ◌++◌}
 use Prim.Native.Nat.{ℕ, ◌≤◌}

@@ -1,5 +1,4 @@
 -- A pass that is under way: what was written so far, and what the pieces ahead come to, are the whole.
--- Assumes nothing.
 use mathlib.Core.Bool.{true, false}
 use mathlib.Core.Path.{◌≡◌, refl, ap, ap₂, sym, ◌∙◌}
 use mathlib.Core.List.{List, [], ◌∷◌, ◌++◌, append-nil}

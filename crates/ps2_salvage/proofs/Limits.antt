@@ -1,5 +1,4 @@
 -- What a recording needs of its outputs: 30 exactly where there is less.
--- Assumes nothing.
 use mathlib.Core.Path.{◌≡◌, refl, ap, sym, ◌∙◌}
 use mathlib.Core.List.{List, [], ◌∷◌, ◌++◌, append-nil}
 use mathlib.Core.Logic.{◌⊎◌, ⊎_elim}

@@ -1,5 +1,4 @@
 -- "Packet bytes, dropped bytes and unused rest together are the input, each byte in its place."
--- Assumes nothing.
 use mathlib.Core.Bool.{true, false}
 use mathlib.Core.Path.{subst, ◌≡◌, refl, ap, ap₂, sym, ◌∙◌}
 use mathlib.Core.List.{List, [], ◌∷◌, ◌++◌, append_assoc}

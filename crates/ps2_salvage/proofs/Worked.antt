@@ -1,5 +1,4 @@
 -- Passes worked out: recordings of a few bytes, with what document 02 says of each.
--- Assumes nothing.
 use mathlib.Core.Path.{◌≡◌, refl}
 use mathlib.Core.List.{List, [], ◌∷◌}
 use Prim.Native.Nat.{ℕ}

@@ -1,5 +1,4 @@
 -- Two passes, one after the other.
--- Assumes nothing.
 use Rattle.std.specs.Prelude.{List, ◌++◌, map, ℕ, ◌+◌, ◌-◌, length, drop}
 use Rattle.ps2_bytes.specs.declared.response.MouseId.{MouseId}
 use Rattle.ps2_salvage.specs.Salvage.{Outcome, salvaged}

@@ -1,5 +1,4 @@
 -- What a recording needs of its outputs.
--- Assumes nothing.
 use Rattle.std.specs.Prelude.{◌≡◌, List, ◌⊎◌, ℕ, ◌≤◌, ◌<◌, length, drop, Ok, Err}
 use Rattle.ps2_bytes.specs.declared.response.MouseId.{MouseId}
 use Rattle.ps2_salvage.specs.declared.SalvageRefusal.TheVariants.{NoRoom}

@@ -1,5 +1,4 @@
 -- What a recording of a mouse's bytes is made of.
--- Assumes nothing.
 use Rattle.std.specs.Prelude.{Bool, cond, List, [], ◌∷◌, ◌++◌, ℕ, zero, suc, ◌+◌, ◌-◌, leb, length, take}
 use Rattle.bits.specs.Bits.{bit}
 use Rattle.ps2_bytes.specs.declared.response.MouseId.{MouseId}

@@ -1,5 +1,4 @@
 -- A pass over a recording: what is put into its two outputs, and how it ends.
--- Assumes nothing.
 use Rattle.std.specs.Prelude.{cond, ◌≡◌, List, [], ◌∷◌, ◌++◌, ℕ, ◌+◌, ◌-◌, leb, ltb, length, drop, Result, Ok, Err}
 use Rattle.ps2_bytes.specs.declared.response.MouseId.{MouseId}
 use Rattle.ps2_salvage.specs.declared.SalvageRefusal.{SalvageRefusal}

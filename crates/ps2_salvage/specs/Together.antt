@@ -1,5 +1,4 @@
 -- "Packet bytes, dropped bytes and unused rest together are the input, each byte in its place."
--- Assumes nothing.
 use Rattle.std.specs.Prelude.{true, false, ◌≡◌, List, [], ◌∷◌, ◌++◌, map, ℕ, ◌+◌, ◌*◌, ◌-◌, ◌≤◌, ◌<◌, length, get_or, take, drop}
 use Rattle.ps2_bytes.specs.declared.response.MouseId.{MouseId}
 use Rattle.ps2_packet.specs.Packet.{packet_length}

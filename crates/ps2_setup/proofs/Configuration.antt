@@ -1,5 +1,4 @@
 -- The configuration that is written last: which commands go before it, and which bits it keeps.
--- Assumes nothing.
 use Prim.Native.Nat.{ℕ}
 use mathlib.Core.Bool.{Bool, true, false}
 use mathlib.Core.List.{[], ◌∷◌}

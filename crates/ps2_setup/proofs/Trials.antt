@@ -1,5 +1,4 @@
 -- Steps whose failure is forgiven, from what the code's calls answered.
--- Assumes nothing.
 use Prim.Native.Nat.{ℕ, ◌+◌, ◌*◌, ◌<◌, ◌^◌}
 use mathlib.Core.Bool.{Bool}
 use mathlib.Core.List.{List}

@@ -1,5 +1,4 @@
 -- One exchange after another, where each only writes: what is left of the whole, where a refusal ends it, and its last exchange.
--- Assumes nothing.
 use Prim.Native.Nat.{ℕ, ◌+◌, ◌*◌, ◌≤◌, ◌<◌, ◌^◌}
 use native.Mathlib.Omega.{arith}
 use mathlib.Core.List.{List, []}

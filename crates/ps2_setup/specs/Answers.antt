@@ -1,5 +1,4 @@
 -- What the answers of the steps' code say of the ends of plays.
--- Assumes nothing.
 use Rattle.std.specs.Prelude.{Bool, ℕ, ◌≡◌, Result}
 use Rattle.exchange.specs.Exchange.{told_end}
 use Rattle.exchange.specs.Answer.{gives}

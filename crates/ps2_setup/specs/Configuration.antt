@@ -1,5 +1,4 @@
 -- The configuration that initialisation writes last.
--- Assumes nothing.
 use Rattle.std.specs.Prelude.{Bool, true, false, ℕ}
 use Rattle.exchange.specs.Exchange.{p64, Exchange, write}
 use Rattle.ps2_layouts.specs.declared.configuration.ControllerConfigurationByte.{ControllerConfigurationByte}

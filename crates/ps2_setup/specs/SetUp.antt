@@ -1,5 +1,4 @@
 -- The steps of initialisation that concern the controller alone, as trees of their reads and writes.
--- Assumes nothing.
 use Rattle.std.specs.Prelude.{Bool, true, false, cond, ◌||◌, ℕ}
 use Rattle.bits.specs.Bits.{put_bit}
 use Rattle.exchange.specs.Exchange.{Exchange, done, bind}

@@ -1,4 +1,4 @@
--- One byte of a wait. Assumes nothing.
+-- One byte of a wait.
 use Prim.Native.Nat.{ℕ, suc}
 use native.Mathlib.Omega.{arith}
 use mathlib.Core.Path.{◌≡◌, sym, ap, ◌∙◌}

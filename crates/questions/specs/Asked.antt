@@ -1,5 +1,4 @@
 -- What a question makes on the ports, and what is left of it after some of its bytes.
--- Assumes nothing.
 use Rattle.std.specs.Prelude.{false, cond, ℕ, eqb, Option, Some, None}
 use Rattle.bits.specs.Bits.{bit}
 use Rattle.bits.specs.Table.{decode}

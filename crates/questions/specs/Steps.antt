@@ -1,5 +1,4 @@
 -- One step of an operation: what it asks of the ports, and what is left of it after one byte.
--- Assumes nothing.
 use Rattle.std.specs.Prelude.{ℕ, Option}
 use Rattle.exchange.specs.Exchange.{Port, Exchange, done, read, write}
 use Rattle.exchange.specs.Repeat.{Turn, again}

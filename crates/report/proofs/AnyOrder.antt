@@ -1,5 +1,4 @@
 -- Runs in which the same sessions are accepted, in whatever order, leave equal reports.
--- Assumes nothing.
 use mathlib.Core.Path.{◌≡◌, refl, ap, sym, ◌∙◌}
 use mathlib.Core.List.{List}
 use Rattle.report.specs.declared.sessions.Totals.{Totals}

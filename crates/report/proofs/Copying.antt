@@ -1,5 +1,4 @@
 -- Counts that are being copied to another width: up to each key they are the same numbers.
--- Assumes nothing.
 use mathlib.Core.Path.{◌≡◌, ◌∙◌}
 use mathlib.Core.List.{List}
 use Prim.Native.Nat.{ℕ, ◌+◌, ◌≤◌, ◌<◌}

@@ -1,5 +1,4 @@
 -- A session is accepted exactly when every number is within its limits at the session's end; otherwise the report stays.
--- Assumes nothing.
 use mathlib.Core.Path.{◌≡◌, refl}
 use mathlib.Core.Bool.{Bool, true, false, cond, and-eq-true_iff}
 use mathlib.Core.Logic.{◌↔◌}

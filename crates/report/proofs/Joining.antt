@@ -1,5 +1,4 @@
 -- "Adding sessions of one identity one by one equals reporting on them joined at packet boundaries, wherever both are accepted."
--- Assumes nothing.
 use mathlib.Core.Path.{◌≡◌, refl, ap, sym, ◌∙◌}
 use mathlib.Core.List.{List, [], ◌∷◌}
 use Rattle.std.specs.Prelude.{Ok}

@@ -1,5 +1,4 @@
 -- Sessions joined, and in another order, in 64 bits: "Store them and all counts in 64 bits", and the laws of runs hold as they stand.
--- Assumes nothing.
 use mathlib.Core.Path.{◌≡◌}
 use mathlib.Core.List.{List, ◌∷◌}
 use Rattle.std.specs.Prelude.{Ok}

@@ -1,5 +1,4 @@
 -- What is stored is read back: the numbers of a session's end, in a report of 64 bits.
--- Assumes nothing.
 use mathlib.Core.Path.{refl}
 use Rattle.report.specs.Runs.{ReadsBack}
 use Rattle.report.specs.Long.{wide}

@@ -1,5 +1,4 @@
 -- Quotient times packets plus remainder is the sum, with a remainder from 0 on and below the packets; and no other pair of numbers has that.
--- Assumes nothing.
 use mathlib.Core.Path.{◌≡◌, ap, sym, ◌∙◌}
 use Prim.Native.Nat.{ℕ, zero, suc, ◌+◌, ◌-◌, ◌*◌, ◌/◌, ◌%◌, ◌<◌}
 use native.Mathlib.Nat.{suc-mul, div-add-mod', mod-lt, div-eq_of_lt-le}

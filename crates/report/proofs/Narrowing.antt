@@ -1,5 +1,4 @@
 -- The 32-bit report: numbers within its limits fit its types, and a session's end read off from what was settled.
--- Assumes nothing.
 use mathlib.Core.Path.{◌≡◌}
 use mathlib.Core.Bool.{true, and-eq-true_iff}
 use Prim.Native.Nat.{◌<◌}

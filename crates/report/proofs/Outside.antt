@@ -1,5 +1,4 @@
 -- "32 if a total or count would be outside its range at the session's end, the report staying as before that session": of `Season::add`, at any width.
--- Assumes nothing.
 use mathlib.Core.Path.{◌≡◌, ap}
 use mathlib.Core.Logic.{◌↔◌}
 use Rattle.std.specs.Prelude.{Ok, Err}

@@ -1,5 +1,4 @@
 -- Presses among codes are presses among the events that they stand for.
--- Assumes nothing.
 use mathlib.Core.Path.{◌≡◌, refl}
 use mathlib.Core.List.{List, [], ◌∷◌, map}
 use Prim.Native.Nat.{ℕ, ◌+◌, ◌%◌, ◌<◌}

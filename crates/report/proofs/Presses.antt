@@ -1,5 +1,4 @@
 -- Presses that are being counted: those counted so far, and those among the codes ahead, are those of all codes.
--- Assumes nothing.
 use mathlib.Core.Path.{◌≡◌, sym, ◌∙◌}
 use mathlib.Core.Bool.{Bool, true, false}
 use mathlib.Core.List.{List, [], ◌∷◌}

@@ -1,5 +1,4 @@
 -- Numbers within their limits: what a count or a sum that was tried says, and counts that are being added.
--- Assumes nothing.
 use mathlib.Core.Path.{◌≡◌, refl}
 use mathlib.Core.Bool.{Bool, true, false, cond, and-false, and-eq-true_iff}
 use mathlib.Core.List.{List, [], ◌∷◌}

@@ -1,5 +1,4 @@
 -- Runs of `Season::add` at any width: what one call comes to, and what a list of them leaves.
--- Assumes nothing.
 use mathlib.Core.Path.{◌≡◌, refl, ap, sym, ◌∙◌}
 use mathlib.Core.Bool.{Bool, true, false}
 use mathlib.Core.List.{List, [], ◌∷◌, foldl}

@@ -1,5 +1,4 @@
 -- A session's end: each number that can be outside refuses, and where none is the new totals are taken.
--- Assumes nothing.
 use mathlib.Core.Path.{◌≡◌}
 use mathlib.Core.Bool.{true, false, and-false}
 use mathlib.Core.List.{List}

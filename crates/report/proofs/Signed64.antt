@@ -1,5 +1,4 @@
 -- Signed numbers of 64 bits: by their sign, what `!` and casts make of them, and sums that fit.
--- Assumes nothing.
 use mathlib.Core.Path.{◌≡◌, refl, ◌∙◌}
 use mathlib.Core.Bool.{true, false, and-false}
 use Prim.Native.Nat.{ℕ, ◌<◌, ◌≤◌}

@@ -1,5 +1,4 @@
 -- What is stored is read back: the numbers of a session's end, in a report of 32 bits.
--- Assumes nothing.
 use mathlib.Core.Path.{ap, ◌∙◌}
 use Prim.Native.Nat.{◌+◌}
 use lib.ListN.{get_or}

@@ -1,5 +1,4 @@
 -- Totals together: in any order, and what joined sessions bring.
--- Assumes nothing.
 use mathlib.Core.Path.{◌≡◌, ap, ap₂, sym, ◌∙◌}
 use mathlib.Core.List.{List}
 use Prim.Native.Nat.{ℕ, ◌+◌}

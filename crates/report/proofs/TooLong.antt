@@ -1,5 +1,4 @@
 -- A session of too many mouse bytes to be summed has more packets than a report counts.
--- Assumes nothing.
 use mathlib.Core.Path.{◌≡◌, refl}
 use mathlib.Core.Bool.{Bool, true, false, cond, and-false}
 use Prim.Native.Nat.{◌+◌, ◌<◌}

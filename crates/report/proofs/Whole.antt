@@ -1,5 +1,4 @@
 -- The packets of some bytes are the bytes, but for a short tail; and joined at a packet's end they are joined.
--- Assumes nothing.
 use mathlib.Core.Path.{◌≡◌, refl, ap}
 use mathlib.Core.List.{List, [], ◌∷◌, ◌++◌, append_assoc}
 use Prim.Native.Nat.{ℕ, ◌<◌}

@@ -1,5 +1,4 @@
 -- Old reports in 64 bits: no number is changed, and a session that the old report accepted gives the same numbers after conversion as before it.
--- Assumes nothing.
 use mathlib.Core.Path.{◌≡◌, refl, ap, sym, ◌∙◌}
 use mathlib.Core.Bool.{true}
 use mathlib.Core.List.{List, [], ◌∷◌}

@@ -1,5 +1,4 @@
 -- Adding a session to a report: numbers without a width, and the limits that a width has.
--- Assumes nothing.
 use Rattle.std.specs.Prelude.{Bool, true, ◌&&◌, cond, List, [], ◌∷◌, ℕ, ◌+◌, leb, ℤ, ◌+ℤ◌, get_or, Result, Ok, Err}
 use Rattle.std.specs.Int.Signed.{le_z}
 use Rattle.report.specs.declared.sessions.Totals.{Totals}

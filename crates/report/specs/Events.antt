@@ -1,5 +1,4 @@
 -- Key events, as a report counts them.
--- Assumes nothing.
 use Rattle.std.specs.Prelude.{Bool, false, List, [], ◌∷◌, ℕ, ◌+◌, ◌%◌, eqb}
 use Rattle.bits.specs.Bits.{weigh}
 use Rattle.keycodes_ascii.specs.Keycode.{number_of}

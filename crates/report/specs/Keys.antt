@@ -1,5 +1,4 @@
 -- Numbers for each key, in a list.
--- Assumes nothing.
 use Rattle.std.specs.Prelude.{List, [], ◌∷◌, ℕ, zero, suc}
 
 -- The keycodes of events are 00 to 5D.

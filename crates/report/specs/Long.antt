@@ -1,5 +1,4 @@
 -- The report whose counts are u64 and whose sums are i64.
--- Assumes nothing.
 use Rattle.std.specs.Prelude.{pos, neg_ℤ}
 use Rattle.report.specs.declared.sessions.Totals.{Totals}
 use Rattle.report.specs.declared.Limits.{Limits}

@@ -1,5 +1,4 @@
 -- "The mean movement is given as a whole quotient and remainder, the remainder below the packet count and never negative; with no packets no mean is shown."
--- Assumes nothing.
 use Rattle.std.specs.Prelude.{cond, ◌≡◌, ℕ, ◌-◌, ◌/◌, ◌%◌, ◌<◌, eqb, ℤ, pos, negsuc, ◌+ℤ◌, ◌*ℤ◌, Option, Some, None}
 use Rattle.report.specs.declared.WholeMean.{WholeMean}
 

@@ -1,5 +1,4 @@
 -- The report whose counts are u32 and whose sums are i32.
--- Assumes nothing.
 use Rattle.std.specs.Prelude.{pos, neg_ℤ, get_or}
 use Rattle.report.specs.declared.sessions.Totals.{Totals}
 use Rattle.report.specs.Keys.{for_each_key}

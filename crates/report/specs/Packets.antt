@@ -1,5 +1,4 @@
 -- A session's packets, counted, and their movements, summed: "mouse bytes in packets of one identity".
--- Assumes nothing.
 use Rattle.std.specs.Prelude.{◌≡◌, List, [], ◌∷◌, ℕ, ℤ, pos, ◌+ℤ◌, length}
 use Rattle.ps2_bytes.specs.declared.response.MouseId.{MouseId}
 use Rattle.ps2_packet.specs.declared.MousePacketGeneric.{MousePacketGeneric}

@@ -1,5 +1,4 @@
 -- Runs of `Season::add`: sessions added to a report one by one, at any width, those that are refused among them.
--- Assumes nothing.
 use Rattle.std.specs.Prelude.{◌≡◌, true, List, [], ◌∷◌, Ok, Err}
 use Rattle.report.specs.declared.sessions.Totals.{Totals}
 use Rattle.report.specs.Totals.{Session}

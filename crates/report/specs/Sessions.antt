@@ -1,5 +1,4 @@
 -- Several sessions: joined, and in another order.
--- Assumes nothing.
 use Rattle.std.specs.Prelude.{◌≡◌, List, [], ◌∷◌, ◌++◌}
 use Rattle.ps2_packet.specs.Packets.{packets_of, bytes_of}
 use Rattle.report.specs.Totals.{Session}

@@ -1,5 +1,4 @@
 -- A session, and what it brings: numbers without a width.
--- Assumes nothing.
 use Rattle.std.specs.Prelude.{cond, List, ℕ, ltb, pos, length, Option, Some, None}
 use Rattle.ps2_bytes.specs.declared.response.MouseId.{MouseId}
 use Rattle.ps2_packet.specs.Packet.{x_movement, y_movement}

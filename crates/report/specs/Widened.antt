@@ -1,5 +1,4 @@
 -- "Every old report must convert with no number changed."
--- Assumes nothing.
 use Rattle.std.specs.Prelude.{◌≡◌, List, ℕ, ◌<◌, get_or}
 use Rattle.report.specs.Keys.{key_count}
 use Rattle.report.specs.Totals.{Session}

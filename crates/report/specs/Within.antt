@@ -1,5 +1,4 @@
 -- What it means that every number of a report is in its range.
--- Assumes nothing.
 use Rattle.std.specs.Prelude.{ℕ, ◌≤◌, ◌<◌, get_or, ◌≤ℤ◌}
 use Rattle.report.specs.declared.sessions.Totals.{Totals}
 use Rattle.report.specs.Keys.{key_count}

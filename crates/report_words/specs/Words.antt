@@ -1,5 +1,4 @@
 -- What the operations on reports answer as numbers.
--- Assumes nothing.
 use Rattle.std.specs.Prelude.{List, ℕ, pos, Option as Shown, Some, None}
 use Rattle.std.proofs.Math.Option.{Option, none, some}
 use Rattle.argument_words.specs.Arguments.{invalid_argument}

@@ -1,5 +1,4 @@
 -- Events dropped or not: of 130 presses a table with one keyboard drops the events of two, and one with two keyboards those of 34; flags and prefix are the same.
--- Assumes nothing.
 use Prim.Native.Nat.{ℕ, zero, suc}
 use mathlib.Core.List.{[], ◌∷◌}
 use mathlib.Core.Path.{◌≡◌, refl, ap, ◌∙◌}

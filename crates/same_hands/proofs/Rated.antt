@@ -1,5 +1,4 @@
 -- A rated game and its replay: Alt and Shift are held in both, and no lock is on, whatever the lamp exchanges are. And why the profile must be the same: of the press of Caps Lock, counted in both, one leaves the flag and the other none.
--- Assumes nothing.
 use mathlib.Core.Path.{◌≡◌, refl, sym, ◌∙◌}
 use Prim.Native.Nat.{ℕ}
 use Rattle.bits.specs.Bits.{odd, bit, put_bit}

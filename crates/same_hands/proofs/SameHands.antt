@@ -1,5 +1,4 @@
 -- Same hands, same flags: by the history rule both runs have the flags and the prefix that the one list says, read under the one profile.
--- Assumes nothing.
 use mathlib.Core.Path.{ap, ap₂, sym, ◌∙◌}
 use Prim.Native.Nat.{ℕ}
 use Rattle.keyboard_scancodes.specs.declared.Profile.{Profile}

@@ -1,5 +1,4 @@
 -- Same hands, same flags, through the dispatcher: its handler record is the one that the steps' handler calls leave, and of these the statement holds.
--- Assumes nothing.
 use mathlib.Core.Bool.{Bool}
 use mathlib.Core.Path.{ap, sym, ◌∙◌}
 use Prim.Native.Nat.{ℕ}

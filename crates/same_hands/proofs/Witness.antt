@@ -1,5 +1,4 @@
 -- The game and its replay, which differ in table, scripts, lamp replies, takings and the other side: the same scancodes are counted, so flags and prefix are the same, Caps Lock and E0.
--- Assumes nothing.
 use mathlib.Core.Bool.{true}
 use mathlib.Core.Path.{◌≡◌, refl, sym, ◌∙◌}
 use Rattle.bits.specs.Bits.{odd, bit, put_bit}

@@ -1,5 +1,4 @@
 -- The game and its replay through the dispatcher: the calls that the steps make, in which the same scancodes are counted, so flags and prefix are the same.
--- Assumes nothing.
 use mathlib.Core.List.{[], ◌∷◌}
 use mathlib.Core.Path.{◌≡◌, refl, sym, ap, ◌∙◌}
 use Rattle.bits.specs.Table.{decode}

@@ -1,5 +1,4 @@
 -- Runs that show that the statement speaks of something: a game and its replay at a spare table, one for rated games, and one that fills the queue.
--- Assumes nothing.
 use Rattle.std.specs.Prelude.{[], ◌∷◌, ℕ}
 use Rattle.exchange.specs.Exchange.{Exchange}
 use Rattle.exchange.specs.Answer.{Answer}

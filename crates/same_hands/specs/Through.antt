@@ -1,5 +1,4 @@
 -- Two runs of steps through the dispatcher, in which a side's keys were the same: the same statement, of what the two dispatchers hold.
--- Assumes nothing.
 use Rattle.std.specs.Prelude.{◌≡◌, ℕ}
 use Rattle.exchange.specs.Exchange.{Exchange}
 use Rattle.exchange.specs.Answer.{Answer}

@@ -1,5 +1,4 @@
 -- The keycodes' numbers are the wiki's codes of set 1.
--- Assumes nothing.
 use mathlib.Core.Bool.{Bool, true, false, not, cond, ◌&&◌}
 use mathlib.Core.List.{List, [], ◌∷◌, map}
 use mathlib.Core.Path.{◌≡◌, refl}

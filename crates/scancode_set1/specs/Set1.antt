@@ -1,5 +1,4 @@
 -- Scan code set 1, as the OSDev Wiki's page "PS/2 Keyboard" lists it, and which of its keys each keycode is.
--- Assumes nothing.
 use Rattle.std.specs.Prelude.{List, [], ◌∷◌, ℕ, ◌+◌}
 use Prim.Native.String.{String}
 use Rattle.keycodes_ascii.specs.declared.Keycode.{Keycode}

@@ -1,5 +1,4 @@
 -- The byte that a code becomes: it is never 00, and every code but F0 at the end becomes one or is refused with 22.
--- Assumes nothing.
 use mathlib.Core.Path.{◌≡◌, refl, sym, ap, ◌∙◌}
 use mathlib.Core.Bool.{Bool, true, false}
 use mathlib.Core.Option.{Option, none, some}

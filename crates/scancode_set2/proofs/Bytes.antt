@@ -1,5 +1,4 @@
 -- The code's tables have the bytes of every code, which is computed; a byte that was looked up is that of the code that stands there.
--- Assumes nothing.
 use mathlib.Core.Path.{◌≡◌, ◌∙◌}
 use mathlib.Core.List.{List}
 use Prim.Native.Nat.{ℕ, ◌+◌, ◌-◌, ◌<◌, ◌≤◌}

@@ -1,5 +1,4 @@
 -- The codes of a stream: its first code, and a way to go through it code by code.
--- Assumes nothing.
 use mathlib.Core.Path.{◌≡◌, refl}
 use mathlib.Core.Bool.{Bool, true, false}
 use mathlib.Core.List.{List, [], ◌∷◌}

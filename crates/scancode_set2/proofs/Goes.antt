@@ -1,5 +1,4 @@
 -- How every conversion goes: it ends at once, for a reason, or it writes a code's byte and goes on with the rest.
--- Assumes nothing.
 use mathlib.Core.Path.{◌≡◌, refl, ap, ◌∙◌}
 use mathlib.Core.Bool.{false}
 use mathlib.Core.List.{List, [], ◌∷◌}

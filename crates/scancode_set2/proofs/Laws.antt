@@ -1,5 +1,4 @@
 -- Laws of the conversion: where it ends, what was converted before that, streams one after another, what it writes and how much.
--- Assumes nothing.
 use mathlib.Core.Path.{◌≡◌, refl, sym, ap, ◌∙◌}
 use mathlib.Core.Bool.{Bool, true, false, false≢true}
 use mathlib.Core.List.Memᴰ

@@ -1,5 +1,4 @@
 -- The table: which codes have an entry, what the entries are, and that they are the keys of the wiki's set 2.
--- Assumes nothing.
 use mathlib.Core.Path.{◌≡◌, refl, sym, ap, ◌∙◌, subst}
 use mathlib.Core.Bool.{Bool, true, false, cond, ◌&&◌}
 use mathlib.Core.List.{List, [], ◌∷◌}

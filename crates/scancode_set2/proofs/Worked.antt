@@ -1,5 +1,4 @@
 -- Closed examples of the conversion, by computation.
--- Assumes nothing.
 use mathlib.Core.Path.{◌≡◌, refl}
 use mathlib.Core.List.{List, [], ◌∷◌}
 use Prim.Native.Nat.{ℕ}

@@ -1,5 +1,4 @@
 -- A set 2 stream, code by code.
--- Assumes nothing.
 use Rattle.std.specs.Prelude.{Bool, cond, ◌||◌, List, [], ◌∷◌, ℕ, eqb}
 
 -- F0 stands before the code of a key that is released.

@@ -1,5 +1,4 @@
 -- The conversion of a set 2 stream to set 1, as request 2.2 words it.
--- Assumes nothing.
 use Rattle.std.specs.Prelude.{true, cond, List, [], ◌∷◌, ◌++◌, ◌≡◌, ℕ, zero, suc, ◌+◌, ◌<◌, length, drop, get_or, Result, Ok, Err}
 use Rattle.std.proofs.Math.Option.{Option, none, some}
 use Rattle.bits.specs.Bits.{put_bit}

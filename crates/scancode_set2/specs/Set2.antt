@@ -1,5 +1,4 @@
 -- Scan code set 2, as the OSDev Wiki's page "PS/2 Keyboard" lists it.
--- Assumes nothing.
 use Rattle.std.specs.Prelude.{List, [], ◌∷◌, ℕ}
 use Prim.Native.String.{String}
 

@@ -1,5 +1,4 @@
 -- What the laws of the conversion compare it with: why it ends and what it writes, said of bytes with nothing of codes; one conversion behind another.
--- Assumes nothing.
 use Rattle.std.specs.Prelude.{true, false, List, [], ◌∷◌, ◌++◌, ◌≡◌, ℕ, ◌+◌, ◌-◌, ◌≤◌, length}
 use Rattle.std.proofs.Math.Option.{none, some}
 use Rattle.exchange.specs.Answer.{Answer, gives, refuses}

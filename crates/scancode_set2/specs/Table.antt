@@ -1,5 +1,4 @@
 -- The 8042's translation of scan code set 2 to set 1, as Brouwer's "Keyboard scancodes" prints it, and which of its entries are used.
--- Assumes nothing.
 use Rattle.std.specs.Prelude.{Bool, cond, ◌&&◌, ◌||◌, List, [], ◌∷◌, ℕ, eqb, leb, get_or}
 use Rattle.std.proofs.Math.Option.{Option, none, some}
 

@@ -1,4 +1,4 @@
--- What is left of an operation behind its replies. Assumes nothing.
+-- What is left of an operation behind its replies.
 use Prim.Native.Nat.{ℕ}
 use mathlib.Core.Bool.{Bool, true, false, cond}
 use mathlib.Core.List.{List, [], ◌∷◌, ◌++◌}

@@ -1,4 +1,4 @@
--- What a talk comes to with a memory is what is left of its questions behind the replies. Assumes nothing.
+-- What a talk comes to with a memory is what is left of its questions behind the replies.
 use Prim.Native.Nat.{ℕ, zero, suc, ◌+◌, ◌<◌, ◌≤◌}
 use mathlib.Core.Bool.{Bool, true, false}
 use mathlib.Core.List.{List, [], ◌∷◌}

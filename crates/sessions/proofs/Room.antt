@@ -1,4 +1,4 @@
--- How many questions the operations ask. Assumes nothing.
+-- How many questions the operations ask.
 use Prim.Native.Nat.{ℕ, zero, suc, ◌+◌, ◌≤◌, ◌<◌}
 use native.Mathlib.Omega.{arith}
 use lib.Dec.{eqb}

@@ -1,4 +1,4 @@
--- The exchange that a talk's rounds make is its tree. Assumes nothing.
+-- The exchange that a talk's rounds make is its tree.
 use Prim.Native.Nat.{ℕ, zero, suc}
 use mathlib.Core.Bool.{Bool, true, false}
 use mathlib.Core.Path.{◌≡◌, refl, sym, ap, ◌∙◌, fun_ext}

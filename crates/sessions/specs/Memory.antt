@@ -1,5 +1,4 @@
 -- What the ports replied so far, remembered in order.
--- Assumes nothing.
 use Rattle.std.specs.Prelude.{Bool, ℕ, ◌+◌, cond, Option, Some, None, ltb, length, get_or}
 use Rattle.talks.specs.Heard.{Replies}
 use Rattle.sessions.specs.declared.Memory.{Memory}

@@ -1,5 +1,4 @@
 -- What can be run a byte at a time: each operation's talk, and the numbers that it hands back.
--- Assumes nothing.
 use Rattle.std.specs.Prelude.{ℕ, Result, Ok, Err}
 use Rattle.std.specs.Int.{w64, cast_unsigned}
 use Rattle.bits.specs.Bits.{weigh}

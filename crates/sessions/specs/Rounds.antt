@@ -1,5 +1,4 @@
 -- A talk as its questions, one after another; and what is left of it after some replies.
--- Assumes nothing.
 use Rattle.std.specs.Prelude.{Bool, true, false, ℕ, zero, suc, List, [], ◌∷◌, Option, Result, Ok, Err}
 use Rattle.exchange.specs.Exchange.{Exchange, done, bind}
 use Rattle.ps2_answers.specs.Refusals.{Success, success}

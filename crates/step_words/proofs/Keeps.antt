@@ -1,4 +1,4 @@
--- A step with the bytes that are thrown away. Assumes nothing.
+-- A step with the bytes that are thrown away.
 use Prim.Native.Nat.{ℕ}
 use mathlib.Core.Bool.{Bool, true, false}
 use mathlib.Core.Path.{◌≡◌, refl, sym, ap, ◌∙◌}

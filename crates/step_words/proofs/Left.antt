@@ -1,4 +1,4 @@
--- What is left of a session. Assumes nothing.
+-- What is left of a session.
 use Prim.Native.Nat.{ℕ, ◌<◌}
 use mathlib.Core.List.{List, [], ◌∷◌, ◌++◌}
 use mathlib.Core.Path.{◌≡◌, refl, sym, ap, ◌∙◌}

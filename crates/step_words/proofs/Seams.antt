@@ -1,4 +1,4 @@
--- The parts of a session's numbers. Assumes nothing.
+-- The parts of a session's numbers.
 use Prim.Native.Nat.{ℕ}
 use mathlib.Core.List.{List, ◌++◌}
 use mathlib.Core.Path.{◌≡◌, sym, ap, ◌∙◌, subst}

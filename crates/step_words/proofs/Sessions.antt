@@ -1,4 +1,4 @@
--- The session that numbers stand for. Assumes nothing.
+-- The session that numbers stand for.
 use Prim.Native.Nat.{ℕ, ◌<◌}
 use mathlib.Core.Bool.{Bool, true, false, cond}
 use mathlib.Core.List.{List}

@@ -1,5 +1,4 @@
 -- The operation that two numbers stand for: which it is, and its argument.
--- Assumes nothing.
 use Rattle.std.specs.Prelude.{Bool, true, false, cond, ℕ, eqb, ltb, Option, Some, None}
 use Rattle.bits.specs.Table.{decode}
 use Rattle.ps2_bytes.specs.Commands.{to_keyboard_commands, to_mouse_commands}

@@ -1,5 +1,4 @@
 -- A place in a question as four numbers.
--- Assumes nothing.
 use Rattle.std.specs.Prelude.{Bool, true, false, cond, ℕ, eqb, ltb, List, Option, Some, None, get_or}
 use Rattle.ps2_answers.specs.declared.ReadPort.{ReadPort}
 use Rattle.ps2_answers.specs.declared.ReadPort.TheVariants as Port

@@ -1,5 +1,4 @@
 -- What is read of a session between two steps.
--- Assumes nothing.
 use Rattle.std.specs.Prelude.{Bool, false, ◌&&◌, cond, ℕ, zero, suc, ◌%◌, List, [], ◌∷◌, Option, Some, None, eqb, ltb, leb, get_or, length, ◌≡◌}
 use Rattle.port_words.specs.declared.KeptWords.{KeptWords}
 use Rattle.port_words.specs.ToldKept.{refusing_kept}

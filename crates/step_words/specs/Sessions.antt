@@ -1,5 +1,4 @@
 -- A session in numbers: an operation, the replies so far and a place in the question that is being asked; what is left of the operation then.
--- Assumes nothing.
 use Rattle.std.specs.Prelude.{cond, ℕ, ltb, List, Option, Some, None, Result, Ok, Err, get_or, take}
 use Rattle.exchange.specs.Exchange.{Exchange, done, bind}
 use Rattle.exchange.specs.Keeping.{noted}

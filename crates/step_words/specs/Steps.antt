@@ -1,5 +1,4 @@
 -- One step on a session's numbers: the first twelve, the counts of what was thrown away, its bytes, and the replies.
--- Assumes nothing.
 use Rattle.std.specs.Prelude.{ℕ, List, Some, None, get_or, ◌≡◌}
 use Rattle.ps2_kept.specs.Kept.{nothing_kept}
 use Rattle.ps2_kept.specs.Added.{keeping_onto}

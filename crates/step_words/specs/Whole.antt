@@ -1,5 +1,4 @@
 -- All that is kept of a session in one list of numbers, and requests as numbers.
--- Assumes nothing.
 use Rattle.std.specs.Prelude.{ℕ, List, Some, None, take, drop, length, ◌≡◌, ◌≤◌, ◌<◌}
 use Rattle.exchange.specs.Exchange.{number}
 use Rattle.ps2_answers.specs.Refusals.{port_of}

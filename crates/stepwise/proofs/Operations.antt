@@ -1,4 +1,4 @@
--- What is run a byte at a time is the operation that the one call is defined by. Assumes nothing.
+-- What is run a byte at a time is the operation that the one call is defined by.
 use Prim.Native.Nat.{ℕ}
 use mathlib.Core.Path.{◌≡◌, refl, sym, ap, ◌∙◌, fun_ext}
 use Rattle.std.specs.Prelude.{Result, Ok, Err}

@@ -1,4 +1,4 @@
--- Accesses one by one, the path through an operation, and its play. Assumes nothing.
+-- Accesses one by one, the path through an operation, and its play.
 use Prim.Native.Nat.{ℕ, suc, ◌≤◌}
 use native.Mathlib.Omega.{arith}
 use mathlib.Core.List.{List, [], ◌∷◌, ◌++◌}

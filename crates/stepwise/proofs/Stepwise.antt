@@ -1,4 +1,4 @@
--- Every session makes the path of its operation's definition, and hands back what the one call does. Assumes nothing.
+-- Every session makes the path of its operation's definition, and hands back what the one call does.
 use Prim.Native.Nat.{ℕ}
 use mathlib.Core.List.{List}
 use mathlib.Core.Path.{◌≡◌, refl, sym, ap, ◌∙◌}

@@ -1,5 +1,4 @@
 -- What can be run a byte at a time, by the definitions of the one call: each operation's tree, and the numbers that it hands back.
--- Assumes nothing.
 use Rattle.std.specs.Prelude.{ℕ}
 use Rattle.bits.specs.Bits.{weigh}
 use Rattle.exchange.specs.Exchange.{p60, Exchange, done, yields, bind}

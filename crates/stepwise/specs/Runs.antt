@@ -1,5 +1,4 @@
 -- A session from its beginning to its end, with whatever device: each time what is asked is done, and the byte that came is given.
--- Assumes nothing.
 use Rattle.std.specs.Prelude.{ℕ, suc, List, [], ◌∷◌, ◌++◌, ◌≤◌, ◌≡◌, length, drop}
 use Rattle.exchange.specs.Exchange.{done, yields, played, play}
 use Rattle.exchange.specs.Trace.{Access, brought, wrote, Makes, bytes, logged}

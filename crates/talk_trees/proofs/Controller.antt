@@ -1,4 +1,4 @@
--- The talk of the controller's initialisation is its tree. Assumes nothing.
+-- The talk of the controller's initialisation is its tree.
 use mathlib.Core.Bool.{Bool, true, false, cond, ◌||◌}
 use mathlib.Core.Path.{◌≡◌, refl, sym, ap, ◌∙◌, fun_ext}
 use Rattle.std.specs.Prelude.{Result, Ok, Err}

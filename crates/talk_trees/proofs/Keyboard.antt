@@ -1,4 +1,4 @@
--- Each of the keyboard's talks is its tree. Assumes nothing.
+-- Each of the keyboard's talks is its tree.
 use Prim.Native.Nat.{ℕ}
 use mathlib.Core.Bool.{Bool, true, false, cond}
 use lib.Dec.{eqb}

@@ -1,4 +1,4 @@
--- Each of the mouse's talks is its tree. Assumes nothing.
+-- Each of the mouse's talks is its tree.
 use Prim.Native.Nat.{ℕ}
 use mathlib.Core.List.{[], ◌∷◌}
 use mathlib.Core.Path.{◌≡◌, refl, ap, ◌∙◌, fun_ext}

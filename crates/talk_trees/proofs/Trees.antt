@@ -1,4 +1,4 @@
--- The tree of a talk of parts is the tree of its parts. Assumes nothing.
+-- The tree of a talk of parts is the tree of its parts.
 use Prim.Native.Nat.{ℕ, zero, suc}
 use mathlib.Core.Bool.{Bool, true, false}
 use mathlib.Core.Path.{◌≡◌, refl, sym, ap, ◌∙◌, fun_ext}

@@ -1,4 +1,4 @@
--- A wait that is sought is the repetition that the operations make. Assumes nothing.
+-- A wait that is sought is the repetition that the operations make.
 use Prim.Native.Nat.{ℕ, suc}
 use mathlib.Core.Bool.{Bool, true, false, cond}
 use mathlib.Core.List.{List, [], ◌∷◌}

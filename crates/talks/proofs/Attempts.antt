@@ -1,4 +1,4 @@
--- What attempts come to, one after another. Assumes nothing.
+-- What attempts come to, one after another.
 use Prim.Native.Nat.{ℕ, suc}
 use mathlib.Core.Bool.{Bool}
 use mathlib.Core.Path.{◌≡◌, refl, sym, ap, ◌∙◌}

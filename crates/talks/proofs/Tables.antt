@@ -1,4 +1,4 @@
--- A byte that a table knows. Assumes nothing.
+-- A byte that a table knows.
 use Prim.Native.Nat.{ℕ}
 use mathlib.Core.List.{List}
 use mathlib.Core.Path.{◌≡◌, sym, ap, ◌∙◌}

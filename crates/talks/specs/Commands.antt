@@ -1,5 +1,4 @@
 -- Sending, receiving, searching and the command rule, as talks.
--- Assumes nothing.
 use Rattle.std.specs.Prelude.{Bool, true, false, ℕ, Option, Some, None, Result, Ok, Err}
 use Rattle.bits.specs.Table.{decode}
 use Rattle.ps2_bytes.specs.Commands.{controller_byte}

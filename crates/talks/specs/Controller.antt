@@ -1,5 +1,4 @@
 -- Initialisation of the controller as a talk.
--- Assumes nothing.
 use Rattle.std.specs.Prelude.{Bool, true, false, ◌||◌, cond, Result, Ok, Err}
 use Rattle.ps2_bytes.specs.declared.command.HostToControllerCommand.{HostToControllerCommand}
 use Rattle.ps2_bytes.specs.declared.command.HostToControllerCommand.TheVariants.{ReadFromInternalRAMByte0, WriteToInternalRAMByte0, TestController, DisablePort1, DisablePort2, TestPort1, TestPort2}

@@ -1,5 +1,4 @@
 -- What a talk comes to with whoever replies.
--- Assumes nothing.
 use Rattle.std.specs.Prelude.{Bool, true, false, ℕ, zero, suc, Option, Some, None, Result, Ok, Err}
 use Rattle.ps2_answers.specs.Refusals.{Success, success}
 use Rattle.ps2_answers.specs.declared.Failure.{Failure}

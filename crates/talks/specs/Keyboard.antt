@@ -1,5 +1,4 @@
 -- The keyboard's operations as talks.
--- Assumes nothing.
 use Rattle.std.specs.Prelude.{Bool, true, false, ℕ, eqb, Result, Ok, Err}
 use Rattle.bits.specs.Bits.{bit}
 use Rattle.bits.specs.Table.{decode}

@@ -1,5 +1,4 @@
 -- The mouse's operations as talks.
--- Assumes nothing.
 use Rattle.std.specs.Prelude.{Bool, ℕ, Result, Ok, Err}
 use Rattle.bits.specs.Table.{decode}
 use Rattle.ps2_bytes.specs.Responses.{mouse_ids}

@@ -1,5 +1,4 @@
 -- An operation as a talk with whoever replies to its questions, and the tree of reads and writes that it makes.
--- Assumes nothing.
 use Rattle.std.specs.Prelude.{Bool, true, false, ℕ, Option, Result, Ok, Err}
 use Rattle.exchange.specs.Exchange.{Exchange, done, bind}
 use Rattle.exchange.specs.Answer.{Answer, gives, refuses}

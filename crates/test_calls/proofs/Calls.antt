@@ -1,5 +1,4 @@
 -- Handler calls in a row, one more at a time: what holds in a loop of them, by value, in place or on the state alone.
--- Assumes nothing.
 use mathlib.Core.Path.{◌≡◌, refl, ap, ◌∙◌}
 use mathlib.Core.List.{List}
 use native.Mathlib.Numerals.{add-one}

@@ -1,5 +1,4 @@
 -- Steps in a row, one more at a time.
--- Assumes nothing.
 use mathlib.Core.Path.{◌≡◌, ap, ◌∙◌}
 use mathlib.Core.List.{List}
 use native.Mathlib.Numerals.{add-one}

@@ -1,5 +1,4 @@
 -- What the number of an argument stands for that the library doesn't take.
--- Assumes nothing.
 use Rattle.std.specs.Prelude.{ℕ}
 use Rattle.std.proofs.Math.Option.{Option, none, some}
 use Rattle.bits.specs.Table.{decode}

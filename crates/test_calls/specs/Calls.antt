@@ -1,5 +1,4 @@
 -- Handler calls in a row for one side, whose scripts are two in turn, on one record and one log.
--- Assumes nothing.
 use Rattle.std.specs.Prelude.{Bool, true, false, cond, List, ℕ, zero, suc, ◌%◌, eqb}
 use Rattle.keyboard_scancodes.specs.declared.Profile.{Profile}
 use Rattle.keyboard_sides.specs.declared.Side.{Side}

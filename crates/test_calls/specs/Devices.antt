@@ -1,5 +1,4 @@
 -- Single data bytes to the devices, and a packet with the Rust's wheel, by numbers.
--- Assumes nothing.
 use Rattle.std.specs.Prelude.{ℕ, pos}
 use Rattle.bits.specs.Bits.{bit, weigh}
 use Rattle.exchange.specs.Exchange.{Exchange, End}

@@ -1,5 +1,4 @@
 -- Sending and receiving by polling, and the configuration, by numbers.
--- Assumes nothing.
 use Rattle.std.specs.Prelude.{ℕ}
 use Rattle.exchange.specs.Exchange.{Exchange, End, told_end}
 use Rattle.exchange.specs.Answer.{Answer}

@@ -1,5 +1,4 @@
 -- Steps in a row, each with the same scripts, on one state and one log.
--- Assumes nothing.
 use Rattle.std.specs.Prelude.{List, ℕ, zero, suc}
 use Rattle.keyboard.specs.KeyboardLamps.{keyboard_lamps}
 use Rattle.dispatcher.specs.declared.Dispatcher.{Dispatcher}

@@ -1,4 +1,4 @@
--- After an interrupt the log is still the one that was lent. Assumes nothing.
+-- After an interrupt the log is still the one that was lent.
 use Prim.Native.Nat.{ℕ}
 use mathlib.Core.Bool.{Bool, true, false, cond}
 use mathlib.Core.List.{List}

@@ -1,4 +1,4 @@
--- The same of operations that leave a record, and of a packet. Assumes nothing.
+-- The same of operations that leave a record, and of a packet.
 use Prim.Native.Nat.{ℕ}
 use mathlib.Core.Bool.{Bool, true, false, ◌||◌}
 use mathlib.Core.List.{List}

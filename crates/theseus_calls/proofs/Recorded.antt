@@ -1,4 +1,4 @@
--- A run on a recording of a script and a log is told by numbers as the operation's play is. Assumes nothing.
+-- A run on a recording of a script and a log is told by numbers as the operation's play is.
 use Prim.Native.Nat.{ℕ, ◌+◌, ◌*◌, ◌/◌}
 use mathlib.Core.Bool.{true, false, cond}
 use mathlib.Core.List.{List}

@@ -1,4 +1,4 @@
--- A text is another or the same, asked in either order. Assumes nothing.
+-- A text is another or the same, asked in either order.
 use mathlib.Core.Bool.{Bool, true, false}
 use mathlib.Core.List.{List}
 use mathlib.Core.Path.{◌≡◌, refl, sym, ◌∙◌}

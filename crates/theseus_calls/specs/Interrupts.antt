@@ -1,5 +1,4 @@
 -- Characters, and the handler's interrupt, by numbers.
--- Assumes nothing.
 use Rattle.std.specs.Prelude.{◌≡◌, ◌&&◌, Bool, cond, ℕ, List, take, replicate, get_or, ltb, Option, Some, None}
 use Rattle.bits.specs.Bits.{weigh}
 use Rattle.exchange.specs.Answer.{gives}

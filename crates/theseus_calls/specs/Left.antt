@@ -1,5 +1,4 @@
 -- Operations that leave a record: the mouse's identity, and the controller.
--- Assumes nothing.
 use Rattle.std.specs.Prelude.{◌≡◌, ℕ, List, cond}
 use Rattle.std.proofs.Math.Option.{Option}
 use Rattle.exchange.specs.Exchange.{End, told_end}

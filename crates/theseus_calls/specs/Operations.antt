@@ -1,5 +1,4 @@
 -- Operations that an argument chooses, and what their values are told by.
--- Assumes nothing.
 use Rattle.std.specs.Prelude.{ℕ}
 use Rattle.exchange.specs.Exchange.{Exchange}
 use Rattle.exchange.specs.Answer.{Answer}

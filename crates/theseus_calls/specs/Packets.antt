@@ -1,5 +1,4 @@
 -- Packets as the Rust tells them.
--- Assumes nothing.
 use Rattle.std.specs.Prelude.{ℕ, List, pos, cond}
 use Rattle.std.proofs.Math.Option.{Option}
 use Rattle.bits.specs.Bits.{bit, weigh}

@@ -1,5 +1,4 @@
 -- What a function of the Rust answered, and how it left its recording, as numbers.
--- Assumes nothing.
 use Rattle.std.specs.Prelude.{ℕ, Bool, List, cond, eqb, drop}
 use Rattle.std.proofs.Math.Option.{Option}
 use Rattle.exchange.specs.Exchange.{Exchange, End, yields, told_end}

@@ -1,4 +1,4 @@
--- Where the Rust's run tells the play of its call, and ours is the play of its own, the two agree. Assumes nothing.
+-- Where the Rust's run tells the play of its call, and ours is the play of its own, the two agree.
 use mathlib.Core.Path.{◌≡◌, refl, sym, ap, subst, ◌∙◌}
 use mathlib.Core.Bool.{Bool, true, false, cond, ◌&&◌}
 use mathlib.Core.List.{List}

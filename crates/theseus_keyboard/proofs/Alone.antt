@@ -1,4 +1,4 @@
--- What a side's call and the Rust's handler for that keyboard alone come to. Assumes nothing.
+-- What a side's call and the Rust's handler for that keyboard alone come to.
 use mathlib.Core.Path.{◌≡◌, refl, sym, ap, ap₂, subst, ◌∙◌}
 use mathlib.Core.Bool.{Bool, true, false, not, cond, ◌&&◌}
 use mathlib.Core.List.{List, [], ◌∷◌, ◌++◌}

@@ -1,4 +1,4 @@
--- On the first side, where lamps are lit alike, ours and the Rust's handler read and write alike. Assumes nothing.
+-- On the first side, where lamps are lit alike, ours and the Rust's handler read and write alike.
 use mathlib.Core.Path.{◌≡◌, refl, sym, ap, subst, ◌∙◌}
 use mathlib.Core.Bool.{Bool, true, false, cond, true≢false}
 use mathlib.Core.List.{List, [], ◌∷◌}

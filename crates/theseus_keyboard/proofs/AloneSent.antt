@@ -1,4 +1,4 @@
--- On either side the script bytes used and the bytes sent are the Rust's: D4, which the second side's lamp bytes come after, reads nothing and goes to the other port. Assumes nothing.
+-- On either side the script bytes used and the bytes sent are the Rust's: D4, which the second side's lamp bytes come after, reads nothing and goes to the other port.
 use mathlib.Core.Path.{◌≡◌, refl, sym, ap, subst, ◌∙◌}
 use mathlib.Core.Bool.{Bool, true, false, cond, true≢false}
 use mathlib.Core.List.{List, [], ◌∷◌}

@@ -1,4 +1,4 @@
--- What ours and the Rust's handler for one keyboard alone leave, agree. Assumes nothing.
+-- What ours and the Rust's handler for one keyboard alone leave, agree.
 use mathlib.Core.Path.{◌≡◌, sym, ap, subst, ◌∙◌}
 use mathlib.Core.Bool.{Bool}
 use mathlib.Core.List.{List}

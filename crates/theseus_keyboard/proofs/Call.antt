@@ -1,4 +1,4 @@
--- The Rust's handler as an operation on the ports, and that ours is the same one, but for what it yields. Assumes nothing.
+-- The Rust's handler as an operation on the ports, and that ours is the same one, but for what it yields.
 use mathlib.Core.Path.{◌≡◌, refl, sym, ap, ap₂, ◌∙◌, fun_ext}
 use mathlib.Core.Bool.{Bool, true, false, cond}
 use mathlib.Core.List.{List, []}

@@ -1,4 +1,4 @@
--- Keyboard initialisation goes on where the detection found a type. Assumes nothing.
+-- Keyboard initialisation goes on where the detection found a type.
 use mathlib.Core.Path.{◌≡◌}
 use mathlib.Core.List.{List}
 use Prim.Native.Nat.{ℕ}

@@ -1,4 +1,4 @@
--- The flags that both follow, after a stroke of the same key, under either profile. Assumes nothing.
+-- The flags that both follow, after a stroke of the same key, under either profile.
 use mathlib.Core.Path.{◌≡◌, refl, sym, ap, ◌∙◌}
 use mathlib.Core.Bool.{Bool, true, false, not, cond}
 use mathlib.Core.List.{List, [], ◌∷◌}

@@ -1,4 +1,4 @@
--- An interrupt's byte: one that changes nothing but the prefix, and a key's. Assumes nothing.
+-- An interrupt's byte: one that changes nothing but the prefix, and a key's.
 use mathlib.Core.Path.{◌≡◌, refl, sym, ap, ◌∙◌}
 use mathlib.Core.Bool.{Bool, true, false}
 use mathlib.Core.List.{List}

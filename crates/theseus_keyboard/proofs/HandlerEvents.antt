@@ -1,4 +1,4 @@
--- The event of a scancode, by the keycode that its adjusted code reads as; and the queue with it. Assumes nothing.
+-- The event of a scancode, by the keycode that its adjusted code reads as; and the queue with it.
 use mathlib.Core.Path.{◌≡◌, refl, sym, ap, ◌∙◌}
 use mathlib.Core.Bool.{Bool, true, false, cond}
 use mathlib.Core.List.{List, [], ◌∷◌}

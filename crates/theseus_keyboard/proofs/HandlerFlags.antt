@@ -1,4 +1,4 @@
--- Each key's flags, as the table has them, and the keys that have none. Assumes nothing.
+-- Each key's flags, as the table has them, and the keys that have none.
 use mathlib.Core.Path.{◌≡◌, refl}
 use mathlib.Core.Bool.{Bool, true, false, not, ◌&&◌}
 use mathlib.Core.Logic.{◌≢◌}

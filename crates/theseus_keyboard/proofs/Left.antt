@@ -1,4 +1,4 @@
--- What a byte leaves of our record is what it leaves of the Rust's flags, prefix and queue. Assumes nothing.
+-- What a byte leaves of our record is what it leaves of the Rust's flags, prefix and queue.
 use mathlib.Core.Path.{◌≡◌, refl, sym, ap, ap₂, subst, ◌∙◌}
 use mathlib.Core.Bool.{Bool, true, false, cond}
 use mathlib.Core.List.{List, [], ◌∷◌, ◌++◌}

@@ -1,4 +1,4 @@
--- What the Rust's handler leaves of a recording, and ours of the same script and log, agree. Assumes nothing.
+-- What the Rust's handler leaves of a recording, and ours of the same script and log, agree.
 use mathlib.Core.Path.{◌≡◌, refl, sym, ap, subst, ◌∙◌}
 use mathlib.Core.Bool.{Bool}
 use mathlib.Core.List.{List}

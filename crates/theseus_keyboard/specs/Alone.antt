@@ -1,5 +1,4 @@
 -- What stays equal of a keyboard at either side of any table, under either profile, whatever waits for it, and of the Rust's handler for that keyboard alone.
--- Assumes nothing.
 use Rattle.std.specs.Prelude.{◌≡◌, Bool, true, false, not, ◌&&◌, cond, List, [], ◌∷◌, map, length, ℕ, zero, suc, eqb, ◌<◌}
 use Rattle.bits.specs.Bits.{put_bit}
 use Rattle.exchange.specs.Exchange.{End, yields, lacks}

@@ -1,5 +1,4 @@
 -- What it is that the Rust's handler and ours agree, at a table with one keyboard, under any profile but the tournament's, where no byte waits.
--- Assumes nothing.
 use Rattle.std.specs.Prelude.{◌≡◌, Bool, true, false, cond, List, [], map, length, ℕ, get_or}
 use Rattle.bits.specs.Bits.{put_bit}
 use Rattle.exchange.specs.Exchange.{End, yields, lacks}

@@ -1,5 +1,4 @@
 -- What the Rust's handler does with a scancode: flags in our numbers, lamps, event.
--- Assumes nothing.
 use Rattle.std.specs.Prelude.{◌≡◌, Bool, false, cond, ℕ, List, [], ◌∷◌, ◌++◌, ltb, length, map, Result, Ok, Err}
 use Rattle.std.specs.Borrow.{Bor}
 use Rattle.exchange.specs.Exchange.{p60}

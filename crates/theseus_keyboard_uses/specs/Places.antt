@@ -1,5 +1,4 @@
 -- A queue of events in an array.
--- Assumes nothing.
 use Rattle.std.specs.Prelude.{List, take}
 use Rattle.theseus_keycodes.specs.declared.KeyEvent.{KeyEvent}
 use Rattle.theseus_keyboard_uses.specs.declared.places.Places.{Places}

@@ -1,4 +1,4 @@
--- The character of a key under the Rust's flags. Assumes nothing.
+-- The character of a key under the Rust's flags.
 use mathlib.Core.Path.{◌≡◌, sym, ap₂, ◌∙◌}
 use mathlib.Core.Bool.{Bool, ◌||◌}
 use Rattle.bits.specs.Bits.{bit}

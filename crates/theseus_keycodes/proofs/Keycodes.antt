@@ -1,4 +1,4 @@
--- A keycode of the Rust's is told by ours. Assumes nothing.
+-- A keycode of the Rust's is told by ours.
 use mathlib.Core.Path.{◌≡◌, refl, sym, ap, ◌∙◌}
 use Prim.Native.Nat.{ℕ}
 use Rattle.std.specs.Prelude.{Option, Some, None, Result, Ok, Err}

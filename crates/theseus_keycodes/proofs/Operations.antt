@@ -1,4 +1,4 @@
--- A flag that is put in, taken out or turned over, in the Rust's word and in ours. Assumes nothing.
+-- A flag that is put in, taken out or turned over, in the Rust's word and in ours.
 use mathlib.Core.Path.{◌≡◌, refl, ap, sym, ◌∙◌}
 use mathlib.Core.Bool.{Bool, true, false, not, xor, ◌&&◌, ◌||◌, and-eq-true_iff, false≢true}
 use mathlib.Core.List.{List, [], ◌∷◌}

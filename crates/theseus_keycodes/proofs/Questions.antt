@@ -1,4 +1,4 @@
--- A flag of ours is the Rust's of the same name. Assumes nothing.
+-- A flag of ours is the Rust's of the same name.
 use mathlib.Core.Path.{◌≡◌, ap₂}
 use mathlib.Core.Bool.{◌||◌}
 use Prim.Native.Nat.{ℕ}

@@ -1,4 +1,4 @@
--- A word of flags in our numbers: which bits it has, and what becomes of it where the Rust's word changes a flag. Assumes nothing.
+-- A word of flags in our numbers: which bits it has, and what becomes of it where the Rust's word changes a flag.
 use mathlib.Core.Path.{◌≡◌, refl, sym, ap, ◌∙◌}
 use mathlib.Core.Bool.{Bool, true, false, cond, ◌&&◌, not, and-eq-true_iff, false≢true}
 use mathlib.Core.List.{List, [], ◌∷◌}

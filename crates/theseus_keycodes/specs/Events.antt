@@ -1,5 +1,4 @@
 -- The Rust's key events, and ours that say the same.
--- Assumes nothing.
 use Rattle.keycodes_ascii.specs.declared.KeyAction.{KeyAction as OurAction}
 use Rattle.keycodes_ascii.specs.declared.KeyEvent.{KeyEvent as OurEvent}
 use Rattle.theseus_keycodes.specs.declared.KeyAction.{KeyAction}

@@ -1,5 +1,4 @@
 -- The Rust's keycodes, and ours of the same names.
--- Assumes nothing.
 use Rattle.std.specs.Prelude.{Option, Some, None, Result, Ok, Err}
 use Rattle.keycodes_ascii.specs.declared.Keycode.{Keycode as Ours}
 use Rattle.theseus_keycodes.specs.declared.Keycode.{Keycode}

@@ -1,5 +1,4 @@
 -- The Rust's mouse packets, and ours that have the same bytes.
--- Assumes nothing.
 use Rattle.std.specs.Prelude.{ℕ}
 use Rattle.ps2_bytes.specs.declared.response.MouseId.{MouseId}
 use Rattle.ps2_bytes.specs.declared.response.MouseId.TheVariants as Identity

@@ -1,4 +1,4 @@
--- Where ours tells a play and the Rust tells it too, the two agree. Assumes nothing.
+-- Where ours tells a play and the Rust tells it too, the two agree.
 use Prim.Native.Nat.{ℕ, ◌≤◌}
 use mathlib.Core.Bool.{Bool, cond}
 use mathlib.Core.List.{List}

@@ -1,4 +1,4 @@
--- A byte of data that is no response is one that is thrown away. Assumes nothing.
+-- A byte of data that is no response is one that is thrown away.
 use Prim.Native.Nat.{ℕ}
 use mathlib.Core.Bool.{cond}
 use mathlib.Core.Path.{◌≡◌, sym, ap, ◌∙◌}

@@ -1,4 +1,4 @@
--- A mouse's packet, byte by byte; a byte as a scancode set. Assumes nothing.
+-- A mouse's packet, byte by byte; a byte as a scancode set.
 use Prim.Native.Nat.{ℕ}
 use mathlib.Core.Path.{◌≡◌, sym, ap, ◌∙◌}
 use Rattle.std.specs.Prelude.{Result, Ok, Err}

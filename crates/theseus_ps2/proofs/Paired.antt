@@ -1,4 +1,4 @@
--- A write of a recording that has room for it. Assumes nothing.
+-- A write of a recording that has room for it.
 use Prim.Native.Nat.{ℕ, ◌+◌, ◌*◌, ◌/◌}
 use mathlib.Core.Bool.{Bool, true, false, cond}
 use mathlib.Core.Path.{◌≡◌, sym, ap, ◌∙◌}

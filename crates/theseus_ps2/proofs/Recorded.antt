@@ -1,4 +1,4 @@
--- What an operation comes to on hardware that is a script and a log: what its play comes to, also where it lacks a byte or room. Assumes nothing.
+-- What an operation comes to on hardware that is a script and a log: what its play comes to, also where it lacks a byte or room.
 use Prim.Native.Nat.{ℕ, ◌+◌, ◌*◌, ◌/◌}
 use native.Mathlib.Omega.{arith}
 use mathlib.Core.Bool.{true, false, cond}

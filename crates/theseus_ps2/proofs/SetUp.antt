@@ -1,4 +1,4 @@
--- Initialisation: what its steps come to, one after another, on the controller's hardware. Assumes nothing.
+-- Initialisation: what its steps come to, one after another, on the controller's hardware.
 use Prim.Native.Nat.{ℕ}
 use mathlib.Core.Bool.{Bool, true, false, cond, ◌||◌}
 use mathlib.Core.List.{List}

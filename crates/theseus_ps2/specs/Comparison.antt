@@ -1,5 +1,4 @@
 -- What it is that the Rust's function and ours agree.
--- Assumes nothing.
 use Rattle.std.specs.Prelude.{cond, Bool, true, false, ℕ, List, ◌≡◌, Result, Ok, Err}
 use Rattle.exchange.specs.Exchange.{Exchange, End, yields, lacks, Played, played, play}
 use Rattle.exchange.specs.Exchange as exchange

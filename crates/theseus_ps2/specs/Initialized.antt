@@ -1,5 +1,4 @@
 -- The Rust's controller once it is initialised, and the devices that it lends.
--- Assumes nothing.
 use Rattle.std.specs.Prelude.{cond, Bool, true, false, Option, Some, None}
 use Rattle.exchange.specs.Answer.{Answer, gives, refuses}
 use Rattle.ps2_answers.specs.Refusals.{Success}

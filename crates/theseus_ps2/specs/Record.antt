@@ -1,5 +1,4 @@
 -- The record of the controller that the Rust's static is.
--- Assumes nothing.
 use Rattle.std.specs.Prelude.{cond, Bool, true}
 use Rattle.ps2_init.specs.declared.PS2Controller.{PS2Controller}
 use Rattle.theseus_ps2.specs.declared.both_init.Completed.{Completed}

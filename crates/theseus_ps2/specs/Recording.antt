@@ -1,5 +1,4 @@
 -- A script and a log as hardware. A read brings the next script byte, and one of data that is unlisted is noted; a write puts its pair into the log, where two bytes are free. Where there is none, the recording has fallen short, and says what was asked: from then on a read brings 0, and nothing changes.
--- Assumes nothing.
 use Rattle.std.specs.Prelude.{cond, true, ℕ, ◌+◌, ◌*◌, ◌/◌, ltb, length, get_or, set}
 use Rattle.exchange.specs.Exchange.{Port, number}
 use Rattle.exchange.specs.Keeping.{noted}

@@ -1,5 +1,4 @@
 -- The last step of setting a scancode set.
--- Assumes nothing.
 use Rattle.exchange.specs.Exchange.{Exchange, done}
 use Rattle.exchange.specs.Answer.{Answer, gives, and_then}
 use Rattle.ps2_answers.specs.Refusals.{Success, success}

@@ -1,5 +1,4 @@
 -- A text in two parts is typed as the one part, then the other: nothing is held over from key to key.
--- Assumes nothing.
 use mathlib.Core.Path.{◌≡◌, refl, sym, ap, ◌∙◌}
 use mathlib.Core.List.{List, [], ◌∷◌, ◌++◌, append_assoc}
 use mathlib.Core.Option.{some}

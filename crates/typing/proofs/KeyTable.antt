@@ -1,5 +1,4 @@
 -- The code's table of keys has the key of every byte, which is computed.
--- Assumes nothing.
 use mathlib.Core.Bool.{xor}
 use Rattle.bits.specs.Bits.{bit, odd, put_bit}
 use Rattle.keycodes_ascii.specs.Keycode.{keycodes}

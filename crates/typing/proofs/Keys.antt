@@ -1,5 +1,4 @@
 -- The key of a character: it gives the character, no key without Shift does where it needs Shift, and none that does is lower.
--- Assumes nothing.
 use mathlib.Core.Path.{◌≡◌, refl, ap, subst}
 use mathlib.Core.Bool.{Bool, true, false, not, cond, ◌&&◌, ◌||◌, false≢true}
 use mathlib.Core.List.{List, [], ◌∷◌}

@@ -1,5 +1,4 @@
 -- How many bytes a text takes: two for each character, and two more for each that needs Shift.
--- Assumes nothing.
 use mathlib.Core.Path.{◌≡◌, refl, subst⁻¹, ◌∙◌}
 use mathlib.Core.Bool.{Bool, true, false}
 use mathlib.Core.List.{List, [], ◌∷◌}

@@ -1,5 +1,4 @@
 -- The scancodes of a text, put into an output one key after another.
--- Assumes nothing.
 use mathlib.Core.Path.{◌≡◌, refl, sym, ap, ap₂, subst, ◌∙◌}
 use mathlib.Core.List.{List, [], ◌∷◌, ◌++◌, append-nil, append_assoc}
 use mathlib.Core.Option.{some, some-injective, none-ne-some}

@@ -1,5 +1,4 @@
 -- The table of keys: what its numbers say of the bytes' keys.
--- Assumes nothing.
 use mathlib.Core.Path.{◌≡◌, refl}
 use mathlib.Core.Bool.{Bool, true, false}
 use mathlib.Core.List.{List, [], ◌∷◌}

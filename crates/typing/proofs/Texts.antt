@@ -1,5 +1,4 @@
 -- The keys of a text, character by character.
--- Assumes nothing.
 use mathlib.Core.Path.{◌≡◌, refl, ap, subst}
 use mathlib.Core.List.{List, [], ◌∷◌}
 use mathlib.Core.Option.{Option, none, some, some-injective, none-ne-some}

@@ -1,5 +1,4 @@
 -- Which bytes have a key.
--- Assumes nothing.
 use mathlib.Core.Path.{◌≡◌}
 use mathlib.Core.Bool.{Bool, true, false, xor}
 use mathlib.Core.Option.{Option, none, some}

@@ -1,5 +1,4 @@
 -- Closed examples of typing, by computation.
--- Assumes nothing.
 use mathlib.Core.Path.{◌≡◌, refl}
 use mathlib.Core.Bool.{xor}
 use mathlib.Core.List.{[], ◌∷◌}

@@ -1,5 +1,4 @@
 -- The request's answers, each with what it is given for: what the laws compare typing with.
--- Assumes nothing.
 use Rattle.std.specs.Prelude.{Bool, ◌||◌, ◌&&◌, List, ◌∷◌, ◌≡◌, ℕ, ◌<◌, ◌≤◌, eqb, leb}
 use Rattle.std.proofs.Math.Option.{none, some}
 use Rattle.exchange.specs.Answer.{Answer, gives, refuses}

@@ -1,5 +1,4 @@
 -- How many bytes keys take.
--- Assumes nothing.
 use Rattle.std.specs.Prelude.{Bool, true, false, List, [], ◌∷◌, ℕ, suc, ◌+◌, None, Some}
 use Rattle.std.specs.Prelude as found
 use Rattle.std.proofs.Math.Option.{Option, none, some}

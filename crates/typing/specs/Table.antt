@@ -1,5 +1,4 @@
 -- The keys of the bytes as numbers in a table.
--- Assumes nothing.
 use Rattle.std.specs.Prelude.{Bool, true, false, List, ◌≡◌, ℕ, ◌+◌, ◌<◌, get_or}
 use Rattle.std.proofs.Math.Option.{Option, none, some}
 use Rattle.keycodes_ascii.specs.Keycode.{number_of}

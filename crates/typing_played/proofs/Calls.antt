@@ -1,5 +1,4 @@
 -- Bytes of one side that press no lock, fed to the handler: each is counted, no lamp exchange is run, and the events given are those taken.
--- Assumes nothing.
 use mathlib.Core.Path.{◌≡◌, refl, sym, ap, ap₂, ◌∙◌}
 use mathlib.Core.Bool.{Bool, true, false, not, true≢false}
 use mathlib.Core.List.{List, [], ◌∷◌, ◌++◌, append-nil}

@@ -1,5 +1,4 @@
 -- The promise of request 2.6 for the keyboards' own lamp exchanges, those that `handle` makes.
--- Assumes nothing.
 use mathlib.Core.Path.{◌≡◌}
 use mathlib.Core.Bool.{true}
 use mathlib.Core.List.{List}

@@ -1,5 +1,4 @@
 -- The strokes of a key that gives a character: each gives an event, is no prefix, presses no lock and moves no flag.
--- Assumes nothing.
 use mathlib.Core.Path.{◌≡◌, refl}
 use mathlib.Core.Bool.{Bool, true, false, not, ◌&&◌, ◌||◌, and-eq-true_iff, xor}
 use mathlib.Core.List.{[], ◌∷◌}

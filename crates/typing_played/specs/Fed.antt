@@ -1,5 +1,4 @@
 -- A handler that is fed the bytes of one side, and whose events are taken at once.
--- Assumes nothing.
 use Rattle.std.specs.Prelude.{List, [], ◌∷◌, ◌++◌, ℕ}
 use Rattle.std.specs.Prelude.{Option, Some, None}
 use Rattle.keycodes_ascii.specs.declared.KeyAction.{KeyAction}

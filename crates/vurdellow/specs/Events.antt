@@ -1,5 +1,4 @@
 -- A taken event, given on by its numbers.
--- Assumes nothing.
 use Rattle.std.specs.Prelude.{◌≡◌}
 use Rattle.keycodes_ascii.specs.declared.KeyEvent.{KeyEvent}
 use Rattle.keycodes_ascii.specs.Characters.{character_of}

@@ -1,5 +1,4 @@
 -- What it means that a worked position holds: the definitions of every layer, on its literals, come to what it says.
--- Assumes nothing.
 use Rattle.std.specs.Prelude.{List, [], ◌∷◌, ◌≡◌, ℕ, ◌+◌, ◌*◌, ◌^◌, take, replicate}
 use Rattle.std.proofs.Math.Option.{Option, none, some}
 use Prim.Native.Char.{code}

@@ -1,5 +1,4 @@
 -- The types of worked positions: what is given, and what it must come to.
--- Assumes nothing.
 use Rattle.std.specs.Prelude.{List, [], ◌∷◌, map, ℕ, ℤ}
 use Prim.Native.Char.{Char}
 use Rattle.keycodes_ascii.specs.declared.KeyAction.{KeyAction}

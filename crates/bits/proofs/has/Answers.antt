@@ -1,4 +1,4 @@
--- `has` meets its contract: the mask of a bit tests it, and a byte has no bit above 7. Assumes nothing.
+-- `has` meets its contract: the mask of a bit tests it, and a byte has no bit above 7.
 use mathlib.Core.Path.{sym, ◌∙◌}
 use native.Mathlib.Omega.{arith}
 use borrow.Author.Tests.{le-ltb}

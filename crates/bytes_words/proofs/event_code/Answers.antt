@@ -1,5 +1,4 @@
 -- `bytes_words::event_code` meets its contract.
--- Assumes nothing.
 use mathlib.Core.Path.{sym, ◌∙◌}
 use Rattle.bytes_words.proofs.Known.{number_event}
 use Rattle.bytes_words.proofs.event_code.Goals as goal

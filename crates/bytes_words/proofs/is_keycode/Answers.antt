@@ -1,5 +1,4 @@
 -- `bytes_words::is_keycode` meets its contract: a keycode was found.
--- Assumes nothing.
 use mathlib.Core.Path.{◌≡◌, refl, ap, ◌∙◌}
 use Rattle.std.specs.Prelude.{Option, Some, None, is_some}
 use Rattle.keycodes_ascii.specs.declared.Keycode.{Keycode}

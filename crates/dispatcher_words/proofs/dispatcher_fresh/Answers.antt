@@ -1,5 +1,4 @@
 -- `dispatcher_words::dispatcher_fresh` meets its contract.
--- Assumes nothing.
 use Rattle.dispatcher_words.proofs.Fresh.{at_no_table, at_fresh}
 use Rattle.dispatcher_words.proofs.dispatcher_fresh.Goals as goal
 

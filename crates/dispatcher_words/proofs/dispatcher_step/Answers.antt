@@ -1,5 +1,4 @@
 -- `dispatcher_words::dispatcher_step` meets its contract: the turn of each source, or idle.
--- Assumes nothing.
 use mathlib.Core.Path.{sym, ap, ◌∙◌}
 use Rattle.std.specs.Prelude.{Some}
 use Rattle.dispatcher.specs.declared.Source.{Source}

@@ -1,5 +1,4 @@
 -- `dispatcher_words::is_dispatcher` meets its contract: each number is asked in turn, all its bits.
--- Assumes nothing.
 use mathlib.Core.Path.{sym, ◌∙◌}
 use mathlib.Core.Bool.{true≢false}
 use native.Mathlib.Omega.{arith}

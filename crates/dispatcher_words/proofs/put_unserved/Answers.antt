@@ -1,5 +1,4 @@
 -- `dispatcher_words::put_unserved` meets its contract.
--- Assumes nothing.
 use native.Mathlib.Omega.{arith}
 use lib.ListN.{drop, drop_of_length-le, length-drop}
 use Rattle.dispatcher_words.proofs.put_unserved.Goals as goal

@@ -1,5 +1,4 @@
 -- `dispatcher_words::second_waiting` meets its contract.
--- Assumes nothing.
 use Rattle.dispatcher_words.proofs.Waits.{two_waiting, one_waiting}
 use Rattle.dispatcher_words.proofs.second_waiting.Goals as goal
 

@@ -1,5 +1,4 @@
 -- `dispatcher_words::serve_keyboard` meets its contract: the handler call on the unused bytes, and the place that it moves on to.
--- Assumes nothing.
 use native.Mathlib.Omega.{arith}
 use Rattle.dispatcher_words.proofs.Turns.{keyboard_used, keyboard_turn}
 use Rattle.dispatcher_words.proofs.serve_keyboard.Goals as goal

@@ -1,5 +1,4 @@
 -- `dispatcher_words::serve_mouse` meets its contract: the packet of the unread bytes, and the place that it moves on to.
--- Assumes nothing.
 use native.Mathlib.Omega.{arith}
 use Rattle.dispatcher_words.proofs.Turns.{mouse_used, mouse_turn}
 use Rattle.dispatcher_words.proofs.serve_mouse.Goals as goal

@@ -1,5 +1,4 @@
 -- `dispatcher_words::waits_in` meets its contract.
--- Assumes nothing.
 use Rattle.dispatcher_words.proofs.Waits.{waits_words}
 use Rattle.dispatcher_words.proofs.waits_in.Goals as goal
 

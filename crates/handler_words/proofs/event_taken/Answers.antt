@@ -1,5 +1,4 @@
 -- `handler_words::event_taken` meets its contract.
--- Assumes nothing.
 use Rattle.handler_words.specs.Words.{event_at}
 use Rattle.handler_words.proofs.Events.{action_weighed}
 use Rattle.handler_words.proofs.event_taken.Goals as goal

@@ -1,5 +1,4 @@
 -- `handler_words::handle_at` meets its contract.
--- Assumes nothing.
 use Rattle.handler_words.proofs.Plain.{plain_at}
 use Rattle.handler_words.proofs.handle_at.Goals as goal
 

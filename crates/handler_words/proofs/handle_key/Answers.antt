@@ -1,5 +1,4 @@
 -- `handler_words::handle_key` meets its contract: 21, or the byte is followed and its event queued.
--- Assumes nothing.
 use mathlib.Core.Bool.{not, true}
 use mathlib.Core.Path.{ap, ◌≡◌, sym, ◌∙◌}
 use borrow.Author.Tests.{not-true, not-false}

@@ -1,5 +1,4 @@
 -- `handler_words::handle_plain` meets its contract: the byte is followed, which changes no flag, and its event queued.
--- Assumes nothing.
 use native.Mathlib.Omega.{arith}
 use Rattle.keyboard_scancodes.proofs.Plain.{plain_known}
 use Rattle.keyboard_record.proofs.Ready.{ready_says}

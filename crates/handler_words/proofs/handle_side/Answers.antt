@@ -1,5 +1,4 @@
 -- `handler_words::handle_side` meets its contract.
--- Assumes nothing.
 use mathlib.Core.Path.{sym, ◌∙◌}
 use Rattle.handler_words.proofs.Alone.{malformed_alone}
 use Rattle.handler_words.proofs.Calls.{placed, left_alone, written}

@@ -1,5 +1,4 @@
 -- `handler_words::is_from_script` meets its contract: each part is asked in turn.
--- Assumes nothing.
 use mathlib.Core.Path.{sym, ap, ◌∙◌}
 use mathlib.Core.Bool.{not, true≢false}
 use Prim.Native.Nat.{ℕ, ◌+◌}

@@ -1,5 +1,4 @@
 -- `handler_words::is_plain_key` meets its contract: each part is asked in turn.
--- Assumes nothing.
 use mathlib.Core.Bool.{true≢false}
 use mathlib.Core.Path.{sym, ◌∙◌}
 use Rattle.keyboard_scancodes.proofs.Plain.{plain_not_silent, plain_lamps}

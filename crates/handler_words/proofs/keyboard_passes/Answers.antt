@@ -1,5 +1,4 @@
 -- `handler_words::keyboard_passes` meets its contract: each number is asked in turn, all its bits.
--- Assumes nothing.
 use mathlib.Core.Path.{sym, ◌∙◌}
 use mathlib.Core.Bool.{true≢false}
 use native.Mathlib.Omega.{arith}

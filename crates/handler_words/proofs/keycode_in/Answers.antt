@@ -1,5 +1,4 @@
 -- `handler_words::keycode_in` meets its contract.
--- Assumes nothing.
 use mathlib.Core.Path.{refl, ap, ◌∙◌}
 use Rattle.keycodes_ascii.specs.Keycode.{number_of}
 use Rattle.handler_words.proofs.Events.{found_in, none_in}

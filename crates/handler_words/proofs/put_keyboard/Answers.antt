@@ -1,5 +1,4 @@
 -- `handler_words::put_keyboard` meets its contract.
--- Assumes nothing.
 use mathlib.Core.Path.{sym, ap, ◌∙◌}
 use native.Mathlib.Omega.{arith}
 use Rattle.handler_words.specs.Words.{bytes_in}

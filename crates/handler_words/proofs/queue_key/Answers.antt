@@ -1,5 +1,4 @@
 -- `handler_words::queue_key` meets its contract: 19, then what the queue says.
--- Assumes nothing.
 use mathlib.Core.Bool.{true}
 use mathlib.Core.Path.{◌≡◌, refl, sym, ap, ◌∙◌}
 use borrow.Author.Tests.{le-leb, lt-leb}

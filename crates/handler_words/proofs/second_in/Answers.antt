@@ -1,5 +1,4 @@
 -- `handler_words::second_in` meets its contract.
--- Assumes nothing.
 use mathlib.Core.Path.{sym, ◌∙◌}
 use native.Mathlib.Omega.{arith}
 use Rattle.handler_words.proofs.Passing.{second_passes, said_two, fresh_second, lent_second}

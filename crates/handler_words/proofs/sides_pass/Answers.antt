@@ -1,5 +1,4 @@
 -- `handler_words::sides_pass` meets its contract: the first side's numbers, the profile, then by how many keyboards there are.
--- Assumes nothing.
 use mathlib.Core.Path.{sym, ◌∙◌}
 use mathlib.Core.Bool.{true≢false}
 use native.Mathlib.Omega.{arith}

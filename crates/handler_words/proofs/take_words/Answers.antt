@@ -1,5 +1,4 @@
 -- `handler_words::take_words` meets its contract.
--- Assumes nothing.
 use mathlib.Core.Path.{◌≡◌, sym, ◌∙◌}
 use mathlib.Core.Bool.{true}
 use Prim.Native.Nat.{◌<◌}

@@ -1,5 +1,4 @@
 -- `handler_words::waiting_words` meets its contract.
--- Assumes nothing.
 use Rattle.handler_words.proofs.Bytes.{in_two}
 use Rattle.handler_words.proofs.waiting_words.Goals as goal
 

@@ -1,5 +1,4 @@
 -- `key_listing::call_once` meets its contract: the call, the taking, then the lines of both.
--- Assumes nothing.
 use mathlib.Core.Path.{sym, ap, ◌∙◌}
 use mathlib.Core.Option.{Option}
 use Rattle.exchange.specs.Answer.{number_ended}

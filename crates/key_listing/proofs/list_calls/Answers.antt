@@ -1,5 +1,4 @@
 -- `key_listing::list_calls` meets its contract: a call after another, until none is to follow or no byte is left.
--- Assumes nothing.
 use native.Mathlib.Omega.{arith}
 use mathlib.Core.Path.{◌≡◌}
 use Prim.Native.Nat.{◌<◌}

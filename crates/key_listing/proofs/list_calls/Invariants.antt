@@ -1,5 +1,4 @@
 -- `key_listing::list_calls` meets its contract: whoever puts the listing of what is left has put the whole listing.
--- Assumes nothing.
 use Rattle.buffer.specs.declared.Writer.{Writer}
 use Rattle.buffer.specs.Writer.{Puts}
 use Rattle.key_listing.specs.Listing.{at_first, bytes_left, listing_from}

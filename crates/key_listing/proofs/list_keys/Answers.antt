@@ -1,5 +1,4 @@
 -- `key_listing::list_keys` meets its contract: at most 65,536 bytes are used, and what the writer left in the buffer its lender has.
--- Assumes nothing.
 use mathlib.Core.Path.{◌≡◌, refl}
 use lib.ListN.{take}
 use Rattle.std.proofs.Common.{rules}

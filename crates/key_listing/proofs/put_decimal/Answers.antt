@@ -1,5 +1,4 @@
 -- `key_listing::put_decimal` meets its contract: one, two or three digits, by the size of the number.
--- Assumes nothing.
 use native.Mathlib.Omega.{arith}
 use mathlib.Core.List.{[], ◌∷◌}
 use mathlib.Core.Path.{◌≡◌}

@@ -1,5 +1,4 @@
 -- `key_listing::put_event` meets its contract: its parts one after another.
--- Assumes nothing.
 use Rattle.buffer.proofs.Buffer.{puts_then}
 use Rattle.key_listing.specs.Lines.{event_line}
 use Rattle.key_listing.proofs.put_event.Goals as goal

@@ -1,5 +1,4 @@
 -- `key_listing::put_refusal` meets its contract: the word and the number of a refusal, which is never 0.
--- Assumes nothing.
 use mathlib.Core.Path.{◌≡◌, refl}
 use mathlib.Core.List.{◌++◌}
 use Rattle.std.specs.Prelude.{Err}

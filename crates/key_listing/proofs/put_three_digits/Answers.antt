@@ -1,5 +1,4 @@
 -- `key_listing::put_three_digits` meets its contract: the digits one after another.
--- Assumes nothing.
 use Rattle.buffer.proofs.Buffer.{puts_then}
 use Rattle.key_listing.proofs.put_three_digits.Goals as goal
 

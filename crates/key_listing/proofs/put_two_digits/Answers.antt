@@ -1,5 +1,4 @@
 -- `key_listing::put_two_digits` meets its contract: the first digit, then the last.
--- Assumes nothing.
 use native.Mathlib.Omega.{arith}
 use mathlib.Core.Path.{◌≡◌}
 use Rattle.std.specs.Prelude.{◌/◌, ◌%◌}

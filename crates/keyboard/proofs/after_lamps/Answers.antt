@@ -1,5 +1,4 @@
 -- `keyboard::after_lamps` meets its contract: 19, or the event of the key.
--- Assumes nothing.
 use Rattle.keyboard.specs.Byte.{key_event}
 use Rattle.keyboard_scancodes.proofs.Keycodes.{known_low, known_keycode, unknown_low}
 use Rattle.keyboard.proofs.after_lamps.Goals as goal

@@ -1,5 +1,4 @@
 -- `keyboard::event_of` meets its contract: bytes from 80 up are releases.
--- Assumes nothing.
 use borrow.Author.Tests.{lt-ltb, le-ltb}
 use Rattle.keyboard_scancodes.specs.Events.{event_of}
 use Rattle.keyboard.proofs.event_of.Goals as goal

@@ -1,5 +1,4 @@
 -- `keyboard::handle_in_place` meets its contract: the places with the new event, or as they were.
--- Assumes nothing.
 use native.Mathlib.Omega.{arith}
 use Rattle.keyboard_record.proofs.WellFormed.{WellFormed}
 use Rattle.keyboard.specs.KeyboardLamps.{keyboard_lamps}

@@ -1,5 +1,4 @@
 -- `keyboard::handle_state` meets its contract: 21, or what the record makes of its keyboard's part.
--- Assumes nothing.
 use mathlib.Core.Path.{◌≡◌, refl, sym, ap, ◌∙◌}
 use mathlib.Core.Bool.{not}
 use borrow.Author.Tests.{not-true}

@@ -1,5 +1,4 @@
 -- `keyboard::key_call` meets its contract: the byte that is taken, then what it does.
--- Assumes nothing.
 use mathlib.Core.Path.{refl}
 use Prim.Native.Nat.{◌≤◌}
 use native.Mathlib.Omega.{arith}

@@ -1,5 +1,4 @@
 -- `keyboard::on_byte` meets its contract: a silent byte, the press of a lock, or another key's byte.
--- Assumes nothing.
 use mathlib.Core.Path.{refl, sym, ◌∙◌}
 use Rattle.keyboard_scancodes.proofs.Tournament.{followed_any}
 use Rattle.keyboard.specs.KeyboardLamps.{port_rules}

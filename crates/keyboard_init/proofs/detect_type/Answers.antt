@@ -1,5 +1,4 @@
 -- `keyboard_init::detect_type` meets its contract: one call, whose refusals the operation's own replaces.
--- Assumes nothing.
 use Rattle.ps2_command.proofs.Replaced.{refusing_told}
 use Rattle.ps2_detect.specs.Detection.{keyboard_detect}
 use Rattle.keyboard_init.specs.KeyboardInit.{detection}

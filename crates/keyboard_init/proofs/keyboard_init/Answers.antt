@@ -1,5 +1,4 @@
 -- `keyboard_init::keyboard_init` meets its contract: the answer of the setting up, and a fresh record.
--- Assumes nothing.
 use Rattle.keyboard_init.proofs.keyboard_init.Goals as goal
 
 pub returns : goal.returns

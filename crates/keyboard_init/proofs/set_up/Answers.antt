@@ -1,5 +1,4 @@
 -- `keyboard_init::set_up` meets its contract: the detection, then the scancode set on what it left.
--- Assumes nothing.
 use native.Mathlib.Omega.{arith}
 use Rattle.exchange.specs.Answer.{and_then}
 use Rattle.exchange.proofs.Counts.{counts}

@@ -1,5 +1,4 @@
 -- `keyboard_scancodes::followed_lock` meets its contract: the locks of the table, or none.
--- Assumes nothing.
 use mathlib.Core.Path.{◌≡◌, ◌∙◌}
 use Prim.Native.Nat.{ℕ}
 use Rattle.keyboard_scancodes.specs.declared.Profile.{Profile}

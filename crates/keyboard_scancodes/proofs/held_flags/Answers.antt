@@ -1,5 +1,4 @@
 -- `keyboard_scancodes::held_flags` meets its contract: each arm has the flags of the rows of its code.
--- Assumes nothing.
 use Rattle.bits.specs.Bits.{put_bit}
 use Rattle.keyboard_scancodes.specs.FlagTable.{flag_table, is_of}
 use Rattle.keyboard_scancodes.proofs.Untouched.{no_held}

@@ -1,5 +1,4 @@
 -- `keyboard_scancodes::is_lock_press` meets its contract: the locks of the table, or none.
--- Assumes nothing.
 use mathlib.Core.Path.{◌≡◌, sym, ◌∙◌}
 use mathlib.Core.Bool.{false, true≢false}
 use Prim.Native.Nat.{ℕ}

@@ -1,5 +1,4 @@
 -- `keyboard_scancodes::is_plain` meets its contract: the bits of the mask are the keys without a flag, computed over all codes.
--- Assumes nothing.
 use mathlib.Core.Path.{◌≡◌, ◌∙◌}
 use Prim.Native.Nat.{ℕ, ◌%◌, ◌<◌}
 use native.Mathlib.Omega.{arith}

@@ -1,5 +1,4 @@
 -- `keyboard_scancodes::is_tournament_key` meets its contract: the bits of the masks are the list's keys, computed over all codes.
--- Assumes nothing.
 use mathlib.Core.Path.{◌≡◌, refl, sym, ap, ◌∙◌}
 use mathlib.Core.Bool.{true, false, and-eq-true_iff}
 use mathlib.Core.List.{List, [], ◌∷◌}

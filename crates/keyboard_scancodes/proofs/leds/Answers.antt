@@ -1,5 +1,4 @@
 -- `keyboard_scancodes::leds` meets its contract: each lamp is put as its lock's flag is.
--- Assumes nothing.
 use Rattle.keyboard_scancodes.specs.Lamps.{lamps_lit}
 use Rattle.keyboard_scancodes.proofs.LampBits.{lamps_put}
 use Rattle.keyboard_scancodes.proofs.leds.Goals as goal

@@ -1,5 +1,4 @@
 -- `keyboard_scancodes::lock_flag` meets its contract: each arm has the flag of the lock of its code.
--- Assumes nothing.
 use mathlib.Core.Path.{sym}
 use Rattle.bits.specs.Bits.{put_bit}
 use Rattle.keyboard_scancodes.specs.FlagTable.{flag_table, is_of}

@@ -1,5 +1,4 @@
 -- `keyboard_scancodes::modifiers_after` meets its contract: the masks of the byte's key, put in or taken out.
--- Assumes nothing.
 use borrow.Author.Tests.{lt-ltb, le-ltb}
 use mathlib.Core.Path.{◌≡◌, refl, ap, ap₂, ◌∙◌}
 use mathlib.Core.Bool.{Bool, xor, ◌||◌}

@@ -1,5 +1,4 @@
 -- `keyboard_scancodes::presses_lock` meets its contract: three bytes press a lock, and no other does.
--- Assumes nothing.
 use mathlib.Core.Path.{◌≡◌, refl, sym, ◌∙◌}
 use mathlib.Core.Bool.{Bool, true, false, true≢false}
 use mathlib.Core.Logic.{◌≢◌}

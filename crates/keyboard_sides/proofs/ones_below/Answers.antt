@@ -1,5 +1,4 @@
 -- `keyboard_sides::ones_below` meets its contract: the mask leaves the lowest bits, and a whole word is as many as it has.
--- Assumes nothing.
 use mathlib.Core.Path.{ap, sym}
 use native.Mathlib.Omega.{arith}
 use lib.Bits.{and_mask}

@@ -1,5 +1,4 @@
 -- `keyboard_sides::put` meets its contract: the mask of one bit clears it or sets it.
--- Assumes nothing.
 use native.Mathlib.Omega.{arith}
 use mathlib.Core.Path.{◌∙◌, ap, sym}
 use Rattle.bits.specs.Bits.{put_bit}

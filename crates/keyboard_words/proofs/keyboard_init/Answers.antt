@@ -1,5 +1,4 @@
 -- `keyboard_words::keyboard_init` meets its contract.
--- Assumes nothing.
 use Rattle.keyboard_words.proofs.Initialized.{at_long}
 use Rattle.keyboard_words.proofs.keyboard_init.Goals as goal
 

@@ -1,5 +1,4 @@
 -- `keyboard_words::keyboard_set_repeat` meets its contract: by the byte.
--- Assumes nothing.
 use native.Mathlib.Omega.{arith}
 use mathlib.Core.Path.{refl}
 use Rattle.port_words.proofs.Tells.{at_none}

@@ -1,5 +1,4 @@
 -- `keyboard_words::put_initialized` meets its contract: by how the exchange ended.
--- Assumes nothing.
 use mathlib.Core.Path.{refl, sym, ◌∙◌}
 use mathlib.Core.Bool.{true≢false}
 use Rattle.keyboard_words.proofs.put_initialized.Goals as goal

@@ -1,5 +1,4 @@
 -- `keyboard_words::set_of` meets its contract: each arm is a row of the table, and the last arm is no row of it.
--- Assumes nothing.
 use mathlib.Core.Path.{sym}
 use Rattle.bits.specs.Table.{decode}
 use Rattle.bits.proofs.Table.{decode_missing}

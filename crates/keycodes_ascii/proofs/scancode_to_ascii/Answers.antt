@@ -1,5 +1,4 @@
 -- `keycodes_ascii::scancode_to_ascii` meets its contract: the character of the byte's keycode, if it has one.
--- Assumes nothing.
 use mathlib.Core.Path.{ap, ◌∙◌}
 use Rattle.std.specs.Result.{result_ok}
 use Rattle.keycodes_ascii.specs.Characters.{character_of_found, scancode_character}

@@ -1,5 +1,4 @@
 -- `port_words::packet_words` meets its contract: by the answer. Each movement is read back from the bits that it was returned in.
--- Assumes nothing.
 use Prim.Native.Nat.{◌<◌, ◌^◌}
 use mathlib.Core.Path.{◌≡◌}
 use lib.IntN.{ℤ}

@@ -1,5 +1,4 @@
 -- `preferences_application::apply_five` meets its contract: the four fields, then the repeat byte.
--- Assumes nothing.
 use native.Mathlib.Omega.{arith}
 use mathlib.Core.Path.{refl}
 use Rattle.exchange.proofs.Counts.{counts}

@@ -1,5 +1,4 @@
 -- `preferences_application::apply_preferences` meets its contract: what is asked first is whether the fields are within their values.
--- Assumes nothing.
 use mathlib.Core.Path.{◌∙◌, sym}
 use Rattle.preferences_application.proofs.Outside.{plays_within, plays_outside}
 use Rattle.preferences_application.proofs.apply_preferences.Goals as goal

@@ -1,5 +1,4 @@
 -- `preferences_application::apply_setting` meets its contract: each arm is its setting's operation.
--- Assumes nothing.
 use Rattle.ps2_kept.proofs.Contracts.{plays_forgets}
 use Rattle.preferences_application.specs.Application.{apply_setting}
 use Rattle.preferences_application.proofs.Turns.{plays_as}

@@ -1,5 +1,4 @@
 -- `preferences_application::apply_settings` meets its contract: each turn of the loop sets the next setting.
--- Assumes nothing.
 use Prim.Native.Nat.{◌+◌}
 use native.Mathlib.Omega.{arith}
 use lib.ListN.{get_or, drop}

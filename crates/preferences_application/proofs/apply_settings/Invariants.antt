@@ -1,5 +1,4 @@
 -- `preferences_application::apply_settings` meets its contract: each turn of the loop sets the next setting.
--- Assumes nothing.
 use lib.ListN.{drop}
 use Rattle.exchange.specs.Position.{Reached}
 use Rattle.preferences_application.specs.Application.{apply_settings}

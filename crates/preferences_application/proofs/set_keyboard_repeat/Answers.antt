@@ -1,5 +1,4 @@
 -- `preferences_application::set_keyboard_repeat` meets its contract: the keyboard is on the first port, and what was thrown away is dropped.
--- Assumes nothing.
 use Rattle.ps2_kept.proofs.Contracts.{plays_forgets}
 use Rattle.ps2_keyboard.specs.Keyboard.{command_to_keyboard}
 use Rattle.preferences_application.specs.Application.{set_keyboard_repeat}

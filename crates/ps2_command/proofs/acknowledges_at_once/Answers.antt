@@ -1,5 +1,4 @@
 -- `ps2_command::acknowledges_at_once` meets its contract: past the first three questions the third byte decides.
--- Assumes nothing.
 use mathlib.Core.Bool.{true, not, true≢false}
 use mathlib.Core.Path.{◌≡◌, sym, ap, ◌∙◌}
 use native.Mathlib.Omega.{arith}

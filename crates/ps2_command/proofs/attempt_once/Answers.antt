@@ -1,5 +1,4 @@
 -- `ps2_command::attempt_once` meets its contract: a response is judged, a refusal settles the command.
--- Assumes nothing.
 use Rattle.ps2_answers.proofs.Then.{exit}
 use Rattle.ps2_command.proofs.Attempts.{attempt_concluded, attempt_refused}
 use Rattle.ps2_command.proofs.attempt_once.Goals as goal

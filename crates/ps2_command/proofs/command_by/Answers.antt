@@ -1,5 +1,4 @@
 -- `ps2_command::command_by` meets its contract: a command onto nothing.
--- Assumes nothing.
 use native.Mathlib.Omega.{arith}
 use Rattle.ps2_answers.specs.Answers.{ended}
 use Rattle.ps2_kept.proofs.Contracts.{plays_from_nothing, plays_handed}

@@ -1,5 +1,4 @@
 -- `ps2_command::command_onto` meets its contract: each turn of the loop is one attempt on what is left, with the bytes kept so far.
--- Assumes nothing.
 use native.Mathlib.Omega.{arith}
 use mathlib.Core.Path.{refl, ap, ◌∙◌}
 use Rattle.exchange.specs.Exchange.{yields}

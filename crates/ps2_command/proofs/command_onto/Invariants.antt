@@ -1,5 +1,4 @@
 -- `ps2_command::command_onto` meets its contract: each turn of the loop is one attempt on what is left, with the bytes kept so far.
--- Assumes nothing.
 use Rattle.exchange.specs.Answer.{refuses}
 use Rattle.exchange.specs.Position.{Reached}
 use Rattle.exchange.specs.Repeat.{repeat}

@@ -1,5 +1,4 @@
 -- `ps2_command::command_pair` meets its contract: two commands onto nothing.
--- Assumes nothing.
 use native.Mathlib.Omega.{arith}
 use Rattle.exchange.proofs.Then.{within_then}
 use Rattle.ps2_kept.proofs.Contracts.{plays_from_nothing}

@@ -1,5 +1,4 @@
 -- `ps2_command::command_pair_at_once` meets its contract: nothing is done, or both commands are.
--- Assumes nothing.
 use borrow.Author.Tests.{not-false}
 use mathlib.Core.Bool.{not, true}
 use mathlib.Core.Path.{◌≡◌, sym, ap, ◌∙◌}

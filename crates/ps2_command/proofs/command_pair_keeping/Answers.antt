@@ -1,5 +1,4 @@
 -- `ps2_command::command_pair_keeping` meets its contract: two commands, the second on what the first left, with the bytes that it kept.
--- Assumes nothing.
 use native.Mathlib.Omega.{arith}
 use Rattle.exchange.proofs.Counts.{counts}
 use Rattle.ps2_answers.proofs.Then.{exit}

@@ -1,5 +1,4 @@
 -- `ps2_command::command_to_port2_onto` meets its contract: D4, then the command on the log's tail.
--- Assumes nothing.
 use native.Mathlib.Omega.{arith}
 use Rattle.std.specs.Prelude.{Ok, Err}
 use Rattle.exchange.specs.Keeping.{NoData, no_data_done, no_data_write}

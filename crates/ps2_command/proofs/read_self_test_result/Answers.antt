@@ -1,5 +1,4 @@
 -- `ps2_command::read_self_test_result` meets its contract: a wait by data reads, for AA.
--- Assumes nothing.
 use Rattle.ps2_command.specs.Search.{self_test_within}
 use Rattle.ps2_command.proofs.read_self_test_result.Goals as goal
 

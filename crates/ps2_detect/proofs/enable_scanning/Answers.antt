@@ -1,5 +1,4 @@
 -- `ps2_detect::enable_scanning` meets its contract: the command, and what was found before it where it is accepted.
--- Assumes nothing.
 use Prim.Native.Nat.{ℕ}
 use mathlib.Core.List.{List}
 use mathlib.Core.Path.{◌≡◌}

@@ -1,5 +1,4 @@
 -- `ps2_detect::identify` meets its contract: the search, then the command, unless the search lacked a byte.
--- Assumes nothing.
 use native.Mathlib.Omega.{arith}
 use Prim.Native.Nat.{◌*◌}
 use mathlib.Core.Path.{◌≡◌, sym, ◌∙◌}

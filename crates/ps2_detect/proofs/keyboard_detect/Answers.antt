@@ -1,5 +1,4 @@
 -- `ps2_detect::keyboard_detect` meets its contract: two commands, then the identification.
--- Assumes nothing.
 use native.Mathlib.Omega.{arith}
 use mathlib.Core.Path.{◌≡◌}
 use Rattle.exchange.specs.Exchange.{Exchange}

@@ -1,5 +1,4 @@
 -- `ps2_detect::poll_keyboard_type` meets its contract: each turn of a loop is one poll of what is left, of the outer search or of the inner one.
--- Assumes nothing.
 use native.Mathlib.Omega.{arith}
 use borrow.Author.Tests.{eq-eqb, ne_eqb}
 use mathlib.Core.Path.{ap, ◌∙◌}

@@ -1,5 +1,4 @@
 -- `ps2_detect::poll_keyboard_type` meets its contract: each turn of a loop is one poll of what is left, of the outer search or of the inner one.
--- Assumes nothing.
 use Rattle.exchange.specs.Exchange.{bind}
 use Rattle.exchange.specs.Answer.{refuses}
 use Rattle.exchange.specs.Repeat.{repeat}

@@ -1,4 +1,4 @@
--- `ps2_init::init` meets its contract: the steps, where it was not initialised before; the record as they leave it. Assumes nothing.
+-- `ps2_init::init` meets its contract: the steps, where it was not initialised before; the record as they leave it.
 use Rattle.ps2_init.proofs.Record.{init_already, init_ready, init_refused}
 use Rattle.ps2_init.proofs.init.Goals as goal
 

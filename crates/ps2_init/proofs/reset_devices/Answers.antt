@@ -1,4 +1,4 @@
--- `ps2_init::reset_devices` meets its contract: both resets, forgiven, and the last read, each on what is left. Assumes nothing.
+-- `ps2_init::reset_devices` meets its contract: both resets, forgiven, and the last read, each on what is left.
 use Prim.Native.Nat.{ℕ, ◌*◌, ◌<◌, ◌^◌}
 use native.Mathlib.Omega.{arith}
 use mathlib.Core.Bool.{Bool}

@@ -1,4 +1,4 @@
--- `ps2_init::set_up` meets its contract: the configuration as read, the tests, the ports enabled, the devices reset, each on what is left. Assumes nothing.
+-- `ps2_init::set_up` meets its contract: the configuration as read, the tests, the ports enabled, the devices reset, each on what is left.
 use Prim.Native.Nat.{ℕ, ◌*◌, ◌<◌, ◌^◌}
 use native.Mathlib.Omega.{arith}
 use mathlib.Core.Bool.{Bool}

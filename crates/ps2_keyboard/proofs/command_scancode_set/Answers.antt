@@ -1,5 +1,4 @@
 -- `ps2_keyboard::command_scancode_set` meets its contract: the keyboard is on the first port.
--- Assumes nothing.
 use Rattle.ps2_kept.proofs.Contracts.{plays_forgets}
 use Rattle.ps2_keyboard.specs.Keyboard.{command_to_keyboard, command_scancode_set}
 use Rattle.ps2_keyboard.proofs.command_scancode_set.Goals as goal

@@ -1,5 +1,4 @@
 -- `ps2_keyboard::command_to_keyboard` meets its contract: it is the command rule.
--- Assumes nothing.
 use Rattle.ps2_keyboard.specs.Keyboard.{command_to_keyboard}
 use Rattle.ps2_keyboard.proofs.command_to_keyboard.Goals as goal
 

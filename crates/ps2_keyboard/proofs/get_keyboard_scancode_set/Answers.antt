@@ -1,5 +1,4 @@
 -- `ps2_keyboard::get_keyboard_scancode_set` meets its contract: the command and its byte, then the polls.
--- Assumes nothing.
 use native.Mathlib.Omega.{arith}
 use Rattle.exchange.proofs.Counts.{counts}
 use Rattle.ps2_answers.proofs.Then.{exit, first_steps, first_stops, then_reads_ends}

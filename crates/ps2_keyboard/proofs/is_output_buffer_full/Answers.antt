@@ -1,5 +1,4 @@
 -- `ps2_keyboard::is_output_buffer_full` meets its contract: one read of the status, and its bit 0.
--- Assumes nothing.
 use Rattle.bits.specs.Bits.{bit}
 use Rattle.exchange.specs.Answer.{Answer, gives}
 use Rattle.exchange.specs.Exchange.{Exchange, done}

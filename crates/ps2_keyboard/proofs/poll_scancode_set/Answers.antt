@@ -1,5 +1,4 @@
 -- `ps2_keyboard::poll_scancode_set` meets its contract: each turn of the loop is one poll of what is left.
--- Assumes nothing.
 use native.Mathlib.Omega.{arith}
 use mathlib.Core.Path.{ap, ◌∙◌}
 use Rattle.ps2_bytes.specs.Data.{scancode_sets}

@@ -1,5 +1,4 @@
 -- `ps2_keyboard::poll_scancode_set` meets its contract: each turn of the loop is one poll of what is left.
--- Assumes nothing.
 use Rattle.exchange.specs.Answer.{refuses}
 use Rattle.exchange.specs.Repeat.{repeat}
 use Rattle.ps2_answers.proofs.Reading.{Read}

@@ -1,5 +1,4 @@
 -- `ps2_keyboard::read_scancode` meets its contract: it is one read of data.
--- Assumes nothing.
 use Rattle.ps2_keyboard.specs.Keyboard.{read_scancode}
 use Rattle.ps2_keyboard.proofs.read_scancode.Goals as goal
 

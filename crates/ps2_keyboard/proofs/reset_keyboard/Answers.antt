@@ -1,5 +1,4 @@
 -- `ps2_keyboard::reset_keyboard` meets its contract: the command, then the reads for an AA of the reset's own.
--- Assumes nothing.
 use native.Mathlib.Omega.{arith}
 use Rattle.exchange.proofs.Counts.{counts}
 use Rattle.ps2_kept.proofs.Contracts.{plays_forgets}

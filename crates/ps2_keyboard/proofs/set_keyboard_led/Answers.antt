@@ -1,5 +1,4 @@
 -- `ps2_keyboard::set_keyboard_led` meets its contract: a lamp exchange onto nothing.
--- Assumes nothing.
 use native.Mathlib.Omega.{arith}
 use Rattle.ps2_kept.proofs.Contracts.{plays_from_nothing}
 use Rattle.ps2_keyboard.specs.Keyboard.{command_to_keyboard, set_led_by, set_keyboard_led, set_port_led}

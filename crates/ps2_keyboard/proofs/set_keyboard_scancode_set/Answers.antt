@@ -1,5 +1,4 @@
 -- `ps2_keyboard::set_keyboard_scancode_set` meets its contract: the command and its byte, then the question for the set, whatever its answer.
--- Assumes nothing.
 use native.Mathlib.Omega.{arith}
 use Rattle.exchange.specs.Answer.{gives, and_then}
 use Rattle.exchange.specs.Exchange.{done}

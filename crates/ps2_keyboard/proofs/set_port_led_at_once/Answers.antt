@@ -1,5 +1,4 @@
 -- `ps2_keyboard::set_port_led_at_once` meets its contract: two commands that are accepted, so no refusal is replaced.
--- Assumes nothing.
 use mathlib.Core.Path.{refl}
 use Rattle.ps2_command.proofs.Replaced.{refusing_kept}
 use Rattle.ps2_keyboard.specs.Keyboard.{set_led_by, set_port_led}

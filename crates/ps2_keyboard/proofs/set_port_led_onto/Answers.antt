@@ -1,5 +1,4 @@
 -- `ps2_keyboard::set_port_led_onto` meets its contract: two commands, whose refusals the operation's own replaces.
--- Assumes nothing.
 use Rattle.ps2_command.proofs.Replaced.{refusing_kept}
 use Rattle.ps2_keyboard.specs.Keyboard.{set_led_by, set_port_led}
 use Rattle.ps2_keyboard.proofs.set_port_led_onto.Goals as goal

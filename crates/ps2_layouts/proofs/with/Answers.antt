@@ -1,4 +1,4 @@
--- `with` meets its contract: by the mask that sets a bit, or the one that clears it. Assumes nothing.
+-- `with` meets its contract: by the mask that sets a bit, or the one that clears it.
 use Rattle.bits.proofs.Masks.{set_mask, clear_mask, one_shl}
 use Rattle.ps2_layouts.proofs.with.Goals as goal
 

@@ -1,4 +1,4 @@
--- `command` meets its contract: the bytes are dropped. Assumes nothing.
+-- `command` meets its contract: the bytes are dropped.
 use Rattle.ps2_kept.proofs.Contracts.{plays_forgets}
 use Rattle.ps2_mouse.proofs.command.Goals as goal
 

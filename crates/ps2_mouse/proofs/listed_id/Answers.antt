@@ -1,4 +1,4 @@
--- `listed_id` meets its contract: the byte's worth by the table of identities. Assumes nothing.
+-- `listed_id` meets its contract: the byte's worth by the table of identities.
 use Rattle.ps2_mouse.proofs.Polls.{identity_found}
 use Rattle.ps2_mouse.proofs.listed_id.Goals as goal
 

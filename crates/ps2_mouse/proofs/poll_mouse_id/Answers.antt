@@ -1,4 +1,4 @@
--- `poll_mouse_id` meets its contract: data is read where the status says that the mouse has some. Assumes nothing.
+-- `poll_mouse_id` meets its contract: data is read where the status says that the mouse has some.
 use native.Mathlib.Omega.{arith}
 use Prim.Native.Nat.{ℕ}
 use mathlib.Core.Bool.{Bool, true, false}

@@ -1,4 +1,4 @@
--- `read_self_test_and_id` meets its contract: one byte more is read where the self test passed. Assumes nothing.
+-- `read_self_test_and_id` meets its contract: one byte more is read where the self test passed.
 use native.Mathlib.Omega.{arith}
 use Rattle.exchange.proofs.Position.{reads_used_le}
 use Rattle.ps2_answers.proofs.Then.{exit}

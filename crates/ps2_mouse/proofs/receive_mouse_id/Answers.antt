@@ -1,4 +1,4 @@
--- `receive_mouse_id` meets its contract: each turn of the loop is one poll on what is left. Assumes nothing.
+-- `receive_mouse_id` meets its contract: each turn of the loop is one poll on what is left.
 use native.Mathlib.Omega.{arith}
 use mathlib.Core.Path.{ap}
 use Rattle.ps2_answers.proofs.Then.{exit}

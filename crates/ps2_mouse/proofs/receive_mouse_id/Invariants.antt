@@ -1,4 +1,4 @@
--- `receive_mouse_id` meets its contract: each turn of the loop is one poll on what is left. Assumes nothing.
+-- `receive_mouse_id` meets its contract: each turn of the loop is one poll on what is left.
 use Rattle.exchange.specs.Answer.{Answer, refuses}
 use Rattle.exchange.specs.Exchange.{Exchange}
 use Rattle.exchange.specs.Repeat.{Turn, repeat}

@@ -1,4 +1,4 @@
--- `setting` meets its contract: the command and its data, without the bytes, and with the refusal replaced. Assumes nothing.
+-- `setting` meets its contract: the command and its data, without the bytes, and with the refusal replaced.
 use Rattle.ps2_kept.proofs.Contracts.{plays_forgets}
 use Rattle.ps2_command.proofs.Replaced.{refusing_told}
 use Rattle.ps2_mouse.specs.Mouse.{command_to_mouse}

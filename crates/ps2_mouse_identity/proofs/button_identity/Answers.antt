@@ -1,4 +1,4 @@
--- `button_identity` meets its contract: the identity that was read, or the old one. Assumes nothing.
+-- `button_identity` meets its contract: the identity that was read, or the old one.
 use Rattle.ps2_answers.proofs.Then.{exit, first_steps, first_stops, given_here}
 use Rattle.ps2_mouse_identity.specs.Identity.{identity_if_read, button_rates}
 use Rattle.ps2_mouse_identity.proofs.Forgives.{given_or, second_grouped}

@@ -1,4 +1,4 @@
--- `change_id` meets its contract: the packets are started where an identity was found. Assumes nothing.
+-- `change_id` meets its contract: the packets are started where an identity was found.
 use native.Mathlib.Omega.{arith}
 use Rattle.exchange.proofs.Counts.{counts}
 use Rattle.ps2_answers.proofs.Then.{exit}

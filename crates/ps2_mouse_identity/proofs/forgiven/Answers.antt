@@ -1,4 +1,4 @@
--- `forgiven` meets its contract: the outcome of asking, with a failure as no identity. Assumes nothing.
+-- `forgiven` meets its contract: the outcome of asking, with a failure as no identity.
 use mathlib.Core.Path.{refl, sym}
 use Rattle.ps2_answers.proofs.Then.{exit}
 use Rattle.ps2_answers.proofs.Forgiving.{outcome, lacked}

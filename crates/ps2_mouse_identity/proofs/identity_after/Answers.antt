@@ -1,4 +1,4 @@
--- `identity_after` meets its contract: the identity is asked for where the rates ended. Assumes nothing.
+-- `identity_after` meets its contract: the identity is asked for where the rates ended.
 use native.Mathlib.Omega.{arith}
 use mathlib.Core.Path.{refl}
 use Rattle.exchange.specs.Exchange.{Exchange, done, bind}

@@ -1,4 +1,4 @@
--- `new_identity` meets its contract: the rates follow where the packets are stopped. Assumes nothing.
+-- `new_identity` meets its contract: the rates follow where the packets are stopped.
 use native.Mathlib.Omega.{arith}
 use Rattle.exchange.proofs.Counts.{counts}
 use Rattle.ps2_answers.proofs.Then.{exit, first_steps, first_stops, then_ends}

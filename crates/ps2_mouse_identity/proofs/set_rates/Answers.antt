@@ -1,4 +1,4 @@
--- `set_rates` meets its contract: each turn of the loop sets the next rate. Assumes nothing.
+-- `set_rates` meets its contract: each turn of the loop sets the next rate.
 use native.Mathlib.Omega.{arith}
 use Prim.Native.Nat.{◌+◌}
 use lib.ListN.{get_or, drop}

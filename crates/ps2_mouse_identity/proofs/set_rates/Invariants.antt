@@ -1,4 +1,4 @@
--- `set_rates` meets its contract: each turn of the loop sets the next rate. Assumes nothing.
+-- `set_rates` meets its contract: each turn of the loop sets the next rate.
 use lib.ListN.{drop}
 use Rattle.exchange.specs.Position.{Reached}
 use Rattle.ps2_mouse_identity.specs.Identity.{set_rates}

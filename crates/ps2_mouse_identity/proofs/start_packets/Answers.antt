@@ -1,4 +1,4 @@
--- `start_packets` meets its contract: the record has the new identity, but where the script or the log ended. Assumes nothing.
+-- `start_packets` meets its contract: the record has the new identity, but where the script or the log ended.
 use Rattle.ps2_mouse_identity.proofs.Record.{start_ended, start_lacked}
 use Rattle.ps2_mouse_identity.proofs.start_packets.Goals as goal
 

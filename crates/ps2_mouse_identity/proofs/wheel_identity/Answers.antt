@@ -1,4 +1,4 @@
--- `wheel_identity` meets its contract: each identity that was read, and none, is followed by its own. Assumes nothing.
+-- `wheel_identity` meets its contract: each identity that was read, and none, is followed by its own.
 use native.Mathlib.Omega.{arith}
 use mathlib.Core.Path.{◌≡◌, ap, ◌∙◌}
 use Rattle.std.specs.Prelude.{Some}

@@ -1,4 +1,4 @@
--- `moved` meets its contract: the ones are 255 or 0, and 256 or 0 is taken off, each by its bit. Assumes nothing.
+-- `moved` meets its contract: the ones are 255 or 0, and 256 or 0 is taken off, each by its bit.
 use mathlib.Core.Path.{◌≡◌, ap, ◌∙◌}
 use mathlib.Core.Bool.{cond}
 use mir.Syntax.{w64}

@@ -1,4 +1,4 @@
--- `read_after_three` meets its contract: in each arm the identity is known, and what follows computes. Assumes nothing.
+-- `read_after_three` meets its contract: in each arm the identity is known, and what follows computes.
 use Rattle.ps2_answers.proofs.Reading.{read_start, read_here}
 use Rattle.ps2_packet_reading.proofs.read_after_three.Goals as goal
 

@@ -1,4 +1,4 @@
--- `read_fourth` meets its contract: one read, and the packet that its byte completes. Assumes nothing.
+-- `read_fourth` meets its contract: one read, and the packet that its byte completes.
 use Rattle.exchange.specs.Exchange.{done, bind}
 use Rattle.exchange.specs.Answer.{gives, and_then}
 use Rattle.ps2_answers.proofs.Then.{exit}

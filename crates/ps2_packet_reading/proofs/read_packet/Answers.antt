@@ -1,4 +1,4 @@
--- `read_packet` meets its contract: what follows the three bytes is read where they ended. Assumes nothing.
+-- `read_packet` meets its contract: what follows the three bytes is read where they ended.
 use native.Mathlib.Omega.{arith}
 use Rattle.exchange.proofs.Position.{reads_used_le}
 use Rattle.ps2_answers.proofs.Then.{exit}

@@ -1,4 +1,4 @@
--- `read_signed_packet` meets its contract: what `read_packet` gives is given with its wheel signed. Assumes nothing.
+-- `read_signed_packet` meets its contract: what `read_packet` gives is given with its wheel signed.
 use Rattle.exchange.specs.Exchange.{Exchange, done}
 use Rattle.exchange.specs.Answer.{Answer, gives}
 use Rattle.ps2_packet.specs.declared.MousePacket.{MousePacket}

@@ -1,4 +1,4 @@
--- `read_three` meets its contract: each byte is read where the last one ended. Assumes nothing.
+-- `read_three` meets its contract: each byte is read where the last one ended.
 use native.Mathlib.Omega.{arith}
 use Prim.Native.Nat.{ℕ}
 use Rattle.exchange.specs.Exchange.{Exchange, done, bind}

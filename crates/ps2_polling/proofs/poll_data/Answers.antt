@@ -1,4 +1,4 @@
--- `poll_data` meets its contract: the status, and then data where it says so. Assumes nothing.
+-- `poll_data` meets its contract: the status, and then data where it says so.
 use native.Mathlib.Omega.{arith}
 use Prim.Native.Nat.{ℕ}
 use mathlib.Core.Bool.{Bool, true, false, cond}

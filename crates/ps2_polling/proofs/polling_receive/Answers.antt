@@ -1,4 +1,4 @@
--- `polling_receive` meets its contract: a receiving onto nothing; what was kept is handed back, and nothing after a lack. Assumes nothing.
+-- `polling_receive` meets its contract: a receiving onto nothing; what was kept is handed back, and nothing after a lack.
 use native.Mathlib.Omega.{arith}
 use Rattle.ps2_answers.specs.Answers.{ended}
 use Rattle.ps2_kept.proofs.Contracts.{reads_handed, reads_from_nothing}

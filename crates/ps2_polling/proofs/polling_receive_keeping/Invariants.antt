@@ -1,4 +1,4 @@
--- `polling_receive_keeping` meets its contract: the invariant is how far the definition's repetition has come, with the bytes kept so far; a poll is one turn of it. Assumes nothing.
+-- `polling_receive_keeping` meets its contract: the invariant is how far the definition's repetition has come, with the bytes kept so far; a poll is one turn of it.
 use Rattle.exchange.specs.Answer.{refuses}
 use Rattle.exchange.specs.Repeat.{repeat}
 use Rattle.ps2_answers.proofs.Reading.{Read}

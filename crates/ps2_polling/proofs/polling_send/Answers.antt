@@ -1,4 +1,4 @@
--- `polling_send` meets its contract: the invariant is how far the definition's repetition has come, with nothing written yet; a status read is one turn of it. Assumes nothing.
+-- `polling_send` meets its contract: the invariant is how far the definition's repetition has come, with nothing written yet; a status read is one turn of it.
 use native.Mathlib.Omega.{arith}
 use Prim.Native.Nat.{ℕ, ◌*◌, ◌-◌, ◌<◌}
 use mathlib.Core.Bool.{Bool, true, false, cond, not, not-not}

@@ -1,4 +1,4 @@
--- `polling_send` meets its contract: the invariant is how far the definition's repetition has come, with nothing written yet; a status read is one turn of it. Assumes nothing.
+-- `polling_send` meets its contract: the invariant is how far the definition's repetition has come, with nothing written yet; a status read is one turn of it.
 use mathlib.Core.Path.{◌≡◌}
 use Rattle.exchange.specs.Answer.{refuses}
 use Rattle.exchange.specs.Position.{Reached}

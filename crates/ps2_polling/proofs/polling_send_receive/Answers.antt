@@ -1,4 +1,4 @@
--- `polling_send_receive` meets its contract: a sending, which keeps nothing, then a receiving from what is left of the script. Assumes nothing.
+-- `polling_send_receive` meets its contract: a sending, which keeps nothing, then a receiving from what is left of the script.
 use native.Mathlib.Omega.{arith}
 use Rattle.exchange.proofs.Counts.{counts}
 use Rattle.ps2_answers.specs.Answers.{ended}

@@ -1,4 +1,4 @@
--- `read_test_result` meets its contract: the invariant is how far the definition's repetition has come. Assumes nothing.
+-- `read_test_result` meets its contract: the invariant is how far the definition's repetition has come.
 use native.Mathlib.Omega.{arith}
 use Rattle.ps2_answers.proofs.Then.{exit}
 use Rattle.ps2_answers.proofs.Reading.{turns_over, turn_again, turn_found, turn_stops}

@@ -1,4 +1,4 @@
--- `read_test_result` meets its contract: the invariant is how far the definition's repetition has come. Assumes nothing.
+-- `read_test_result` meets its contract: the invariant is how far the definition's repetition has come.
 use Prim.Native.Nat.{ℕ}
 use Rattle.exchange.specs.Exchange.{Exchange}
 use Rattle.exchange.specs.Answer.{Answer, refuses}

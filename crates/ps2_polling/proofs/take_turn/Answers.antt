@@ -1,4 +1,4 @@
--- `take_turn` meets its contract: a poll, or a read of data that is told as a poll. Assumes nothing.
+-- `take_turn` meets its contract: a poll, or a read of data that is told as a poll.
 use Rattle.std.specs.Prelude.{Ok, Err}
 use Rattle.exchange.specs.Answer.{gives}
 use Rattle.exchange.specs.Repeat.{found}

@@ -1,4 +1,4 @@
--- `test` meets its contract: a command, then the wait on the whole script. Assumes nothing.
+-- `test` meets its contract: a command, then the wait on the whole script.
 use native.Mathlib.Omega.{arith}
 use Rattle.std.specs.Prelude.{Ok, Err}
 use Rattle.ps2_answers.proofs.Then.{exit, all_left, writes_told, first_steps, first_stops, then_reads_ends}

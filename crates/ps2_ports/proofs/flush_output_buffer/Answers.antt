@@ -1,4 +1,4 @@
--- `flush_output_buffer` meets its contract: the read is of port 60, and its byte is dropped. Assumes nothing.
+-- `flush_output_buffer` meets its contract: the read is of port 60, and its byte is dropped.
 use Prim.Native.Nat.{ℕ}
 use Rattle.exchange.specs.Exchange.{done, bind}
 use Rattle.exchange.specs.Answer.{gives, and_then}

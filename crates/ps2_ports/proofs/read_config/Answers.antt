@@ -1,4 +1,4 @@
--- `read_config` meets its contract: a command, then a read of the whole script. Assumes nothing.
+-- `read_config` meets its contract: a command, then a read of the whole script.
 use Prim.Native.Nat.{ℕ}
 use native.Mathlib.Omega.{arith}
 use Rattle.std.specs.Prelude.{Ok, Err}

@@ -1,4 +1,4 @@
--- `read_port` meets its contract: the play of one read, on an empty script and on one with a byte left. Assumes nothing.
+-- `read_port` meets its contract: the play of one read, on an empty script and on one with a byte left.
 use native.Mathlib.Omega.{arith}
 use Rattle.exchange.proofs.Reading.{read_to_start, read_to_read, read_to_done, read_to_no_byte}
 use Rattle.ps2_ports.specs.Ports.{read_port}

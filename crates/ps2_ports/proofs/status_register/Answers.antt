@@ -1,4 +1,4 @@
--- `status_register` meets its contract: the read is of port 64, and its byte is the status. Assumes nothing.
+-- `status_register` meets its contract: the read is of port 64, and its byte is the status.
 use Prim.Native.Nat.{ℕ}
 use Rattle.exchange.specs.Exchange.{Exchange, p64, done, bind}
 use Rattle.exchange.specs.Answer.{Answer, gives, and_then}

@@ -1,4 +1,4 @@
--- `write_config` meets its contract: a command, then a write to what is left of the log. Assumes nothing.
+-- `write_config` meets its contract: a command, then a write to what is left of the log.
 use native.Mathlib.Omega.{arith}
 use Rattle.exchange.specs.Exchange.{bind}
 use Rattle.exchange.specs.Answer.{and_then}

@@ -1,4 +1,4 @@
--- `write_data` meets its contract: the write is to port 60, of the data's byte. Assumes nothing.
+-- `write_data` meets its contract: the write is to port 60, of the data's byte.
 use mathlib.Core.Path.{refl}
 use Rattle.exchange.specs.Exchange.{p60}
 use Rattle.ps2_ports.proofs.write_data.Goals as goal

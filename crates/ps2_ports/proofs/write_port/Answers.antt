@@ -1,4 +1,4 @@
--- `write_port` meets its contract: the play of one write, on a log with fewer than two bytes and on one with room. Assumes nothing.
+-- `write_port` meets its contract: the play of one write, on a log with fewer than two bytes and on one with room.
 use native.Mathlib.Omega.{arith}
 use mathlib.Core.Path.{refl, sym}
 use Rattle.exchange.proofs.Steps.{write_short, write_last}

@@ -1,5 +1,4 @@
 -- `ps2_salvage::pass` meets its contract: at each turn the pass is under way (`Going`), and what ends it ends the definition's.
--- Assumes nothing.
 use Prim.Native.Nat.{◌-◌, ◌≤◌}
 use lib.ListN.{length}
 use Rattle.ps2_salvage.proofs.Going.{Going}

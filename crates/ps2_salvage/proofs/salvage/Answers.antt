@@ -1,5 +1,4 @@
 -- `ps2_salvage::salvage` meets its contract: the pass of its identity's length.
--- Assumes nothing.
 use Rattle.ps2_salvage.proofs.Pieces.{pieces_of_four}
 use Rattle.ps2_salvage.proofs.salvage.Goals as goal
 

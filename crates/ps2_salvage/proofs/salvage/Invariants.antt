@@ -1,5 +1,4 @@
 -- The identity whose pass each call makes: the two with packets of four bytes share one.
--- Assumes nothing.
 use Rattle.ps2_bytes.specs.declared.response.MouseId.TheVariants.{Zero, Four}
 use Rattle.ps2_salvage.proofs.salvage.Given as goal
 

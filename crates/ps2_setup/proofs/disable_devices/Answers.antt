@@ -1,4 +1,4 @@
--- `ps2_setup::disable_devices` meets its contract: AD and A7, a byte that is dropped, and the configuration. Assumes nothing.
+-- `ps2_setup::disable_devices` meets its contract: AD and A7, a byte that is dropped, and the configuration.
 use Prim.Native.Nat.{ℕ, ◌*◌, ◌<◌, ◌^◌}
 use native.Mathlib.Omega.{arith}
 use mathlib.Core.List.{List}

@@ -1,4 +1,4 @@
--- `ps2_setup::enable_port` meets its contract: a command where the port passed, and nothing where it did not. Assumes nothing.
+-- `ps2_setup::enable_port` meets its contract: a command where the port passed, and nothing where it did not.
 use mathlib.Core.Bool.{true}
 use mathlib.Core.Path.{◌≡◌, refl, ap, ◌∙◌}
 use Rattle.bits.specs.Bits.{put_bit}

@@ -1,4 +1,4 @@
--- `ps2_setup::enable_ports` meets its contract: the first port, the second, and the configuration, each on the log's tail. Assumes nothing.
+-- `ps2_setup::enable_ports` meets its contract: the first port, the second, and the configuration, each on the log's tail.
 use Prim.Native.Nat.{ℕ, ◌*◌, ◌<◌, ◌^◌}
 use native.Mathlib.Omega.{arith}
 use mathlib.Core.List.{List, []}

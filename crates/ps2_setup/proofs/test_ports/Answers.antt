@@ -1,4 +1,4 @@
--- `ps2_setup::test_ports` meets its contract: the first test, forgiven, then the second on what is left; one that passed is enough. Assumes nothing.
+-- `ps2_setup::test_ports` meets its contract: the first test, forgiven, then the second on what is left; one that passed is enough.
 use Prim.Native.Nat.{ℕ, ◌*◌, ◌<◌, ◌^◌}
 use native.Mathlib.Omega.{arith}
 use mathlib.Core.Bool.{Bool, true, false, ◌||◌, true≢false}

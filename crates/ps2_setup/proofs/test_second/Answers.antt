@@ -1,4 +1,4 @@
--- `ps2_setup::test_second` meets its contract: a test, forgiven, where there is a mouse, and none where there is not. Assumes nothing.
+-- `ps2_setup::test_second` meets its contract: a test, forgiven, where there is a mouse, and none where there is not.
 use Rattle.exchange.specs.Exchange.{bind, play}
 use Rattle.ps2_bytes.specs.declared.command.HostToControllerCommand.TheVariants.{TestPort2}
 use Rattle.ps2_polling.specs.Polling.{test_port}

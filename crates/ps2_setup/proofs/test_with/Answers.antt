@@ -1,4 +1,4 @@
--- `ps2_setup::test_with` meets its contract: the configuration, the test, and the configuration again. Assumes nothing.
+-- `ps2_setup::test_with` meets its contract: the configuration, the test, and the configuration again.
 use Prim.Native.Nat.{ℕ, ◌*◌, ◌<◌, ◌^◌}
 use native.Mathlib.Omega.{arith}
 use mathlib.Core.List.{List}

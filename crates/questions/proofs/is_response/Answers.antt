@@ -1,4 +1,4 @@
--- `is_response` meets its contract. Assumes nothing.
+-- `is_response` meets its contract.
 use Rattle.questions.proofs.Steps.{response_came}
 use Rattle.questions.proofs.is_response.Goals as goal
 

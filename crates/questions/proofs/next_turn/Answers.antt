@@ -1,4 +1,4 @@
--- `next_turn` meets its contract. Assumes nothing.
+-- `next_turn` meets its contract.
 use native.Mathlib.Omega.{arith}
 use Rattle.std.proofs.Common.{◌-◌}
 use Rattle.questions.proofs.Steps.{turns_end, turns_on}

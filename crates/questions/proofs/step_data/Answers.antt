@@ -1,4 +1,4 @@
--- `step_data` meets its contract. Assumes nothing.
+-- `step_data` meets its contract.
 use Rattle.questions.proofs.Steps.{second_found, second_again}
 use Rattle.questions.proofs.step_data.Goals as goal
 

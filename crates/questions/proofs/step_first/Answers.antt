@@ -1,4 +1,4 @@
--- `step_first` meets its contract. Assumes nothing.
+-- `step_first` meets its contract.
 use Rattle.std.specs.Prelude.{Some}
 use Rattle.questions.proofs.Steps.{first_found, first_again, first_data}
 use Rattle.questions.proofs.step_first.Goals as goal

@@ -1,5 +1,4 @@
 -- `report::add_counts` meets its contract: up to each key the counts are added, and none is above the limit.
--- Assumes nothing.
 use mathlib.Core.Path.{sym, ◌∙◌}
 use Rattle.std.proofs.lemmas.Result.{err_from_is_err_and}
 use Rattle.report.proofs.Ranges.{adding_fails, adding_ends}

@@ -1,5 +1,4 @@
 -- `report::add_counts` meets its contract: up to each key the counts are added, and none is above the limit.
--- Assumes nothing.
 use Rattle.report.proofs.Ranges.{Adding}
 use Rattle.report.proofs.add_counts.Given as goal
 

@@ -1,5 +1,4 @@
 -- `report::narrow_counts` meets its contract: within the limits the counts are copied up to each key.
--- Assumes nothing.
 use native.Mathlib.Omega.{arith}
 use Rattle.report.proofs.Ranges.{at_most_at}
 use Rattle.report.proofs.Copying.{copying_goes, copying_ends}

@@ -1,5 +1,4 @@
 -- `report::narrow_counts` meets its contract: within the limits the counts are copied up to each key.
--- Assumes nothing.
 use mathlib.Core.Path.{◌≡◌}
 use mathlib.Core.Bool.{true}
 use Rattle.report.specs.Adding.{at_most}

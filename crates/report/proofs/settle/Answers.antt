@@ -1,5 +1,4 @@
 -- `report::settle` meets its contract: the numbers are tried one after the other, presses, packets, x and y.
--- Assumes nothing.
 use mathlib.Core.Path.{◌≡◌, sym, ◌∙◌}
 use lib.Dec.{leb}
 use lib.IntN.{◌+ℤ◌}

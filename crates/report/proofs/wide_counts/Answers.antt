@@ -1,5 +1,4 @@
 -- `report::wide_counts` meets its contract: up to each key the counts are copied.
--- Assumes nothing.
 use Rattle.report.proofs.Copying.{copying_ends}
 use Rattle.report.proofs.wide_counts.Goals as goal
 

@@ -1,5 +1,4 @@
 -- `report_words::long_report_add` meets its contract: what adding a session answers, and the report after it.
--- Assumes nothing.
 use mathlib.Core.Path.{ap}
 use Rattle.report_words.specs.Words.{long_added_words}
 use Rattle.report_words.proofs.long_report_add.Goals as goal

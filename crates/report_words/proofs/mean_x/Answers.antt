@@ -1,5 +1,4 @@
 -- `report_words::mean_x` meets its contract.
--- Assumes nothing.
 use mathlib.Core.Path.{ap, ◌∙◌}
 use Rattle.report_words.specs.Words.{mean_words}
 use Rattle.report_words.proofs.mean_x.Goals as goal

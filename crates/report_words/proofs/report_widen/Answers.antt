@@ -1,5 +1,4 @@
 -- `report_words::report_widen` meets its contract: no number is changed.
--- Assumes nothing.
 use Rattle.report_words.proofs.report_widen.Goals as goal
 
 pub returns : goal.returns

@@ -1,5 +1,4 @@
 -- `scancode_set2::convert` meets its contract. The loop's invariant is how far the conversion has come; each return is where nothing more is converted.
--- Assumes nothing.
 use Prim.Native.Nat.{◌-◌}
 use lib.ListN.{length}
 use Rattle.scancode_set2.proofs.Progress.{Reached}

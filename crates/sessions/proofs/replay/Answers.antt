@@ -1,4 +1,4 @@
--- `replay` meets its contract. Assumes nothing.
+-- `replay` meets its contract.
 use mathlib.Core.Path.{ap, ◌∙◌}
 use Rattle.sessions.specs.Operations.{talk_of}
 use Rattle.sessions.proofs.Ran.{heard_memory}

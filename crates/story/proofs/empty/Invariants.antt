@@ -1,5 +1,4 @@
 -- `story::empty` is safe: no more events are the second side's than are taken.
--- Assumes nothing.
 use Rattle.std.proofs.Common.{◌≤◌}
 use Rattle.story.proofs.empty.Given as goal
 

@@ -1,5 +1,4 @@
 -- `story::fill` is safe: no more presses are refused than made.
--- Assumes nothing.
 use Rattle.std.proofs.Common.{◌≤◌}
 use Rattle.story.proofs.fill.Given as goal
 

@@ -1,4 +1,4 @@
--- `handle_keyboard_input` meets its contract: each arm of the match is a key of the table of flags; then the event. Assumes nothing.
+-- `handle_keyboard_input` meets its contract: each arm of the match is a key of the table of flags; then the event.
 use native.Mathlib.Omega.{arith}
 use mathlib.Core.Path.{◌≡◌, refl, sym, ap, ◌∙◌}
 use mathlib.Core.Bool.{cond, ◌||◌}

@@ -1,4 +1,4 @@
--- `init` meets its contract: the detection, whose refusals are 18, then the scancode set. Assumes nothing.
+-- `init` meets its contract: the detection, whose refusals are 18, then the scancode set.
 use mathlib.Core.Path.{◌≡◌, sym, ◌∙◌}
 use Rattle.std.proofs.Common.{rules}
 use Rattle.ps2_bytes.specs.declared.data.ScancodeSet.TheVariants.{Set1}

@@ -1,4 +1,4 @@
--- `ps2_keyboard_handler` meets its contract: a byte that changes nothing but the prefix, or a key's. Assumes nothing.
+-- `ps2_keyboard_handler` meets its contract: a byte that changes nothing but the prefix, or a key's.
 use mathlib.Core.Path.{◌≡◌, sym, ap, ◌∙◌}
 use mathlib.Core.Bool.{true, false}
 use Rattle.ps2_keyboard.specs.Keyboard.{read_scancode}

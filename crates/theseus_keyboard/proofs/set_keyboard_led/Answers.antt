@@ -1,4 +1,4 @@
--- `set_keyboard_led` meets its contract: the lamps of the flags, and the exchange's answer is let go. Assumes nothing.
+-- `set_keyboard_led` meets its contract: the lamps of the flags, and the exchange's answer is let go.
 use mathlib.Core.Path.{◌≡◌, ap, ◌∙◌}
 use Prim.Native.Nat.{ℕ}
 use Rattle.keyboard_scancodes.specs.Lamps.{lamps_lit}

@@ -1,5 +1,4 @@
 -- `theseus_keycodes::scancode_to_ascii` meets its contract: the character of the byte's keycode, if it has one.
--- Assumes nothing.
 use mathlib.Core.Path.{◌≡◌, ap, ◌∙◌}
 use Prim.Native.Nat.{ℕ}
 use Rattle.std.specs.Prelude.{Option, None, Result, Ok, Err, MatchOption}

@@ -1,4 +1,4 @@
--- `init` meets its contract: its steps are those of the definition. Assumes nothing.
+-- `init` meets its contract: its steps are those of the definition.
 use mathlib.Core.Bool.{Bool, true, false}
 use mathlib.Core.Path.{◌≡◌, refl, ap, ◌∙◌}
 use Rattle.std.proofs.Common.{rules}

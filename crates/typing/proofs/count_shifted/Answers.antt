@@ -1,5 +1,4 @@
 -- `typing::count_shifted` meets its contract: up to each place the characters that need Shift are counted.
--- Assumes nothing.
 use Rattle.typing.proofs.Counting.{counting_stops, counting_shift, counting_plain, counting_ends}
 use Rattle.typing.proofs.count_shifted.Goals as goal
 use Rattle.typing.proofs.count_shifted.Goals.{else-key-ge-NEEDS_SHIFT, then-key-ge-NEEDS_SHIFT}

@@ -1,5 +1,4 @@
 -- `typing::count_shifted` meets its contract: up to each place the characters that need Shift are counted.
--- Assumes nothing.
 use Rattle.typing.proofs.Counting.{Counting}
 use Rattle.typing.proofs.count_shifted.Given as goal
 

@@ -1,5 +1,4 @@
 -- `typing::key_in` meets its contract: the table has the key of every byte.
--- Assumes nothing.
 use native.Mathlib.Omega.{arith}
 use Rattle.typing.proofs.KeyTable.{keys_tabulated}
 use Rattle.typing.proofs.key_in.Goals as goal

@@ -1,5 +1,4 @@
 -- `typing::put_keys` meets its contract: up to each place the scancodes are put.
--- Assumes nothing.
 use native.Mathlib.Omega.{arith}
 use lib.ListN.{length-set}
 use Rattle.typing.proofs.Putting.{putting_begins, room_shift, room_plain, puts_shift, puts_plain, putting_ends}

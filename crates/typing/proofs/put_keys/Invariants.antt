@@ -1,5 +1,4 @@
 -- `typing::put_keys` meets its contract: up to each place the scancodes are put.
--- Assumes nothing.
 use Rattle.typing.proofs.Putting.{Putting}
 use Rattle.typing.proofs.put_keys.Given as goal
 

@@ -1,5 +1,4 @@
 -- `typing::type_text` meets its contract: 25, then 26, then the scancodes are put.
--- Assumes nothing.
 use native.Mathlib.Omega.{arith}
 use mathlib.Core.Path.{sym, ◌∙◌}
 use Rattle.typing.specs.declared.TypingRefusal.TheVariants.{NoKey, OutputShort}

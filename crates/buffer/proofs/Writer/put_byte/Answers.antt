@@ -1,5 +1,4 @@
 -- `Writer::put_byte` meets its contract: a byte at the next place, or nothing.
--- Assumes nothing.
 use mathlib.Core.Path.{refl}
 use Rattle.buffer.proofs.Buffer.{put_room, put_full}
 use Rattle.buffer.proofs.Writer.put_byte.Goals as goal

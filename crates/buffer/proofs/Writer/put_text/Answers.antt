@@ -1,5 +1,4 @@
 -- `Writer::put_text` meets its contract: each turn puts one byte more.
--- Assumes nothing.
 use Rattle.std.proofs.lemmas.List.{take_more}
 use Rattle.buffer.proofs.Buffer.{puts_none, puts_then}
 use Rattle.buffer.proofs.Writer.put_text.Goals as goal

@@ -1,5 +1,4 @@
 -- `Writer::put_text` meets its contract: so far it has put as much of the text as the loop has come.
--- Assumes nothing.
 use lib.ListN.{take}
 use Rattle.buffer.specs.Writer.{Puts}
 use Rattle.buffer.proofs.Writer.put_text.Given as goal

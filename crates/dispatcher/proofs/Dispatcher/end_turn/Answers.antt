@@ -1,5 +1,4 @@
 -- `dispatcher::Dispatcher::end_turn` meets its contract: who was served, and the places. An answer, so that a wrong program is refused by a fact.
--- Assumes nothing.
 use mathlib.Core.Path.{refl}
 use Rattle.dispatcher.proofs.Dispatcher.end_turn.Goals as goal
 

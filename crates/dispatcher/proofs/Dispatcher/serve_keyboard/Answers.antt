@@ -1,5 +1,4 @@
 -- `dispatcher::Dispatcher::serve_keyboard` meets its contract: the handler call on the unused bytes, and the place that it moves on to.
--- Assumes nothing.
 use native.Mathlib.Omega.{arith}
 use Rattle.keyboard.specs.KeyboardLamps.{keyboard_lamps}
 use Rattle.dispatcher.proofs.Serving.{keyboard_used_le, keyboard_served}

@@ -1,5 +1,4 @@
 -- `dispatcher::Dispatcher::serve_mouse` meets its contract: the packet of the unread bytes, and the place that it moves on to.
--- Assumes nothing.
 use native.Mathlib.Omega.{arith}
 use Rattle.dispatcher.proofs.Serving.{mouse_used_le, mouse_served}
 use Rattle.dispatcher.proofs.Dispatcher.serve_mouse.Goals as goal

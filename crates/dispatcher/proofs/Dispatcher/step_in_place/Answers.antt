@@ -1,5 +1,4 @@
 -- `dispatcher::Dispatcher::step_in_place` meets its contract: the turn of each source, or idle.
--- Assumes nothing.
 use mathlib.Core.Path.{refl, ap, ◌∙◌}
 use Rattle.std.specs.Prelude.{Some}
 use Rattle.keyboard.specs.KeyboardLamps.{keyboard_lamps}

@@ -1,5 +1,4 @@
 -- `keyboard_modifiers::KeyboardModifiers::insert` meets its contract: `|` goes bit by bit.
--- Assumes nothing.
 use native.Mathlib.Omega.{arith}
 use Rattle.bits.proofs.Masks.{or_bitwise}
 use Rattle.keyboard_modifiers.proofs.KeyboardModifiers.insert.Goals as goal

@@ -1,5 +1,4 @@
 -- `keyboard_modifiers::KeyboardModifiers::intersects` meets its contract: a shared bit is a bit of `&`.
--- Assumes nothing.
 use native.Mathlib.Omega.{arith}
 use Rattle.bits.proofs.Masks.{meet_mask}
 use Rattle.keyboard_modifiers.proofs.KeyboardModifiers.intersects.Goals as goal

@@ -1,5 +1,4 @@
 -- `keyboard_modifiers::KeyboardModifiers::is_alt_gr` meets its contract: it asks for one flag.
--- Assumes nothing.
 use Rattle.keyboard_modifiers.specs.Flags.{alt_right}
 use Rattle.keyboard_modifiers.proofs.Modifiers.{asks_one}
 use Rattle.keyboard_modifiers.proofs.KeyboardModifiers.is_alt_gr.Goals as goal

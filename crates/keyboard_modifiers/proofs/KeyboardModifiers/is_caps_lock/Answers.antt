@@ -1,5 +1,4 @@
 -- `keyboard_modifiers::KeyboardModifiers::is_caps_lock` meets its contract: it asks for one flag.
--- Assumes nothing.
 use Rattle.keyboard_modifiers.specs.Flags.{caps_lock}
 use Rattle.keyboard_modifiers.proofs.Modifiers.{asks_one}
 use Rattle.keyboard_modifiers.proofs.KeyboardModifiers.is_caps_lock.Goals as goal

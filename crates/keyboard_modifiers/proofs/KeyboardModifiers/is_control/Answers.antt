@@ -1,5 +1,4 @@
 -- `keyboard_modifiers::KeyboardModifiers::is_control` meets its contract: it asks for either of two flags.
--- Assumes nothing.
 use Rattle.keyboard_modifiers.specs.Flags.{control_left, control_right}
 use Rattle.keyboard_modifiers.proofs.Modifiers.{asks_either}
 use Rattle.keyboard_modifiers.proofs.KeyboardModifiers.is_control.Goals as goal

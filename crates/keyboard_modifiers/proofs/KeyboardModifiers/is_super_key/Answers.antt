@@ -1,5 +1,4 @@
 -- `keyboard_modifiers::KeyboardModifiers::is_super_key` meets its contract: it asks for either of two flags.
--- Assumes nothing.
 use Rattle.keyboard_modifiers.specs.Flags.{super_key_left, super_key_right}
 use Rattle.keyboard_modifiers.proofs.Modifiers.{asks_either}
 use Rattle.keyboard_modifiers.proofs.KeyboardModifiers.is_super_key.Goals as goal

@@ -1,5 +1,4 @@
 -- `keyboard_modifiers::KeyboardModifiers::remove` meets its contract: `&` with the complement goes bit by bit.
--- Assumes nothing.
 use native.Mathlib.Omega.{arith}
 use Rattle.bits.proofs.Masks.{and_not_bitwise}
 use Rattle.keyboard_modifiers.proofs.KeyboardModifiers.remove.Goals as goal

@@ -1,5 +1,4 @@
 -- `keyboard_modifiers::KeyboardModifiers::toggle` meets its contract: `^` goes bit by bit.
--- Assumes nothing.
 use native.Mathlib.Omega.{arith}
 use Rattle.bits.proofs.Masks.{xor_bitwise}
 use Rattle.keyboard_modifiers.proofs.KeyboardModifiers.toggle.Goals as goal

@@ -1,5 +1,5 @@
 -- `keyboard_record::KeyboardHandler::take` meets its contract: the oldest event, and the record without it.
--- Assumes nothing. Kept: without it wrong programs are refused at a limit, and not by a fact.
+-- Kept: without it wrong programs are refused at a limit, and not by a fact.
 use mathlib.Core.Path.{ap, ◌≡◌, sym, ◌∙◌}
 use mathlib.Core.Bool.{not, true}
 use borrow.Author.Tests.{ne_eqb, not-false}

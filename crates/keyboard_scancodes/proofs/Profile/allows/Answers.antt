@@ -1,5 +1,4 @@
 -- `keyboard_scancodes::Profile::allows` meets its contract: every key, or those of the list.
--- Assumes nothing.
 use mathlib.Core.Path.{◌≡◌, sym, ◌∙◌}
 use mathlib.Core.Bool.{true, true≢false}
 use Rattle.keycodes_ascii.specs.declared.Keycode.{Keycode}

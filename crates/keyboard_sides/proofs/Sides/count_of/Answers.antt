@@ -1,5 +1,4 @@
 -- `keyboard_sides::Sides::count_of` meets its contract: those of the first side are the others.
--- Assumes nothing.
 use mathlib.Core.Path.{ap, sym, ◌∙◌}
 use Prim.Native.Nat.{ℕ, ◌-◌}
 use native.Mathlib.Omega.{arith}

@@ -1,5 +1,4 @@
 -- `keyboard_sides::Sides::oldest` meets its contract: the lowest bit.
--- Assumes nothing.
 use mathlib.Core.Path.{◌≡◌}
 use Prim.Native.Nat.{◌%◌}
 use native.Mathlib.Omega.{arith}

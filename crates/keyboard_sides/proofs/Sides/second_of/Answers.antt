@@ -1,5 +1,4 @@
 -- `keyboard_sides::Sides::second_of` meets its contract: the set bits of the words that the count reaches.
--- Assumes nothing.
 use mathlib.Core.Path.{◌≡◌, ap, ap₂, ◌∙◌}
 use Prim.Native.Nat.{ℕ, ◌+◌, ◌-◌}
 use native.Mathlib.Omega.{arith}

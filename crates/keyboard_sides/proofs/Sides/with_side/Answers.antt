@@ -1,5 +1,4 @@
 -- `keyboard_sides::Sides::with_side` meets its contract: the bit is put into the word that has it.
--- Assumes nothing.
 use native.Mathlib.Omega.{arith}
 use mathlib.Core.Path.{sym}
 use Rattle.keyboard_sides.proofs.Row.{put_low, put_high, with_side_none}

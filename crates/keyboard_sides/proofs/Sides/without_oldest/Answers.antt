@@ -1,5 +1,4 @@
 -- `keyboard_sides::Sides::without_oldest` meets its contract: the number that the words make is halved.
--- Assumes nothing.
 use native.Mathlib.Omega.{arith}
 use Rattle.keyboard_sides.proofs.Row.{halved}
 use Rattle.keyboard_sides.proofs.Sides.without_oldest.Goals as goal

@@ -1,6 +1,5 @@
 -- `keycodes_ascii::Keycode::to_ascii` meets its contract: the table agrees with the rule, so the entry at the key's number, in the
 -- column of the flags, is by the rule.
--- Assumes nothing.
 use mathlib.Core.List.{[]}
 use mathlib.Core.Path.{◌≡◌, refl, ap, ◌∙◌}
 use Prim.Native.Nat.{◌<◌, ◌≤◌}

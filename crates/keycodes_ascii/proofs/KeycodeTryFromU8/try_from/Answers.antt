@@ -1,5 +1,4 @@
 -- `Keycode::try_from` meets its contract: a byte of no arm is the number of no keycode.
--- Assumes nothing.
 use mathlib.Core.Path.{ap}
 use Rattle.std.specs.Prelude.{ok_or}
 use Rattle.keycodes_ascii.specs.Keycode.{keycodes}

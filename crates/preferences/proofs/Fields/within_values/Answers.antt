@@ -1,4 +1,4 @@
--- `Fields::within_values` meets its contract: where the three before them are within their values, the lamps decide. Assumes nothing.
+-- `Fields::within_values` meets its contract: where the three before them are within their values, the lamps decide.
 use mathlib.Core.Bool.{Bool, true, false, ◌&&◌}
 use mathlib.Core.Path.{◌≡◌, sym, ◌∙◌}
 use borrow.Author.Tests.{clash}

@@ -1,4 +1,4 @@
--- `Preferences::within_values` meets its contract: where the four fields of version 2 are within their values, the fifth decides. Assumes nothing.
+-- `Preferences::within_values` meets its contract: where the four fields of version 2 are within their values, the fifth decides.
 use mathlib.Core.Bool.{true}
 use mathlib.Core.Path.{◌≡◌, sym, ap, ◌∙◌}
 use Rattle.preferences.specs.Values.{is_repeat_byte}

@@ -1,5 +1,4 @@
 -- `preferences::coding::codings_length` meets its contract: the numbers' counts are added one after another.
--- Assumes nothing.
 use mathlib.Core.Path.{sym, ap}
 use native.Mathlib.Omega.{arith}
 use lib.ListN.{length, get_or}

@@ -1,5 +1,4 @@
 -- `preferences::coding::codings_length` meets its contract: the count is that of the numbers so far, of which each takes five bytes at most.
--- Assumes nothing.
 use mathlib.Core.Path.{◌≡◌}
 use Prim.Native.Nat.{◌*◌, ◌≤◌}
 use lib.ListN.{length, take}

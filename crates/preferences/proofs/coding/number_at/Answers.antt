@@ -1,5 +1,4 @@
 -- `preferences::coding::number_at` meets its contract: a malformed number, or one that is read.
--- Assumes nothing.
 use native.Mathlib.Omega.{arith}
 use mathlib.Core.Path.{sym, ap, ◌∙◌}
 use Rattle.preferences.specs.NumberReading.{said_number}

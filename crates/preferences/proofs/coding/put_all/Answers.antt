@@ -1,5 +1,4 @@
 -- `preferences::coding::put_all` meets its contract: the numbers are put one after another.
--- Assumes nothing.
 use native.Mathlib.Omega.{arith}
 use Rattle.preferences.proofs.Putting.{putting_begins, number_put_by, next_room, next_put}
 use Rattle.preferences.proofs.coding.put_all.Goals as goal

@@ -1,5 +1,4 @@
 -- `preferences::coding::put_all` meets its contract: the numbers so far are put, and the others find room.
--- Assumes nothing.
 use lib.ListN.{take, drop}
 use Rattle.preferences.proofs.Putting.{Putting}
 use Rattle.preferences.proofs.coding.put_all.Given as goal

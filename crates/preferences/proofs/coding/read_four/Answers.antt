@@ -1,5 +1,4 @@
 -- `preferences::coding::read_four` meets its contract: the fields one after another.
--- Assumes nothing.
 use Rattle.std.proofs.lemmas.Result.{err_from_is_err_and}
 use Rattle.preferences.specs.Values.{is_scancode_set, is_sampling_rate, is_resolution, is_lamps}
 use Rattle.preferences.proofs.Steps.{malformed, taken, outside, first_refused, second_refused, third_refused, fourth_refused, four_read}

@@ -1,5 +1,4 @@
 -- `preferences::coding::read_head` meets its contract: the version, then the count that the version says.
--- Assumes nothing.
 use native.Mathlib.Omega.{arith}
 use Rattle.std.proofs.lemmas.Result.{err_from_is_err_and}
 use Rattle.preferences.specs.Reading.{is_version, is_count}

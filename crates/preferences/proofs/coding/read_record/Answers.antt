@@ -1,5 +1,4 @@
 -- `preferences::coding::read_record` meets its contract: version and count, the four fields, the fifth of version 2, and the end.
--- Assumes nothing.
 use mathlib.Core.Path.{sym, subst}
 use borrow.Author.Tests.{le-leb, lt-leb}
 use Rattle.std.proofs.lemmas.Result.{err_from_is_err_and}

@@ -1,5 +1,4 @@
 -- `preferences::coding::write_preferences` meets its contract: 28 is asked of all fields, then the room of the numbers.
--- Assumes nothing.
 use mathlib.Core.Path.{sym, ap, ◌∙◌}
 use Rattle.preferences.specs.Format.{record_bytes}
 use Rattle.preferences.proofs.Putting.{outside_left, inside}

@@ -1,5 +1,4 @@
 -- `preferences::numbers::number_length` meets its contract: each range of numbers has its count.
--- Assumes nothing.
 use mathlib.Core.Path.{sym}
 use native.Mathlib.Omega.{arith}
 use Rattle.preferences.proofs.Lengths.{length_last, two_bytes, three_bytes, four_bytes, five_bytes}

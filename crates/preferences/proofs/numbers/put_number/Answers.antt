@@ -1,5 +1,4 @@
 -- `preferences::numbers::put_number` meets its contract: at each place the groups that are left are to be put (`Putting`).
--- Assumes nothing.
 use native.Mathlib.Omega.{arith}
 use Rattle.preferences.proofs.NumberPutting.{putting_begins, putting_last, putting_more}
 use Rattle.preferences.proofs.numbers.put_number.Goals.{then-left-lt-TWO_GROUPS, else-left-lt-TWO_GROUPS}

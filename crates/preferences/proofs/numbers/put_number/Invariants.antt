@@ -1,5 +1,4 @@
 -- `preferences::numbers::put_number` meets its contract: at each place the groups that are left are to be put (`Putting`).
--- Assumes nothing.
 use Rattle.preferences.proofs.NumberPutting.{Putting}
 use Rattle.preferences.proofs.numbers.put_number.Given as goal
 

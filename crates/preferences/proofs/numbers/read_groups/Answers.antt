@@ -1,5 +1,4 @@
 -- `preferences::numbers::read_groups` meets its contract: at each place the groups behind it decide (`Going`).
--- Assumes nothing.
 use Prim.Native.Nat.{◌+◌}
 use mathlib.Core.Path.{sym}
 use native.Mathlib.Omega.{arith}

@@ -1,5 +1,4 @@
 -- `preferences::numbers::read_groups` meets its contract: at each place the groups behind it decide (`Going`).
--- Assumes nothing.
 use Rattle.preferences.proofs.Going.{Going}
 use Rattle.preferences.proofs.numbers.read_groups.Given as goal
 

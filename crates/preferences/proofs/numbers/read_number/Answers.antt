@@ -1,5 +1,4 @@
 -- `preferences::numbers::read_number` meets its contract: no byte, the last group, or a first one that others follow.
--- Assumes nothing.
 use mathlib.Core.Path.{sym}
 use native.Mathlib.Omega.{arith}
 use Rattle.preferences.proofs.Going.{read_none, read_one}

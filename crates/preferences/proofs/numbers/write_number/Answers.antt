@@ -1,5 +1,4 @@
 -- `preferences::numbers::write_number` meets its contract: the room is asked for, then the number is put.
--- Assumes nothing.
 use native.Mathlib.Omega.{arith}
 use Rattle.preferences.proofs.NumberPutting.{no_room, with_room, part_put}
 use Rattle.preferences.proofs.Shortest.{coding_some}

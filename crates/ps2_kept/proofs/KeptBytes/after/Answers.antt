@@ -1,4 +1,4 @@
--- `KeptBytes::after` meets its contract: as of lent bytes, with nothing in the place of what was lent. Assumes nothing.
+-- `KeptBytes::after` meets its contract: as of lent bytes, with nothing in the place of what was lent.
 use Rattle.ps2_kept.proofs.KeptBytes.after.Goals as goal
 
 pub returns : goal.returns

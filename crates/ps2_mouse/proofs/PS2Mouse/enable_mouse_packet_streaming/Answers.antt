@@ -1,4 +1,4 @@
--- `PS2Mouse::enable_mouse_packet_streaming` meets its contract: the command, with its refusals replaced. Assumes nothing.
+-- `PS2Mouse::enable_mouse_packet_streaming` meets its contract: the command, with its refusals replaced.
 use Rattle.ps2_command.proofs.Replaced.{refusing_told}
 use Rattle.ps2_mouse.specs.Mouse.{enable_packet_streaming}
 use Rattle.ps2_mouse.proofs.PS2Mouse.enable_mouse_packet_streaming.Goals as goal

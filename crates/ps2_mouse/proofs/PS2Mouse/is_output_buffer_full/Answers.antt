@@ -1,4 +1,4 @@
--- `PS2Mouse::is_output_buffer_full` meets its contract: both bits of the status that was read. Assumes nothing.
+-- `PS2Mouse::is_output_buffer_full` meets its contract: both bits of the status that was read.
 use mathlib.Core.Bool.{Bool, false, ◌&&◌}
 use mathlib.Core.List.{List}
 use mathlib.Core.Path.{◌≡◌, ap, sym, ◌∙◌}

@@ -1,4 +1,4 @@
--- `PS2Mouse::reset` meets its contract: the reads go on where the command ended. Assumes nothing.
+-- `PS2Mouse::reset` meets its contract: the reads go on where the command ended.
 use native.Mathlib.Omega.{arith}
 use Rattle.exchange.proofs.Counts.{counts}
 use Rattle.ps2_answers.proofs.Then.{exit, first_steps, first_stops, then_reads_ends}

@@ -1,4 +1,4 @@
--- `MousePacket::side_flag` meets its contract: the bit of byte 4, which identity 4 alone has. Assumes nothing.
+-- `MousePacket::side_flag` meets its contract: the bit of byte 4, which identity 4 alone has.
 use mathlib.Core.Path.{sym}
 use Rattle.ps2_packet.proofs.MousePacket.side_flag.Goals as goal
 

@@ -1,4 +1,4 @@
--- `MousePacket3::scroll_movement` meets its contract: a byte read as a signed byte. Assumes nothing.
+-- `MousePacket3::scroll_movement` meets its contract: a byte read as a signed byte.
 use mathlib.Core.Path.{◌∙◌}
 use native.Mathlib.Omega.{arith}
 use mir.Syntax.{w8}

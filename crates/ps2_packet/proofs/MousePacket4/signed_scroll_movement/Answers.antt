@@ -1,4 +1,4 @@
--- `MousePacket4::signed_scroll_movement` meets its contract: less 16 where the topmost of the four bits is set. Assumes nothing.
+-- `MousePacket4::signed_scroll_movement` meets its contract: less 16 where the topmost of the four bits is set.
 use mathlib.Core.Path.{◌≡◌, sym, ◌∙◌}
 use mathlib.Core.Bool.{true}
 use Prim.Native.Nat.{◌%◌}

@@ -1,5 +1,4 @@
 -- `MousePacketGeneric::wide_y_movement` meets its contract: by the overflow and the sign of y.
--- Assumes nothing.
 use mathlib.Core.Path.{◌∙◌}
 use mir.Syntax.{w64}
 use Rattle.ps2_packet.proofs.Signed.{returned}

@@ -1,4 +1,4 @@
--- `SignedPacket::scroll_movement` meets its contract: by the kind of packet. Assumes nothing.
+-- `SignedPacket::scroll_movement` meets its contract: by the kind of packet.
 use mathlib.Core.Path.{◌≡◌, refl, ◌∙◌}
 use mathlib.Core.List.{[], ◌∷◌}
 use mathlib.Core.Logic.{⊎_elim}

@@ -1,5 +1,4 @@
 -- `report::Report::empty` meets its contract.
--- Assumes nothing.
 use mathlib.Core.Path.{refl}
 use Rattle.report.specs.Keys.{values_from}
 use Rattle.report.proofs.Report.empty.Goals as goal

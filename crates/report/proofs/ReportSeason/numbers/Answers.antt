@@ -1,5 +1,4 @@
 -- `Report::numbers` meets its contract: each number is the same in 64 bits.
--- Assumes nothing.
 use Rattle.report.proofs.Signed64.{wide_back}
 use Rattle.report.proofs.ReportSeason.numbers.Goals as goal
 

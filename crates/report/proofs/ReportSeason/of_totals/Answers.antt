@@ -1,5 +1,4 @@
 -- `Report::of_totals` meets its contract: within the limits each number fits its type.
--- Assumes nothing.
 use native.Mathlib.Omega.{arith}
 use Rattle.report.specs.Narrow.{narrow_limits}
 use Rattle.report.proofs.Ranges.{in_range_lem}

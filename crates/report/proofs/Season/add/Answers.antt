@@ -1,5 +1,4 @@
 -- `report::Season::add` meets its contract: a session that is too long is outside every report's limits, any other is settled.
--- Assumes nothing.
 use mathlib.Core.Path.{ap, sym, ◌∙◌}
 use Rattle.std.specs.Result.{result_ok}
 use Rattle.std.proofs.lemmas.Result.{err_from_is_err_and}

@@ -1,5 +1,4 @@
 -- `report::Season::mean_y` meets its contract: the mean of the sum that the report's numbers tell.
--- Assumes nothing.
 use mathlib.Core.Path.{◌≡◌}
 use mir.Syntax.{w64}
 use mir.Val.{to_z, of_z}

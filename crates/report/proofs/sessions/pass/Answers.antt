@@ -1,5 +1,4 @@
 -- `report::sessions::pass` meets its contract: up to each packet the movements are summed.
--- Assumes nothing.
 use mathlib.Core.Path.{refl}
 use native.Mathlib.Omega.{arith}
 use mir.Syntax.{w64}

@@ -1,5 +1,4 @@
 -- `report::sessions::pass` meets its contract: up to each packet the movements are summed.
--- Assumes nothing.
 use mathlib.Core.Path.{◌≡◌}
 use Prim.Native.Nat.{◌*◌}
 use Rattle.ps2_bytes.specs.declared.response.MouseId.{MouseId}

@@ -1,5 +1,4 @@
 -- `report::sessions::tally_mouse` meets its contract: the pass of packets that are as long as those of its identity.
--- Assumes nothing.
 use mathlib.Core.Path.{ap}
 use mathlib.Core.Logic.{⊎_elim}
 use Rattle.ps2_packet.specs.Packet.{packet_length}

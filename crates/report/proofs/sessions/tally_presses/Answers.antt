@@ -1,5 +1,4 @@
 -- `report::sessions::tally_presses` meets its contract: up to each place the presses are counted.
--- Assumes nothing.
 use native.Mathlib.Omega.{arith}
 use Rattle.std.proofs.Common.{rules}
 use Rattle.report.proofs.Presses.{counting_begins, counting_fits, counting_press, counting_other, counting_ends}

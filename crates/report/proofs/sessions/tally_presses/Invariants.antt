@@ -1,5 +1,4 @@
 -- `report::sessions::tally_presses` meets its contract: up to each place the presses are counted.
--- Assumes nothing.
 use Rattle.report.proofs.Presses.{Counting}
 use Rattle.report.proofs.sessions.tally_presses.Given as goal
 

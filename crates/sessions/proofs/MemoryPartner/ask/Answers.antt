@@ -1,4 +1,4 @@
--- `ask` meets its contract. Assumes nothing.
+-- `ask` meets its contract.
 use Rattle.sessions.proofs.Ran.{known, unknown}
 use Rattle.sessions.proofs.MemoryPartner.ask.Goals as goal
 

@@ -1,4 +1,4 @@
--- `go_on` meets its contract. Assumes nothing.
+-- `go_on` meets its contract.
 use mathlib.Core.Path.{sym, ap, ◌∙◌}
 use Rattle.std.specs.Prelude.{take, Err}
 use Rattle.sessions.specs.Operations.{talk_of}

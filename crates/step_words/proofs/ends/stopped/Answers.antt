@@ -1,4 +1,4 @@
--- `stopped` meets its contract. Assumes nothing.
+-- `stopped` meets its contract.
 use mathlib.Core.Path.{ap, ◌∙◌}
 use Rattle.std.specs.Prelude.{take, get_or, Err}
 use Rattle.sessions.specs.Operations.{talk_of}

@@ -1,4 +1,4 @@
--- `wanted` meets its contract. Assumes nothing.
+-- `wanted` meets its contract.
 use mathlib.Core.Path.{sym, ◌∙◌}
 use Rattle.step_words.specs.Whole.{replies_of}
 use Rattle.step_words.specs.Reads.{wanted_too_few, asks, stands}

@@ -1,4 +1,4 @@
--- `begin_in` meets its contract. Assumes nothing.
+-- `begin_in` meets its contract.
 use mathlib.Core.Path.{◌≡◌, ap, ◌∙◌}
 use Rattle.std.specs.Prelude.{Some, get_or}
 use Rattle.sessions.specs.Rounds.{past}

@@ -1,4 +1,4 @@
--- `is_unlisted` meets its contract. Assumes nothing.
+-- `is_unlisted` meets its contract.
 use Rattle.step_words.proofs.Keeps.{unlisted_read}
 use Rattle.step_words.proofs.steps.is_unlisted.Goals as goal
 

@@ -1,4 +1,4 @@
--- `next_in` meets its contract. Assumes nothing.
+-- `next_in` meets its contract.
 use mathlib.Core.Path.{sym}
 use Rattle.step_words.proofs.Left.{step_goes, step_replies}
 use Rattle.step_words.proofs.steps.next_in.Goals as goal

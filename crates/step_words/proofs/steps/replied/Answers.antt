@@ -1,4 +1,4 @@
--- `replied` meets its contract. Assumes nothing.
+-- `replied` meets its contract.
 use Prim.Native.Nat.{◌+◌, ◌<◌}
 use native.Mathlib.Omega.{arith}
 use mathlib.Core.Path.{sym, ◌∙◌}

@@ -1,4 +1,4 @@
--- `begin_all` meets its contract. Assumes nothing.
+-- `begin_all` meets its contract.
 use native.Mathlib.Omega.{arith}
 use Rattle.step_words.proofs.Seams.{begin_whole}
 use Rattle.step_words.proofs.whole.begin_all.Goals as goal

@@ -1,4 +1,4 @@
--- `begin_by` meets its contract. Assumes nothing.
+-- `begin_by` meets its contract.
 use mathlib.Core.Path.{sym}
 use Rattle.std.proofs.Common.{rules}
 use Rattle.step_words.specs.Whole.{means_nothing, begin_too_few, begun}

@@ -1,4 +1,4 @@
--- `next` meets its contract. Assumes nothing.
+-- `next` meets its contract.
 use native.Mathlib.Omega.{arith}
 use Rattle.std.proofs.Common.{rules}
 use Rattle.step_words.specs.Whole.{no_byte, next_too_few, stepped}

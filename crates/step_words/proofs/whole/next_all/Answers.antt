@@ -1,4 +1,4 @@
--- `next_all` meets its contract. Assumes nothing.
+-- `next_all` meets its contract.
 use native.Mathlib.Omega.{arith}
 use mathlib.Core.Path.{◌≡◌, ap, ◌∙◌}
 use Rattle.std.proofs.Common.{rules}

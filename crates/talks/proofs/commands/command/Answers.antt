@@ -1,4 +1,4 @@
--- `command` meets its contract. Assumes nothing.
+-- `command` meets its contract.
 use native.Mathlib.Omega.{arith}
 use mathlib.Core.Path.{refl, sym, ap, ◌∙◌}
 use Rattle.std.specs.Prelude.{Ok}

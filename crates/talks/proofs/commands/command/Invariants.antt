@@ -1,4 +1,4 @@
--- `command` meets its contract: so many attempts of the command rule are left. Assumes nothing.
+-- `command` meets its contract: so many attempts of the command rule are left.
 use Rattle.std.proofs.Common.{◌≡◌}
 use Rattle.ps2_answers.specs.declared.Failure.TheVariants.{NotAcknowledged}
 use Rattle.talks.specs.Heard.{heard, attempts_heard}

@@ -1,4 +1,4 @@
--- `response_of` meets its contract. Assumes nothing.
+-- `response_of` meets its contract.
 use Rattle.ps2_answers.specs.declared.Failure.TheVariants.{NoResponse}
 use Rattle.ps2_bytes.specs.Responses.{responses}
 use Rattle.talks.proofs.Tables.{reads}

@@ -1,4 +1,4 @@
--- `set_of` meets its contract. Assumes nothing.
+-- `set_of` meets its contract.
 use Rattle.ps2_answers.specs.declared.Failure.TheVariants.{NoSetOrIdentity}
 use Rattle.ps2_bytes.specs.Data.{scancode_sets}
 use Rattle.talks.proofs.Tables.{reads}

@@ -1,4 +1,4 @@
--- `identity_of` meets its contract. Assumes nothing.
+-- `identity_of` meets its contract.
 use Rattle.ps2_answers.specs.declared.Failure.TheVariants.{NoSetOrIdentity}
 use Rattle.ps2_bytes.specs.Responses.{mouse_ids}
 use Rattle.talks.proofs.Tables.{reads}

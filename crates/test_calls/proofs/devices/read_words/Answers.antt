@@ -1,5 +1,4 @@
 -- `test_calls::devices::read_words` meets its contract: the wheel is the Rust's, read back from the bits that it was returned in, and the rest is the library's.
--- Assumes nothing.
 use Prim.Native.Nat.{◌<◌, ◌^◌}
 use mathlib.Core.Path.{◌≡◌}
 use lib.IntN.{ℤ}

@@ -1,5 +1,4 @@
 -- `test_calls::vdt_dispatcher_steps` meets its contract: after i turns the state and the log are what i steps leave.
--- Assumes nothing.
 use Rattle.test_calls.proofs.Steps.{none_made, one_more_made}
 use Rattle.test_calls.proofs.rows.vdt_dispatcher_steps.Goals as goal
 

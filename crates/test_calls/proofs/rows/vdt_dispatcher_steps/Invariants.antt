@@ -1,5 +1,4 @@
 -- `test_calls::vdt_dispatcher_steps` meets its contract: after i turns the state and the log are what i steps leave.
--- Assumes nothing.
 use mathlib.Core.Path.{◌≡◌}
 use Rattle.dispatcher.specs.Sources.{scripts}
 use Rattle.test_calls.specs.Steps.{left, made}

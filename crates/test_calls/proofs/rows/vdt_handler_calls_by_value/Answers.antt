@@ -1,5 +1,4 @@
 -- `test_calls::vdt_handler_calls_by_value` meets its contract: after i turns the record and the log are what i calls leave.
--- Assumes nothing.
 use native.Mathlib.Omega.{arith}
 use mathlib.Core.Path.{sym}
 use Rattle.test_calls.proofs.Calls.{none_called, one_more_called, all_called}

@@ -1,5 +1,4 @@
 -- `test_calls::vdt_handler_calls_by_value` meets its contract: after i turns the record and the log are what i calls leave.
--- Assumes nothing.
 use Rattle.keyboard_record.specs.Record.{fresh}
 use Rattle.keyboard_sides.specs.Sides.{side_of}
 use Rattle.test_calls.specs.Calls.{table_of}

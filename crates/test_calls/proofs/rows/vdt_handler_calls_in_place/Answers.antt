@@ -1,5 +1,4 @@
 -- `test_calls::vdt_handler_calls_in_place` meets its contract: after i turns the record and the log are what i calls leave.
--- Assumes nothing.
 use native.Mathlib.Omega.{arith}
 use mathlib.Core.Path.{sym, ap}
 use Rattle.keyboard.specs.Handler.{Called}

@@ -1,5 +1,4 @@
 -- `test_calls::vdt_handler_calls_on_state` meets its contract: after i turns the state and the log are what i calls leave.
--- Assumes nothing.
 use native.Mathlib.Omega.{arith}
 use mathlib.Core.Path.{sym, ap}
 use Rattle.keyboard_record.specs.declared.KeyboardHandler.{KeyboardHandler}

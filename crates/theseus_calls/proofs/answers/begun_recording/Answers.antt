@@ -1,4 +1,4 @@
--- Nothing is read, written or noted yet. Assumes nothing.
+-- Nothing is read, written or noted yet.
 use mathlib.Core.Path.{refl}
 use Rattle.theseus_calls.proofs.answers.begun_recording.Goals as goal
 

@@ -1,5 +1,4 @@
 -- The panic is the third text. At the end the text is none of those that were asked for.
--- Assumes nothing.
 use mathlib.Core.Path.{refl}
 use Rattle.theseus_calls.proofs.Texts.{another, same}
 use Rattle.theseus_calls.proofs.answers.later_number_of.Goals as goal

@@ -1,4 +1,4 @@
--- The text is none of those that were asked for. Assumes nothing.
+-- The text is none of those that were asked for.
 use Rattle.theseus_calls.proofs.Texts.{another}
 use Rattle.theseus_calls.proofs.answers.number_of.Goals as goal
 

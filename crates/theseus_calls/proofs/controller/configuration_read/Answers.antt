@@ -1,4 +1,4 @@
--- It tells the operation's play. Assumes nothing.
+-- It tells the operation's play.
 use mathlib.Core.Path.{◌∙◌}
 use Rattle.ps2_ports.specs.Ports.{read_config}
 use Rattle.theseus_calls.proofs.Recorded.{recorded, recorded_lent}

@@ -1,4 +1,4 @@
--- It is the writing of the configuration that has these bits. Assumes nothing.
+-- It is the writing of the configuration that has these bits.
 use mathlib.Core.Path.{◌∙◌}
 use Prim.Native.Nat.{ℕ}
 use mathlib.Core.Path.{subst}

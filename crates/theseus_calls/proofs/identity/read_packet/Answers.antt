@@ -1,4 +1,4 @@
--- It tells the operation's play. Assumes nothing.
+-- It tells the operation's play.
 use mathlib.Core.Path.{◌∙◌}
 use Rattle.ps2_packet_reading.specs.Reading.{read_mouse_packet}
 use Rattle.theseus_calls.proofs.Left.{packet_read}

@@ -1,4 +1,4 @@
--- It tells the operation's play. Assumes nothing.
+-- It tells the operation's play.
 use mathlib.Core.Path.{◌∙◌}
 use Rattle.ps2_mouse_identity.specs.Identity.{set_mouse_id}
 use Rattle.theseus_calls.proofs.Left.{identified}

@@ -1,4 +1,4 @@
--- It tells the operation's play. Assumes nothing.
+-- It tells the operation's play.
 use mathlib.Core.Path.{◌∙◌}
 use mathlib.Core.Path.{refl}
 use Rattle.ps2_init.specs.Init.{initialize}

@@ -1,4 +1,4 @@
--- It tells the operation's play. Assumes nothing.
+-- It tells the operation's play.
 use mathlib.Core.Path.{◌∙◌}
 use Rattle.port_words.specs.Told.{type_number}
 use Rattle.ps2_detect.specs.Detection.{keyboard_detect}

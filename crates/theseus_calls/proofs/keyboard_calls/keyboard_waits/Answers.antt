@@ -1,4 +1,4 @@
--- It tells the operation's play. Assumes nothing.
+-- It tells the operation's play.
 use mathlib.Core.Path.{◌∙◌}
 use Rattle.bits.specs.Bits.{weigh}
 use Rattle.ps2_keyboard.specs.Keyboard.{keyboard_output_buffer_full}

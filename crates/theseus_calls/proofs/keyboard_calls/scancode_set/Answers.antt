@@ -1,4 +1,4 @@
--- It tells the operation's play. Assumes nothing.
+-- It tells the operation's play.
 use mathlib.Core.Path.{◌∙◌}
 use Rattle.ps2_bytes.specs.Data.{scancode_set_byte}
 use Rattle.ps2_keyboard.specs.Keyboard.{get_scancode_set}

@@ -1,4 +1,4 @@
--- It tells the operation's play. Assumes nothing.
+-- It tells the operation's play.
 use mathlib.Core.Path.{◌∙◌}
 use Rattle.ps2_bytes.specs.Responses.{mouse_id_byte}
 use Rattle.ps2_mouse.specs.Mouse.{mouse_id}

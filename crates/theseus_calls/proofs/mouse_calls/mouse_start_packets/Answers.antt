@@ -1,4 +1,4 @@
--- It tells the operation's play. Assumes nothing.
+-- It tells the operation's play.
 use mathlib.Core.Path.{◌∙◌}
 use Rattle.port_words.specs.Told.{no_value}
 use Rattle.ps2_mouse.specs.Mouse.{enable_packet_streaming}

@@ -1,4 +1,4 @@
--- It tells what the handler leaves. Assumes nothing.
+-- It tells what the handler leaves.
 use mathlib.Core.Path.{◌∙◌}
 use mathlib.Core.Path.{ap}
 use mathlib.Core.List.{List}

@@ -1,4 +1,4 @@
--- The two agree, since each tells its call's play, and the two plays are one. Assumes nothing.
+-- The two agree, since each tells its call's play, and the two plays are one.
 use Rattle.keyboard.specs.Outcomes.{said_handled}
 use Rattle.theseus_keycodes.specs.Flags.{renumbered}
 use Rattle.theseus_keyboard.specs.Handler.{our_events}

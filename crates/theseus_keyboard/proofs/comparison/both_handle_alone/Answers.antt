@@ -1,4 +1,4 @@
--- The two agree on a side's keyboard, since each tells its call's play, and the two yield alike. Assumes nothing.
+-- The two agree on a side's keyboard, since each tells its call's play, and the two yield alike.
 use Rattle.keyboard.specs.Outcomes.{said_handled}
 use Rattle.theseus_keycodes.specs.Flags.{renumbered}
 use Rattle.theseus_keyboard.specs.Handler.{our_events}

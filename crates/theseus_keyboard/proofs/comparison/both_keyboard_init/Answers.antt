@@ -1,4 +1,4 @@
--- The two agree, since each tells the operation's play; and a fresh record is what the Rust's statics begin with. Assumes nothing.
+-- The two agree, since each tells the operation's play; and a fresh record is what the Rust's statics begin with.
 use mathlib.Core.Path.{refl, sym, subst}
 use Rattle.bits.specs.Bits.{odd, bit, put_bit}
 use Rattle.keyboard_init.specs.KeyboardInit.{keyboard_init}

@@ -1,5 +1,4 @@
 -- `theseus_keycodes::KeyboardModifiers::intersects` meets its contract: a shared bit is a bit of `&`.
--- Assumes nothing.
 use native.Mathlib.Omega.{arith}
 use Rattle.bits.proofs.Masks.{meet_mask}
 use Rattle.theseus_keycodes.proofs.KeyboardModifiers.intersects.Goals as goal

@@ -1,5 +1,4 @@
 -- `theseus_keycodes::KeyboardModifiers::is_alt_gr` meets its contract: it asks for one flag.
--- Assumes nothing.
 use Rattle.keyboard_modifiers.proofs.Modifiers.{asks_one}
 use Rattle.theseus_keycodes.specs.Flags.{alt_gr}
 use Rattle.theseus_keycodes.proofs.KeyboardModifiers.is_alt_gr.Goals as goal

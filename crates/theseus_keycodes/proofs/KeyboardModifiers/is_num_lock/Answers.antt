@@ -1,5 +1,4 @@
 -- `theseus_keycodes::KeyboardModifiers::is_num_lock` meets its contract: it asks for one flag.
--- Assumes nothing.
 use Rattle.keyboard_modifiers.proofs.Modifiers.{asks_one}
 use Rattle.theseus_keycodes.specs.Flags.{num_lock}
 use Rattle.theseus_keycodes.proofs.KeyboardModifiers.is_num_lock.Goals as goal

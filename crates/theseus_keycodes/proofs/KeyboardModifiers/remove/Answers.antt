@@ -1,5 +1,4 @@
 -- `theseus_keycodes::KeyboardModifiers::remove` meets its contract: it goes bit by bit.
--- Assumes nothing.
 use native.Mathlib.Omega.{arith}
 use Rattle.bits.proofs.Masks.{and_not_bitwise}
 use Rattle.theseus_keycodes.proofs.KeyboardModifiers.remove.Goals as goal

@@ -1,5 +1,4 @@
 -- `theseus_keycodes::KeyboardModifiers::toggle` meets its contract: it goes bit by bit.
--- Assumes nothing.
 use native.Mathlib.Omega.{arith}
 use Rattle.bits.proofs.Masks.{xor_bitwise}
 use Rattle.theseus_keycodes.proofs.KeyboardModifiers.toggle.Goals as goal

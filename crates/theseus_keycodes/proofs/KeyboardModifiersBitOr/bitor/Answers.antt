@@ -1,5 +1,4 @@
 -- `theseus_keycodes::KeyboardModifiers`'s `|` meets its contract: it goes bit by bit.
--- Assumes nothing.
 use native.Mathlib.Omega.{arith}
 use Rattle.bits.proofs.Masks.{or_bitwise}
 use Rattle.theseus_keycodes.proofs.KeyboardModifiersBitOr.bitor.Goals as goal

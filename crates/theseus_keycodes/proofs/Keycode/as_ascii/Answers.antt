@@ -1,5 +1,4 @@
 -- `theseus_keycodes::Keycode::as_ascii` meets its contract: a letter's arms, and the keys that have none.
--- Assumes nothing.
 use mathlib.Core.Path.{◌≡◌, refl}
 use mathlib.Core.Bool.{false, xor}
 use Rattle.std.specs.Prelude.{None}

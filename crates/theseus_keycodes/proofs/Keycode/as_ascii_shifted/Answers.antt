@@ -1,5 +1,4 @@
 -- `theseus_keycodes::Keycode::as_ascii_shifted` meets its contract: a letter's arms, and the keys that have none.
--- Assumes nothing.
 use mathlib.Core.Path.{◌≡◌, refl, ◌∙◌}
 use mathlib.Core.Bool.{true, false, xor}
 use Rattle.keycodes_ascii.specs.Characters.{writes, character}

@@ -1,5 +1,4 @@
 -- `theseus_keycodes::Keycode::to_ascii` meets its contract: each way through it is a case of Shift, Caps Lock and letter.
--- Assumes nothing.
 use mathlib.Core.Path.{sym, ◌∙◌}
 use mathlib.Core.Bool.{true, false}
 use Rattle.keycodes_ascii.specs.Characters.{writes}

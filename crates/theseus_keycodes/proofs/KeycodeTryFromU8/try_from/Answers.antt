@@ -1,5 +1,4 @@
 -- `theseus_keycodes`'s `Keycode::try_from` meets its contract: a byte of no arm is the number of no keycode.
--- Assumes nothing.
 use Rattle.keycodes_ascii.specs.Keycode.{keycodes}
 use Rattle.keycodes_ascii.proofs.Codes.{keycode_missing}
 use Rattle.theseus_keycodes.proofs.KeycodeTryFromU8.try_from.Goals as goal

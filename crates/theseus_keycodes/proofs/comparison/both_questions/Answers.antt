@@ -1,5 +1,4 @@
 -- `both_questions` meets its contract: a flag of ours is the Rust's of the same name.
--- Assumes nothing.
 use mathlib.Core.Path.{sym, ◌∙◌}
 use Rattle.theseus_keycodes.proofs.Questions.{shift_is, control_is, alt_is, alt_gr_is, super_key_is, caps_lock_is, num_lock_is, scroll_lock_is}
 use Rattle.theseus_keycodes.proofs.comparison.both_questions.Goals as goal

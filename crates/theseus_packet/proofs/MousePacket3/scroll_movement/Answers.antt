@@ -1,4 +1,4 @@
--- `scroll_movement` meets its contract: a byte read as a signed byte. Assumes nothing.
+-- `scroll_movement` meets its contract: a byte read as a signed byte.
 use mathlib.Core.Path.{ap, ◌∙◌}
 use native.Mathlib.Omega.{arith}
 use mir.Syntax.{w8}

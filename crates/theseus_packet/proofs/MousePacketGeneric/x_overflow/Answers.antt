@@ -1,4 +1,4 @@
--- `x_overflow` meets its contract: the bit of byte 1 that is asked for is that of x. Assumes nothing.
+-- `x_overflow` meets its contract: the bit of byte 1 that is asked for is that of x.
 use Rattle.theseus_packet.proofs.MousePacketGeneric.x_overflow.Goals as goal
 
 pub returns : goal.returns

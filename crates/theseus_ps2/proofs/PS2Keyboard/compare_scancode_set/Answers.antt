@@ -1,4 +1,4 @@
--- `compare_scancode_set` meets its contract: whatever set is answered, the setting succeeds. Assumes nothing.
+-- `compare_scancode_set` meets its contract: whatever set is answered, the setting succeeds.
 use mathlib.Core.Path.{sym, ◌∙◌}
 use Rattle.exchange.specs.Exchange.{done}
 use Rattle.exchange.specs.Answer.{gives}

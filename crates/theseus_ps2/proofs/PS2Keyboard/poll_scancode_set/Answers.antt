@@ -1,4 +1,4 @@
--- `poll_scancode_set` meets its contract: each turn of the loop is one of the definition's repetition. Assumes nothing.
+-- `poll_scancode_set` meets its contract: each turn of the loop is one of the definition's repetition.
 use native.Mathlib.Omega.{arith}
 use mathlib.Core.Path.{sym, ap, ◌∙◌}
 use Rattle.std.proofs.Common.{◌-◌, ◌+◌}

@@ -1,4 +1,4 @@
--- `poll_scancode_set` meets its contract: the loop has so many polls of the definition's repetition left. Assumes nothing.
+-- `poll_scancode_set` meets its contract: the loop has so many polls of the definition's repetition left.
 use Rattle.std.proofs.Common.{◌≡◌, ◌-◌}
 use Rattle.exchange.specs.Answer.{refuses}
 use Rattle.exchange.specs.Repeat.{repeat}

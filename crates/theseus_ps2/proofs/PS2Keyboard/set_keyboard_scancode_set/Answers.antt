@@ -1,4 +1,4 @@
--- `set_keyboard_scancode_set` meets its contract: two commands, then what is polled for. Assumes nothing.
+-- `set_keyboard_scancode_set` meets its contract: two commands, then what is polled for.
 use mathlib.Core.Path.{◌≡◌, sym, ◌∙◌}
 use Rattle.std.proofs.Common.{rules}
 use Rattle.ps2_answers.specs.Refusals.{Success}

@@ -1,4 +1,4 @@
--- `mouse_resolution` meets its contract: two commands, whose refusals are all 15. Assumes nothing.
+-- `mouse_resolution` meets its contract: two commands, whose refusals are all 15.
 use mathlib.Core.Path.{◌≡◌, sym, ◌∙◌}
 use Rattle.std.proofs.Common.{rules}
 use Rattle.std.specs.Prelude.{codes}

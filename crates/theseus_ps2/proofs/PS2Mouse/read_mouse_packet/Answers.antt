@@ -1,4 +1,4 @@
--- `read_mouse_packet` meets its contract: three bytes, and a fourth where the identity is 3 or 4. Assumes nothing.
+-- `read_mouse_packet` meets its contract: three bytes, and a fourth where the identity is 3 or 4.
 use mathlib.Core.Path.{◌≡◌, sym, ◌∙◌}
 use Rattle.std.proofs.Common.{rules}
 use Rattle.exchange.specs.Exchange.{p60, done, read}

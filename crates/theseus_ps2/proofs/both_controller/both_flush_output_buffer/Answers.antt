@@ -1,4 +1,4 @@
--- The two agree, since each tells the operation's play. Assumes nothing.
+-- The two agree, since each tells the operation's play.
 use Rattle.ps2_ports.specs.Ports.{flush_output_buffer}
 use Rattle.theseus_ps2.proofs.Agreed.{agree_reads}
 use Rattle.theseus_ps2.proofs.both_controller.both_flush_output_buffer.Goals as goal

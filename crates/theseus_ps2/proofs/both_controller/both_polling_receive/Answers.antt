@@ -1,4 +1,4 @@
--- The two agree, since each tells the operation's play. Assumes nothing.
+-- The two agree, since each tells the operation's play.
 use native.Mathlib.Omega.{arith}
 use Rattle.ps2_polling.proofs.Bounds.{within_receive}
 use Rattle.ps2_polling.specs.Polling.{polling_receive}

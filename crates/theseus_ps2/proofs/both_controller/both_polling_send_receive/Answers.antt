@@ -1,4 +1,4 @@
--- The two agree, since each tells the operation's play: ours onto nothing kept, which is what the operation keeps. Assumes nothing.
+-- The two agree, since each tells the operation's play: ours onto nothing kept, which is what the operation keeps.
 use mathlib.Core.Path.{sym}
 use native.Mathlib.Omega.{arith}
 use Rattle.ps2_kept.proofs.Thrown.{keeping_thrown_lem}

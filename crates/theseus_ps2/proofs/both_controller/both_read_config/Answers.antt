@@ -1,4 +1,4 @@
--- The two agree, since each tells the operation's play. Assumes nothing.
+-- The two agree, since each tells the operation's play.
 use Rattle.ps2_ports.specs.Ports.{read_config}
 use Rattle.theseus_ps2.proofs.Agreed.{agree_run}
 use Rattle.theseus_ps2.proofs.both_controller.both_read_config.Goals as goal

@@ -1,4 +1,4 @@
--- The two agree, since each tells the operation's play. Assumes nothing.
+-- The two agree, since each tells the operation's play.
 use Rattle.ps2_polling.specs.Polling.{controller_test_result}
 use Rattle.theseus_ps2.proofs.Agreed.{agree_reads}
 use Rattle.theseus_ps2.proofs.both_controller.both_read_controller_test_result.Goals as goal

@@ -1,4 +1,4 @@
--- The two agree, since each tells the operation's play. Assumes nothing.
+-- The two agree, since each tells the operation's play.
 use Rattle.ps2_ports.specs.Ports.{read_status}
 use Rattle.theseus_ps2.proofs.Agreed.{agree_reads}
 use Rattle.theseus_ps2.proofs.both_controller.both_status_register.Goals as goal

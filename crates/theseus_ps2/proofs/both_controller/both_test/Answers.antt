@@ -1,4 +1,4 @@
--- The two agree, since each tells the operation's play. Assumes nothing.
+-- The two agree, since each tells the operation's play.
 use Rattle.ps2_polling.specs.Polling.{test_controller}
 use Rattle.theseus_ps2.proofs.Agreed.{agree_run}
 use Rattle.theseus_ps2.proofs.both_controller.both_test.Goals as goal

@@ -1,4 +1,4 @@
--- The two agree, since each tells the operation's play. Assumes nothing.
+-- The two agree, since each tells the operation's play.
 use Rattle.ps2_bytes.specs.declared.command.HostToControllerCommand.TheVariants.{TestPort2}
 use Rattle.ps2_polling.specs.Polling.{test_port}
 use Rattle.theseus_ps2.proofs.Agreed.{agree_run}

@@ -1,4 +1,4 @@
--- The two agree, since each tells the operation's play. Assumes nothing.
+-- The two agree, since each tells the operation's play.
 use Rattle.ps2_ports.specs.Ports.{write_command}
 use Rattle.theseus_ps2.proofs.Agreed.{agree_writes}
 use Rattle.theseus_ps2.proofs.both_controller.both_write_command.Goals as goal

@@ -1,4 +1,4 @@
--- The two agree, since each tells the operation's play. Assumes nothing.
+-- The two agree, since each tells the operation's play.
 use Rattle.ps2_packet_reading.specs.Reading.{read_mouse_packet}
 use Rattle.theseus_ps2.proofs.Agreed.{agree_reads}
 use Rattle.theseus_ps2.proofs.both_identity.both_read_mouse_packet.Goals as goal

@@ -1,4 +1,4 @@
--- The two agree, since each tells the operation's play. Assumes nothing.
+-- The two agree, since each tells the operation's play.
 use Rattle.ps2_mouse_identity.specs.Identity.{set_mouse_id}
 use Rattle.theseus_ps2.specs.Recording.{recording}
 use Rattle.theseus_ps2.proofs.Agreed.{agree_left}

@@ -1,4 +1,4 @@
--- The two agree, since each tells the operation's play. Assumes nothing.
+-- The two agree, since each tells the operation's play.
 use mathlib.Core.Path.{refl}
 use Rattle.ps2_init.specs.Init.{initialize}
 use Rattle.theseus_ps2.specs.Recording.{recording}

@@ -1,4 +1,4 @@
--- The two agree, since each tells the operation's play. Assumes nothing.
+-- The two agree, since each tells the operation's play.
 use native.Mathlib.Omega.{arith}
 use Rattle.ps2_bytes.specs.declared.writable.HostToDevice.TheVariants.{Keyboard}
 use Rattle.ps2_command.specs.Command.{command}

@@ -1,4 +1,4 @@
--- The two agree, since each tells the operation's play. Assumes nothing.
+-- The two agree, since each tells the operation's play.
 use Rattle.ps2_detect.specs.Detection.{keyboard_detect}
 use Rattle.theseus_ps2.proofs.Agreed.{agree_run}
 use Rattle.theseus_ps2.proofs.both_keyboard.both_keyboard_detect.Goals as goal

@@ -1,4 +1,4 @@
--- The two agree, since each tells the operation's play. Assumes nothing.
+-- The two agree, since each tells the operation's play.
 use Rattle.ps2_keyboard.specs.Keyboard.{read_scancode}
 use Rattle.theseus_ps2.proofs.Agreed.{agree_reads}
 use Rattle.theseus_ps2.proofs.both_keyboard.both_read_scancode.Goals as goal

@@ -1,4 +1,4 @@
--- The two agree, since each tells the operation's play. Assumes nothing.
+-- The two agree, since each tells the operation's play.
 use native.Mathlib.Omega.{arith}
 use Rattle.ps2_keyboard.proofs.Bounds.{most_set_keyboard_led}
 use Rattle.ps2_keyboard.specs.Keyboard.{set_keyboard_led}

@@ -1,4 +1,4 @@
--- The two agree, since each tells the operation's play. Assumes nothing.
+-- The two agree, since each tells the operation's play.
 use Rattle.ps2_keyboard.specs.Keyboard.{set_scancode_set}
 use Rattle.theseus_ps2.proofs.Agreed.{agree_run}
 use Rattle.theseus_ps2.proofs.both_keyboard.both_set_keyboard_scancode_set.Goals as goal

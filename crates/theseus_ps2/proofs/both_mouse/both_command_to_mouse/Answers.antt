@@ -1,4 +1,4 @@
--- The two agree, since each tells the operation's play. Assumes nothing.
+-- The two agree, since each tells the operation's play.
 use native.Mathlib.Omega.{arith}
 use Rattle.ps2_mouse.proofs.Bounds.{within_mouse}
 use Rattle.ps2_mouse.specs.Mouse.{command_to_mouse}

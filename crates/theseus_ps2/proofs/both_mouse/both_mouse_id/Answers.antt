@@ -1,4 +1,4 @@
--- The two agree, since each tells the operation's play. Assumes nothing.
+-- The two agree, since each tells the operation's play.
 use Rattle.ps2_mouse.specs.Mouse.{mouse_id}
 use Rattle.theseus_ps2.proofs.Agreed.{agree_run}
 use Rattle.theseus_ps2.proofs.both_mouse.both_mouse_id.Goals as goal

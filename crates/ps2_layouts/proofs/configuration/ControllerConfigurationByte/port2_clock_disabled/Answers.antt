@@ -1,5 +1,4 @@
 -- `ControllerConfigurationByte::port2_clock_disabled` meets its contract: the bit that is asked for is the one that the table of the configuration names.
--- Assumes nothing.
 use Rattle.ps2_layouts.proofs.configuration.ControllerConfigurationByte.port2_clock_disabled.Goals as goal
 
 pub returns : goal.returns

@@ -1,5 +1,4 @@
 -- `report::long::LongReport::empty` meets its contract.
--- Assumes nothing.
 use mathlib.Core.Path.{refl}
 use Rattle.report.specs.Keys.{values_from}
 use Rattle.report.proofs.long.LongReport.empty.Goals as goal

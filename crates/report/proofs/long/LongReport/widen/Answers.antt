@@ -1,5 +1,4 @@
 -- `report::long::LongReport::widen` meets its contract.
--- Assumes nothing.
 use mathlib.Core.Path.{ap}
 use Rattle.report.specs.Long.{long_of}
 use Rattle.report.proofs.long.LongReport.widen.Goals as goal

@@ -1,5 +1,4 @@
 -- `LongReport::numbers` meets its contract.
--- Assumes nothing.
 use Rattle.std.proofs.Common.{rules}
 use Rattle.report.proofs.long.LongReportSeason.numbers.Goals as goal
 

@@ -1,5 +1,4 @@
 -- `LongReport::of_totals` meets its contract.
--- Assumes nothing.
 use Rattle.std.proofs.Common.{rules}
 use Rattle.report.proofs.long.LongReportSeason.of_totals.Goals as goal
 

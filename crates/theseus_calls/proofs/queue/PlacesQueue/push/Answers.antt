@@ -1,4 +1,4 @@
--- A queue whose places are all filled has no room. Assumes nothing.
+-- A queue whose places are all filled has no room.
 use native.Mathlib.Omega.{arith}
 use mathlib.Core.Bool.{false}
 use mathlib.Core.Path.{◌≡◌, refl}

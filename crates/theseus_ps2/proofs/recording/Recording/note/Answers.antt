@@ -1,4 +1,4 @@
--- `note` meets its contract: the byte is thrown away just where it is no response. Assumes nothing.
+-- `note` meets its contract: the byte is thrown away just where it is no response.
 use mathlib.Core.Path.{sym, ap, ◌∙◌}
 use Rattle.theseus_ps2.proofs.Noted.{added_heard}
 use Rattle.theseus_ps2.proofs.recording.Recording.note.Goals as goal

@@ -1,4 +1,4 @@
--- `write` meets its contract: the pair lies in its place, and is counted once. Assumes nothing.
+-- `write` meets its contract: the pair lies in its place, and is counted once.
 use native.Mathlib.Omega.{arith}
 use Rattle.std.proofs.lemmas.Grind.{common_steps}
 use Rattle.std.proofs.Common.{◌≡◌, length, ◌/◌, true, false}
