@@ -6,7 +6,7 @@ use Rattle.bits.specs.Table.{decode}
 use Rattle.ps2_bytes.specs.Responses.{mouse_ids}
 use Rattle.ps2_bytes.specs.declared.response.MouseId.{MouseId}
 
--- What is answered where an argument stands for nothing. It is no number of documents 01 and 02.
+-- What is answered where an argument stands for nothing: a number that no refusal of an operation has.
 abbrev pub invalid_argument : ℕ
 invalid_argument = 255
 

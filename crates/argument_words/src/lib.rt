@@ -6,7 +6,7 @@ ghost use Rattle.argument_words.specs.Arguments.{identity_at, said_found};
 
 use ps2_bytes::MouseId;
 
-// What is answered where an argument stands for nothing; documents 01 and 02 have no such number.
+// What is answered where an argument stands for nothing: a number that no refusal of an operation has.
 pub const INVALID_ARGUMENT: u32 = 255;
 
 // The mouse's identity that a number stands for, if any.

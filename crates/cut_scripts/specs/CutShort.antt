@@ -1,4 +1,4 @@
--- A script that is cut short: what a call on the ports hands back with the script's first n bytes alone, beside what it hands back with all of them, with the same records and the same log. The statement of request 2.14's second half.
+-- A script that is cut short: what a call on the ports hands back with the script's first n bytes alone, beside what it hands back with all of them, with the same records and the same log.
 use Rattle.std.specs.Prelude.{ℕ, ◌*◌, ◌≤◌, ◌<◌, List, ◌≡◌, take, drop, get_or}
 use Rattle.exchange.specs.Exchange.{Port, p60, Exchange}
 use Rattle.exchange.specs.Trace.{ports_read, accesses}

@@ -1,4 +1,4 @@
--- The history rule through the dispatcher (document 02, 2.11): "The history rule holds through it." One statement about a list of steps and takings from a fresh state, with any scripts and logs.
+-- The history rule through the dispatcher: "The history rule holds through it." One statement about a list of steps and takings from a fresh state, with any scripts and logs.
 use Rattle.std.proofs.Math.Option.{Option}
 use Rattle.std.specs.Prelude.{◌≡◌, ℕ}
 use Rattle.exchange.specs.Exchange.{Exchange, End}

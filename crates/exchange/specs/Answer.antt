@@ -1,13 +1,13 @@
--- What an operation answers: what it is for, or a refusal by document 01's number.
+-- What an operation answers: what it is for, or a refusal by its number (docs/REFUSALS.md).
 use Rattle.std.specs.Prelude.{ℕ}
 use Rattle.exchange.specs.Exchange.{Exchange, done, bind, Lack, no_script, no_log, End, yields, lacks}
 
--- An operation either gives a value or refuses, by the number of document 01's question that was answered "no".
+-- An operation either gives a value or refuses, by the number of the question that was answered "no".
 pub data Answer (A : Type 0) : Type 0 where
   gives : A → Answer A
   refuses : ℕ → Answer A
 
--- Document 01's number of a lack: 2 where a read found the script used up, 3 where a write found no room. No operation makes these numbers; only the play does.
+-- The number of a lack: 2 where a read found the script used up, 3 where a write found no room. No operation makes these numbers; only the play does.
 abbrev pub lack_number : Lack → ℕ
 lack_number (no_script p) = 2
 lack_number no_log = 3

@@ -22,7 +22,7 @@ bind (done a) next = next a
 bind (read p f) next = read p (λ b. bind (f b) next)
 bind (write p v t) next = write p v (bind t next)
 
--- What a play can lack: a script byte for a read of this port (document 01's 2), or two free bytes of the log for a write (3).
+-- What a play can lack: a script byte for a read of this port (2), or two free bytes of the log for a write (3).
 pub data Lack : Type 0 where
   no_script : Port → Lack
   no_log : Lack
@@ -37,7 +37,7 @@ abbrev pub told_end : {A B : Type 0} → (A → B) → End A → End B
 told_end f (yields a) = yields (f a)
 told_end f (lacks x) = lacks x
 
--- What a play comes to (document 01, "Every answer gives the number of script bytes used and of pairs written"): its end, the script bytes used, the pairs written, and the log as it is left.
+-- What a play comes to ("Every answer gives the number of script bytes used and of pairs written"): its end, the script bytes used, the pairs written, and the log as it is left.
 pub record Played (A : Type 0) : Type 0 where
   pub end : End A
   pub used : ℕ

@@ -1,4 +1,4 @@
--- Document 01's example of a listing, and the ends of a lamp exchange, by computation.
+-- The example of a listing, and the ends of a lamp exchange, by computation.
 use mathlib.Core.Path.{◌≡◌, refl}
 use mathlib.Core.Bool.{xor}
 use mathlib.Core.List.{[], ◌∷◌}

@@ -34,7 +34,7 @@ use ps2_ports::DevicePort;
 // The script bytes of a lamp exchange in which both bytes are acknowledged at once: for each two status reads and FA.
 const AT_ONCE: usize = 6;
 
-// How a handler call ends that isn't done: for lack of a byte or room, or with the refusal that document 01 numbers 19, 20 or 21, or document 02 numbers 31 or 33.
+// How a handler call ends that isn't done: for lack of a byte or room, or refused with unknown scancode (19), queue full (20), malformed record (21), side full (31) or outside profile (33).
 #[derive(Clone, Copy)]
 pub enum HandlerRefusal {
     Lacking(Lack),
@@ -55,7 +55,7 @@ struct TakenByte {
     answer: Answer<u8>,
 }
 
-// What a handler call answers beside the record. A lamp exchange that failed, document 01's 14, is shown beside the answer, and so is the number of the bytes that it threw away and that found no place to wait.
+// What a handler call answers beside the record. A lamp exchange that failed (14) is shown beside the answer, and so is the number of the bytes that it threw away and that found no place to wait.
 #[derive(Clone, Copy)]
 pub struct CallAnswer {
     pub answer: HandlerAnswer,
@@ -85,7 +85,7 @@ pub struct Effect {
 }
 
 impl HandlerRefusal {
-    // The number that documents 01 and 02 give to a refusal.
+    // The number of a refusal, as an answer tells it.
     pub fn number(self) -> u8
         ensures { result ≡ number_ended (said_call (Err self)) }
     {
@@ -100,7 +100,7 @@ impl HandlerRefusal {
     }
 }
 
-// The number of how a call ends, and 0 where it is done: the documents number every answer.
+// The number of how a call ends, and 0 where it is done.
 pub fn number_of(answer: HandlerAnswer) -> u8
     ensures { result ≡ number_ended (said_call answer) }
 {
@@ -414,7 +414,7 @@ pub fn handle_in_place(
     effect.call
 }
 
-// The same by value, as document 01 has it.
+// The same by value.
 pub fn handle(mut handler: KeyboardHandler, side: Side, script: &[u8], log: &mut [u8]) -> Handled
     ensures { (said_handled result ≡ handled keyboard_lamps side handler script.now log.old) × (log.new ≡ log_left keyboard_lamps side handler.state script.now log.old) }
 {

@@ -1,4 +1,4 @@
--- The history rule (demand 3, with requests 2.3, 2.9 and 2.13), for every lamp exchange, at a table with one keyboard or two, under either profile, and for every list of calls.
+-- The history rule, for every lamp exchange, at a table with one keyboard or two, under either profile, and for every list of calls.
 use mathlib.Core.Path.{◌≡◌, refl, ap, ap₂, sym, subst, ◌∙◌}
 use mathlib.Core.Bool.{Bool, true, false, not, and-false}
 use mathlib.Core.List.{List, [], ◌++◌, append-nil, append_assoc}

@@ -206,7 +206,7 @@ unfolding those
 those_all nothing = refl
 those_all (past ▸ b) = ap (λ (p : Past ℕ). p ▸ b) (those_all past)
 
--- what the strokes say of a row's key is the request's sentence on its bytes
+-- what the strokes say of a row's key is the rule's sentence on its bytes
 kind_bytes : (k : Kind) (flag c : ℕ) → c < 128 → {bytes : Past ℕ} → AllBytes bytes → said (strokes bytes) (flag_row flag k c) ≡ demanded k c bytes
 unfolding said_of demanded
 kind_bytes lock flag c h {bytes} all = ap odd (times_bytes flag c h bytes)
@@ -229,13 +229,13 @@ unfolding low_codes followed flag_table
 table_low Profile.Any = refl
 table_low Profile.Tournament = refl
 
--- each flag that the bytes say, of those that the profile follows, by the request's sentence
+-- each flag that the bytes say, of those that the profile follows, by the rule's sentence
 pub flag_demanded : (profile : Profile) {bytes : Past ℕ} {r : FlagRow} → AllBytes bytes → Memᴰ r (followed profile)
     → bit r.flag (flags_said profile bytes) ≡ demanded r.kind r.code bytes
 flag_demanded profile {bytes} {r} all m = flag_bit profile bytes m ∙ kind_bytes r.kind r.flag r.code (low_in (table_low profile) m) all
 
 module _ {A : Type 0} (table : Table) (lamps : Side → ℕ → Exchange (Answer A)) where
-  -- each flag of a side after a list of calls, by the request's sentence on its counted bytes
+  -- each flag of a side after a list of calls, by the rule's sentence on its counted bytes
   pub flag_after : {calls : Past Call} {r : FlagRow} → ByteCalls calls → Memᴰ r (followed table.profile) → (side : Side)
       → bit r.flag (keyboard_at side (after table lamps calls).state).modifiers.bits ≡ demanded r.kind r.code (counted_of table lamps side calls)
   flag_after {calls} {r} all m side = ap (bit r.flag) ((history table lamps calls).flags side) ∙ flag_demanded table.profile (counted_bytes table lamps all side).0 m

@@ -1,4 +1,4 @@
--- Nothing is lost (request 2.3), of either side, for every lamp exchange and every list of calls.
+-- Nothing is lost, of either side, for every lamp exchange and every list of calls.
 use mathlib.Core.Path.{◌≡◌, refl, ap, sym, subst, ◌∙◌}
 use mathlib.Core.List.{List, ◌++◌, append_assoc}
 use Prim.Native.Nat.{ℕ}

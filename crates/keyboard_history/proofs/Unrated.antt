@@ -1,4 +1,4 @@
--- "Without it all is as before": at a table without the profile no call is answered 33, and what an event meets is the question of the base and of request 2.9.
+-- "Without it all is as before": at a table without the profile no call is answered 33, and what an event meets is the question of the whole queue and of a side's share.
 use mathlib.Core.Path.{◌≡◌, refl, ◌∙◌}
 use mathlib.Core.Bool.{Bool, true, false}
 use mathlib.Core.List.{List}

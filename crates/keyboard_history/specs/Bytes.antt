@@ -1,4 +1,4 @@
--- The request's sentences on flags, said of bytes, with nothing of strokes or of the table: what the laws of the words compare the rule with.
+-- The rule's sentences on flags, said of bytes, with nothing of strokes or of the table: what the laws of the words compare the rule with.
 use Rattle.std.specs.Prelude.{Bool, true, false, not, cond, ◌&&◌, List, [], ◌∷◌, ◌≡◌, ℕ, suc, ◌<◌, eqb, get_or}
 use Rattle.bits.specs.Bits.{odd}
 use Rattle.scancode_set1.specs.Set1.{release_of}

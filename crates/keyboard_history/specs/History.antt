@@ -1,4 +1,4 @@
--- The history rule: demand 3, with request 2.3's sentences on waiting bytes, request 2.9's on two keyboards and request 2.13's on the tournament profile, as one statement about a list of calls. On the right of each equation stands what the list alone says; on the left, the record after it and the answers given.
+-- The history rule, with what it says of waiting bytes, of two keyboards and of the tournament profile, as one statement about a list of calls. On the right of each equation stands what the list alone says; on the left, the record after it and the answers given.
 use Rattle.std.specs.Prelude.{true, not, ◌++◌, ◌≡◌, ℕ, ◌≤◌, length}
 use Rattle.exchange.specs.Exchange.{Exchange}
 use Rattle.exchange.specs.Answer.{Answer}

@@ -1,4 +1,4 @@
--- The history rule over set 2 (request 2.2), for every lamp exchange and every list of calls in which the counted scancodes of a side are a converted stream.
+-- The history rule over set 2, for every lamp exchange and every list of calls in which the counted scancodes of a side are a converted stream.
 use mathlib.Core.Path.{◌≡◌, sym, ap, ◌∙◌, subst, subst⁻¹}
 use mathlib.Core.List.{List}
 use mathlib.Core.Logic.{⊎_elim}

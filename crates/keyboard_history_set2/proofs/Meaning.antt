@@ -160,7 +160,7 @@ unfolding those
 those_all nothing = refl
 those_all (past ▸ c) = ap (λ (p : Past Code). p ▸ c) (those_all past)
 
--- what the strokes of the bytes say of a row's key is the request's sentence on the codes
+-- what the strokes of the bytes say of a row's key is the rule's sentence on the codes
 kind_codes : (k : Kind) (flag p : ℕ) → Flagged p → {codes : Past Code} {bytes : Past ℕ} → Reads codes bytes
     → said (strokes bytes) (flag_row flag k (key_of p)) ≡ demanded_set2 k p codes
 unfolding said_of demanded_set2
@@ -194,7 +194,7 @@ flag_codes_said profile {r} m {codes} {bytes} h =
     flag_bit profile bytes {r = in_set1 r} (subst (Memᴰ (in_set1 r)) (followed_codes_lem profile) (in_table m))
     ∙ kind_codes r.kind r.flag r.code (flagged r.code (each_in (λ (r : FlagRow). is_flagged r.code) (followed_flagged profile) m)) h
 
--- each flag of a side after a list of calls in which its counted scancodes are a converted stream, by the request's sentence on the codes that were used
+-- each flag of a side after a list of calls in which its counted scancodes are a converted stream, by the rule's sentence on the codes that were used
 module _ {A : Type 0} (table : Table) (lamps : Side → ℕ → Exchange (Answer A)) where
   pub flag_set2 : (side : Side) (calls : Past Call) (stream : List ℕ) (room : ℕ) {r : FlagRow} → Memᴰ r (followed_codes table.profile)
       → counted_of table lamps side calls ≡ onto nothing (convert_stream stream room).bytes

@@ -1,4 +1,4 @@
--- The request's sentences on flags, said of set 2 codes, with nothing of strokes, of the table of flags or of set 1: what the laws of the words compare the rule with.
+-- The rule's sentences on flags, said of set 2 codes, with nothing of strokes, of the table of flags or of set 1: what the laws of the words compare the rule with.
 use Rattle.std.specs.Prelude.{Bool, true, false, not, cond, List, [], ◌∷◌, ℕ, suc, eqb}
 use Rattle.bits.specs.Bits.{odd}
 use Rattle.keyboard_modifiers.specs.Flags.{shift_left, shift_right, control_left, control_right, alt, super_key_left, super_key_right, caps_lock, num_lock, scroll_lock, alt_right}

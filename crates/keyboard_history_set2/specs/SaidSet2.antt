@@ -1,4 +1,4 @@
--- What the codes of a set 2 stream say of the keys, by request 2.2's words: strokes, and by them the flags and the events given.
+-- What the codes of a set 2 stream say of the keys: strokes, and by them the flags and the events given.
 use Rattle.std.specs.Prelude.{Bool, true, false, cond, ◌||◌, List, [], ◌∷◌, ◌++◌, ℕ, eqb, leb}
 use Rattle.keycodes_ascii.specs.declared.KeyAction.{KeyAction}
 use Rattle.keycodes_ascii.specs.declared.KeyEvent.{KeyEvent}

@@ -1,4 +1,4 @@
--- The modifier flags, as document 01 numbers them: a flag's number is its bit in the word of flags.
+-- The modifier flags: a flag's number is its bit in the word of flags.
 use Rattle.std.specs.Prelude.{ℕ}
 
 abbrev pub shift_left : ℕ
@@ -31,6 +31,6 @@ num_lock = 8
 abbrev pub scroll_lock : ℕ
 scroll_lock = 9
 
--- Document 02, 2.4: "Add flag 10, ALT_RIGHT".
+-- "Add flag 10, ALT_RIGHT": the right Alt's own.
 abbrev pub alt_right : ℕ
 alt_right = 10

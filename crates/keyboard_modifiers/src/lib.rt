@@ -6,7 +6,7 @@ ghost use Rattle.std.specs.Bool.{xor};
 ghost use Rattle.bits.specs.Bits.{bit, bitwise, meet, without};
 ghost use Rattle.keyboard_modifiers.specs.Flags.{shift_left, shift_right, control_left, control_right, alt, super_key_left, super_key_right, caps_lock, num_lock, scroll_lock, alt_right};
 
-// The modifier keys that are held down, and the locks that are on: a bit for each, as document 01 numbers them.
+// The modifier keys that are held down, and the locks that are on: a bit for each.
 #[derive(Clone, Copy, PartialEq, Eq)]
 pub struct KeyboardModifiers {
     pub bits: u16,

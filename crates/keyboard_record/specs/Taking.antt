@@ -20,7 +20,7 @@ taken h =
     (left (gives (some (oldest h))) (without_oldest h)))
     (left (refuses 21) h)
 
--- What the code's answer says, by document 01's number and values.
+-- What the code's answer says, by its number and values.
 abbrev pub said_event : SideEvent → Sided KeyEvent
 said_event e = record { side = e.side; one = e.event }
 

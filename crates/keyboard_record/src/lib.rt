@@ -68,7 +68,7 @@ pub struct SideEvent {
     pub event: KeyEvent,
 }
 
-// Why the queue takes no more of a side's events: its key is outside the profile, document 02's 33; the side has its share, document 02's 31; or every place is taken, document 01's 20.
+// Why the queue takes no more of a side's events: its key is outside the profile (33); the side has its share (31); or every place is taken (20).
 #[derive(Clone, Copy, PartialEq, Eq)]
 pub enum NoRoom {
     OutsideProfile,
@@ -91,7 +91,7 @@ pub struct Taken {
 }
 
 impl MalformedRecord {
-    // The number that document 01 gives to it.
+    // The number of the refusal, as an answer tells it.
     pub fn number(self) -> u8
         ensures { result ≡ number_answered (said_taken (Err self)) }
     {
@@ -282,7 +282,7 @@ impl KeyboardHandler {
     }
 }
 
-// The same, by value, as document 01 has it.
+// The same, by value.
 pub fn take_event(mut handler: KeyboardHandler) -> Taken
     ensures { left (said_taken result.event) result.handler ≡ taken handler }
 {

@@ -15,7 +15,7 @@ the_keycode None = Keycode.OverflowError
 unfoldable pub keycode_at : ℕ → Keycode
 keycode_at code = the_keycode (keycode_of code)
 
--- Document 01: "An event is a Keycode 00 to 5D, Pressed or Released (byte 80 up), and the flags."
+-- "An event is a Keycode 00 to 5D, Pressed or Released (byte 80 up), and the flags."
 unfoldable pub event_of : ℕ → ℕ → KeyEvent
 event_of b flags =
     record {

@@ -17,7 +17,7 @@ pub record FlagRow : Type 0 where
 abbrev pub flag_row : ℕ → Kind → ℕ → FlagRow
 flag_row flag kind code = record { flag = flag; kind = kind; code = code }
 
--- Document 01's list of flags, in order, and document 02's flag 10: "on when the last of 38 and B8 directly after E0 or E1 was 38".
+-- The list of flags, in order, and flag 10: "on when the last of 38 and B8 directly after E0 or E1 was 38".
 unfoldable pub flag_table : List FlagRow
 flag_table =
     flag_row shift_left held 0x2A ∷

@@ -1,4 +1,4 @@
--- Document 02's profile: which keys are queued under it, and which flags are followed.
+-- The tournament profile: which keys are queued under it, and which flags are followed.
 use Rattle.std.specs.Prelude.{Bool, true, false, cond, ◌||◌, List, [], ◌∷◌, ℕ, eqb}
 use Rattle.keycodes_ascii.specs.declared.Keycode.{Keycode}
 use Rattle.keycodes_ascii.specs.Keycode.{number_of}

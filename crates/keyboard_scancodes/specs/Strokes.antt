@@ -7,11 +7,11 @@ pub record Stroke : Type 0 where
   pub pressed : Bool
   pub prefixed : Bool
 
--- Document 01: "E0 and E1 set the prefix".
+-- "E0 and E1 set the prefix".
 abbrev pub is_prefix : ℕ → Bool
 is_prefix b = eqb b 0xE0 || eqb b 0xE1
 
--- Document 01: a scancode's low part is its low seven bits.
+-- A scancode's low part is its low seven bits.
 abbrev pub low_part : ℕ → ℕ
 low_part b = b % 0x80
 
@@ -23,6 +23,6 @@ is_press b = ltb b 0x80
 abbrev pub stroke : ℕ → Bool → Stroke
 stroke b x = record { code = low_part b; pressed = is_press b; prefixed = x }
 
--- Document 01: bytes 00, E0, E1 and FA are asked neither 19 nor 20; they change nothing but the prefix.
+-- Bytes 00, E0, E1 and FA are asked neither 19 nor 20; they change nothing but the prefix.
 abbrev pub is_silent : ℕ → Bool
 is_silent b = is_prefix b || (eqb b 0x00 || eqb b 0xFA)

@@ -1,4 +1,4 @@
-// The mouse's operations, by numbers: what each answers, and what the numbers of their arguments stand for. One function for each that C calls; script and log stand side by side, as document 01 has it.
+// The mouse's operations, by numbers: what each answers, and what the numbers of their arguments stand for. One function for each that C calls; script and log stand side by side.
 #![tactic(auto, unfolding(bits::specs::Table::decode))]
 
 ghost use Rattle.std.specs.Prelude.{◌≡◌};

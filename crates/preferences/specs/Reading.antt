@@ -74,7 +74,7 @@ read2 bytes = record_read is_repeat_byte bytes
 
 -- ---- what the code's answers say
 
--- The number of each refusal in document 02.
+-- The number of each refusal.
 abbrev pub refusal_number : ReadRefusal → ℕ
 refusal_number ReadRefusal.Malformed = 27
 refusal_number ReadRefusal.OutsideValues = 28

@@ -20,7 +20,7 @@ abbrev pub leaves : List ℕ → Answer (List ℕ) → Outcome
 leaves out (gives bytes) = outcome (gives success) (length bytes) (bytes ++ drop (length bytes) out)
 leaves out (refuses k) = outcome (refuses k) 0 out
 
--- The number of each refusal in document 02.
+-- The number of each refusal.
 abbrev pub write_refusal_number : WriteRefusal → ℕ
 write_refusal_number WriteRefusal.OutsideValues = 28
 write_refusal_number WriteRefusal.OutputShort = 23

@@ -40,7 +40,7 @@ const FIELDS_1: u32 = 4;
 const FIELDS_2: u32 = 5;
 
 impl ReadRefusal {
-    // The number that document 02 gives to a refusal.
+    // The number of a refusal, as an answer tells it.
     pub fn number(self) -> u8
         ensures { result ≡ refusal_number self }
     {
@@ -49,7 +49,7 @@ impl ReadRefusal {
 }
 
 impl WriteRefusal {
-    // The number that document 02 gives to a refusal.
+    // The number of a refusal, as an answer tells it.
     pub fn number(self) -> u8
         ensures { result ≡ write_refusal_number self }
     {

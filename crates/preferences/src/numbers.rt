@@ -18,7 +18,7 @@ pub struct Number {
 pub struct Malformed;
 
 impl Malformed {
-    // The number that document 02 gives to the refusal.
+    // The number of the refusal, as an answer tells it.
     pub fn number(self) -> u8
         ensures { result ≡ number_answered (said_number (Err self)) }
     {
@@ -31,7 +31,7 @@ impl Malformed {
 pub struct OutputShort;
 
 impl OutputShort {
-    // The number that document 02 gives to the refusal.
+    // The number of the refusal, as an answer tells it.
     pub fn number(self) -> u8
         ensures { result ≡ number_answered (said_written (Err self)) }
     {

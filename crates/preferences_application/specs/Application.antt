@@ -16,7 +16,7 @@ use Rattle.preferences_application.specs.Settings.{settings_of}
 unfoldable pub set_keyboard_repeat : ℕ → Exchange (Answer Success)
 set_keyboard_repeat byte = and_then (keyboard_command SetRepeatRateAndDelay) (λ _. command_to_keyboard (Byte.RepeatRateAndDelay byte))
 
--- The operation that sets each: document 01's for the four fields of version 1.
+-- The operation that sets each.
 unfoldable pub apply_setting : Setting → Exchange (Answer Success)
 apply_setting (Setting.ScancodeSet set) = set_scancode_set set
 apply_setting (Setting.SamplingRate rate) = set_sampling_rate rate

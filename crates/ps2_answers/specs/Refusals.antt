@@ -1,4 +1,4 @@
--- Refusals: the number that document 01 gives to each, and what an answer says of a play's end.
+-- Refusals: the number of each, and what an answer says of a play's end.
 use Rattle.std.specs.Prelude.{ℕ}
 use Rattle.exchange.specs.Exchange.{Port, p60, p64, no_script, no_log, End, yields, lacks}
 use Rattle.exchange.specs.Exchange as exchange
@@ -10,7 +10,7 @@ use Rattle.ps2_answers.specs.declared.Failure.TheVariants.{AlreadyInitialized, I
 use Rattle.ps2_answers.specs.declared.Refusal.{Refusal}
 use Rattle.ps2_answers.specs.declared.Refusal.TheVariants.{Lacking, Failed}
 
--- The number of each failure in document 01's questions, and in document 02's where a request added it.
+-- The number of each failure.
 abbrev pub number_of : Failure → ℕ
 number_of AlreadyInitialized = 1
 number_of InputBufferFull = 4

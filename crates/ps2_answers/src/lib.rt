@@ -1,4 +1,4 @@
-// What the operations on the ports answer: refusals with document 01's numbers, and answers with their counts.
+// What the operations on the ports answer: refusals with their numbers, and answers with their counts.
 #![tactic(auto)]
 
 ghost use Rattle.std.specs.Prelude.{◌≡◌};
@@ -21,7 +21,7 @@ pub enum Lack {
     Log,
 }
 
-// Why the controller or a device did not do what was asked, or was not asked. Documents 01 and 02 number each.
+// Why the controller or a device did not do what was asked, or was not asked. Each has a number (docs/REFUSALS.md).
 #[derive(Clone, Copy, PartialEq, Eq)]
 pub enum Failure {
     AlreadyInitialized = 1,
@@ -60,7 +60,7 @@ impl ReadPort {
 }
 
 impl Lack {
-    // The number that document 01 gives to this lack.
+    // The number of this lack, as an answer tells it.
     pub fn number(self) -> u8
         ensures { result ≡ lack_number (lack_of self) }
     {
@@ -72,16 +72,16 @@ impl Lack {
 }
 
 impl Failure {
-    // The number that document 01 gives to this failure, or document 02.
+    // The number of this failure, as an answer tells it.
     pub fn number(self) -> u8
         ensures { result ≡ number_of self }
     {
-        self as u8 // by the documents
+        self as u8 // as it is declared
     }
 }
 
 impl Refusal {
-    // The number that document 01 gives to this refusal.
+    // The number of this refusal, as an answer tells it.
     pub fn number(self) -> u8
         ensures { result ≡ refusal_number self }
     {

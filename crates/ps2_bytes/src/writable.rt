@@ -24,7 +24,7 @@ impl From<WritableData> for u8 {
     }
 }
 
-// A byte for one of the devices. Each case holds an enum of its own, as document 01 asks.
+// A byte for one of the devices. Each case holds an enum of its own.
 #[derive(Clone, Copy, PartialEq, Eq)]
 pub enum HostToDevice {
     Keyboard(HostToKeyboardCommandOrData),

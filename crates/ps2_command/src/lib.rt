@@ -66,7 +66,7 @@ fn attempt_once(
 }
 
 // A command to the device of the first port, or to whichever the controller was told to send the next byte to.
-// A bounded `loop` that yields by `break`, with the log's tail lent: document 01 names both forms.
+// A bounded `loop` that yields by `break`, with the log's tail lent.
 fn command_onto(
     script: &[u8],
     log: &mut [u8],

@@ -66,7 +66,7 @@ fn enable_scanning(
 }
 
 // Polls for the keyboard's identity. After AB the inner search decides, and the outer one does not go on.
-// Nested `loop`s, left by a label: document 01 names this form.
+// Nested `loop`s, left by a label.
 fn poll_keyboard_type(script: &[u8]) -> Answer<KeyboardType>
     ensures { ReadsTold type_search script.now result }
 {

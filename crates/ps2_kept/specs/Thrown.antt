@@ -5,7 +5,7 @@ use Rattle.exchange.specs.Exchange.{p60, p64}
 use Rattle.exchange.specs.Trace.{Access, brought, wrote}
 use Rattle.ps2_bytes.specs.Responses.{responses}
 
--- A byte that is none of 00, AA, EE, FA, FC, FD, FE and FF: document 01, "An unlisted byte is thrown away".
+-- A byte that is none of 00, AA, EE, FA, FC, FD, FE and FF: "An unlisted byte is thrown away".
 abbrev pub unlisted : ℕ → Bool
 unlisted b = decode (λ _. false) true responses b
 

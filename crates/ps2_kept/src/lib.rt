@@ -20,7 +20,7 @@ pub struct KeptBytes {
 }
 
 // An answer, with the bytes that the whole run threw away.
-// They are handed back with a failure too (document 02, request 2.3).
+// They are handed back with a failure too.
 #[derive(Clone, Copy)]
 pub struct Handed<T> {
     pub answer: Answer<T>,

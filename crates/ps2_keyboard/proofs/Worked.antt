@@ -14,7 +14,7 @@ use Rattle.ps2_command.specs.Search.{self_test_within}
 use Rattle.ps2_command.proofs.Runs.{room, fa}
 use Rattle.ps2_keyboard.specs.Keyboard.{command_to_keyboard, reset_keyboard, set_led_by, set_keyboard_led, command_scancode_set, get_scancode_set, set_scancode_set}
 
--- In order: the lamp exchange of document 01's row 3; a failed one; the AA that accepts FF is not the reset's own, and a further one is;
+-- In order: the lamp exchange of the third worked position; a failed one; the AA that accepts FF is not the reset's own, and a further one is;
 -- a set other than the one asked for.
 pub runs :
     (play (set_keyboard_led (record { bits = 4 })) (fa ++ fa) (room 2) ≡ played (yields (gives success)) 6 2 (0x60 ∷ 0xED ∷ 0x60 ∷ 0x04 ∷ []))

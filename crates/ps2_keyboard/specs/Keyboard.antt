@@ -51,7 +51,7 @@ set_led_by way leds = refusing_as 14 (and_then (way (Byte.KeyboardCommand Comman
 unfoldable pub set_keyboard_led : LEDState → Exchange (Answer Success)
 set_keyboard_led leds = set_led_by command_to_keyboard leds
 
--- To the keyboard of either port; to the second's, bytes are "sent after D4 as mouse commands are" (document 02, 2.9).
+-- To the keyboard of either port; to the second's, bytes are "sent after D4 as mouse commands are".
 unfoldable pub set_port_led : DevicePort → LEDState → Exchange (Answer Success)
 set_port_led port leds = set_led_by (λ value. command_by port (Keyboard value)) leds
 

@@ -142,7 +142,7 @@ fn command_scancode_set(script: &[u8], log: &mut [u8], value: ScancodeSet) -> An
 }
 
 // Polls for a scancode set.
-// A bounded `loop` that yields by `break`: document 01 names this form.
+// A bounded `loop` that yields by `break`.
 fn poll_scancode_set(script: &[u8]) -> Answer<ScancodeSet>
     ensures { ReadsTold set_search script.now result }
 {

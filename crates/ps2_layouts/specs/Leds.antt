@@ -12,6 +12,6 @@ number_lock = 1
 abbrev pub caps_lock : ℕ
 caps_lock = 2
 
--- The byte of three lamps, as document 01 adds it up: scroll 1, number 2, caps 4.
+-- The byte of three lamps, added up: scroll 1, number 2, caps 4.
 abbrev pub lamp_byte : Bool → Bool → Bool → ℕ
 lamp_byte scroll number caps = weigh scroll * 1 + weigh number * 2 + weigh caps * 4

@@ -46,7 +46,7 @@ impl From<ControllerConfigurationByte> for u8 {
     }
 }
 
-// Bits are asked and changed by masks and shifts: document 01 names this form.
+// Bits are asked and changed by masks and shifts.
 impl ControllerConfigurationByte {
     // Interrupt when the first port has a byte.
     pub fn port1_interrupt_enabled(self) -> bool

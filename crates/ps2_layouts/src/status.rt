@@ -45,7 +45,7 @@ impl From<ControllerToHostStatus> for u8 {
     }
 }
 
-// Bits are asked by masks and shifts: document 01 names this form. The system flag is the
+// Bits are asked by masks and shifts. The system flag is the
 // configuration's too, but a bit of another register.
 impl ControllerToHostStatus {
     // Must be set before port 60 is read.

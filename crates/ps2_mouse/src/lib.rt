@@ -1,4 +1,4 @@
-// The mouse: its commands, its reset, its settings and the question for its identity. Script and log stand side by side in each call, as document 01 has it.
+// The mouse: its commands, its reset, its settings and the question for its identity. Script and log stand side by side in each call.
 #![tactic(auto)]
 
 ghost use Rattle.std.specs.Prelude.{◌≡◌};
@@ -174,7 +174,7 @@ fn read_self_test_and_id(script: &[u8]) -> Answer<()>
     passed.then(flush_output_buffer(&script[passed.used..]))
 }
 
-// Polls until an identity comes: a bounded loop that yields it by `break`, as document 01 requires.
+// Polls until an identity comes: a bounded loop that yields it by `break`.
 fn receive_mouse_id(script: &[u8]) -> Answer<MouseId>
     ensures { ReadsTold (repeat poll_limit (refuses 11) (poll_when mouse_byte_waits (listed_turn mouse_ids))) script.now result }
 {

@@ -1,4 +1,4 @@
-// `set_mouse_id`: the sequence of sampling rates that asks a mouse to take on another identity. Script and log stand side by side in each call, as document 01 has it.
+// `set_mouse_id`: the sequence of sampling rates that asks a mouse to take on another identity. Script and log stand side by side in each call.
 #![tactic(auto)]
 
 ghost use Rattle.std.specs.Prelude.{◌≡◌};

@@ -79,7 +79,7 @@ wheel3 p = twos_complement 8 p.byte4
 abbrev pub wheel4 : MousePacket4 → ℤ
 wheel4 p = pos (p.byte4 % 16)
 
--- The same bits as "the OSDev Wiki reads" them (document 02, 2.1): "as signed, -8 to 7".
+-- The same bits as "the OSDev Wiki reads" them: "as signed, -8 to 7".
 abbrev pub signed_wheel4 : MousePacket4 → ℤ
 signed_wheel4 p = twos_complement 4 p.byte4
 

@@ -6,7 +6,7 @@ use Rattle.ps2_packet.specs.Packet.{packet_id, wheel, signed_wheel}
 use Rattle.ps2_packet.specs.declared.MousePacket.{MousePacket}
 use Rattle.ps2_packet.specs.declared.SignedPacket.{SignedPacket}
 
--- A packet, and the one that "differs from the Rust's in this alone" (document 02, 2.1).
+-- A packet, and the one that "differs from the Rust's in this alone".
 pub record DiffersInWheel (p : MousePacket) (q : SignedPacket) : Type 0 where
   -- every accessor but the wheel is the packet's own, and so the same
   pub same_packet : q.packet ≡ p

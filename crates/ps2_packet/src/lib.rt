@@ -53,8 +53,7 @@ const BUTTON_4: u8 = 4;
 
 const BUTTON_5: u8 = 5;
 
-// What every packet starts with. Its bits are asked by masks and shifts: document 01 names this
-// form.
+// What every packet starts with. Its bits are asked by masks and shifts.
 #[derive(Clone, Copy, PartialEq, Eq)]
 pub struct MousePacketGeneric {
     byte1: u8,

@@ -21,7 +21,7 @@ read_mouse_packet Zero = three_bytes (λ b1 b2 b3. done (gives (Packet.Zero (gen
 read_mouse_packet Three = three_bytes (λ b1 b2 b3. read p60 (λ b4. done (gives (Packet.Three (packet3 b1 b2 b3 b4)))))
 read_mouse_packet Four = three_bytes (λ b1 b2 b3. read p60 (λ b4. done (gives (Packet.Four (packet4 b1 b2 b3 b4)))))
 
--- "Add a packet read that differs from the Rust's in this alone" (document 02, 2.1): the same packet is read, and its wheel is signed.
+-- "Add a packet read that differs from the Rust's in this alone": the same packet is read, and its wheel is signed.
 unfoldable pub read_signed_packet : MouseId → Exchange (Answer SignedPacket)
 read_signed_packet id = and_then (read_mouse_packet id) (λ packet. done (gives (signed_packet packet)))
 

@@ -17,7 +17,7 @@ use Rattle.ps2_answers.specs.Refusals.{Success, success}
 use Rattle.ps2_ports.specs.Ports.{write_command}
 use Rattle.ps2_polling.specs.declared.Waiting.{Waiting}
 
--- Document 01's limits: 255 status reads of a sending; 65,535 polls of a receiving, and data reads of the controller's test.
+-- The limits: 255 status reads of a sending; 65,535 polls of a receiving, and data reads of the controller's test.
 abbrev pub send_tries : ℕ
 send_tries = 255
 

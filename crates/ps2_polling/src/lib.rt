@@ -102,7 +102,7 @@ pub fn read_controller_test_result(script: &[u8]) -> Answer<()>
 }
 
 // Waits for the byte that says that a test was passed; any other uses up its turn.
-// A bounded `loop` that yields by `break`, here and below: document 01 names this form.
+// A bounded `loop` that yields by `break`, here and below.
 pub fn read_test_result(
     script: &[u8],
     waiting: Waiting,

@@ -1,4 +1,4 @@
--- The defined pass satisfies the rules of request 2.8.
+-- The defined pass satisfies the rules of salvage.
 use mathlib.Core.Path.{◌≡◌, refl, ap, sym, ◌∙◌}
 use mathlib.Core.List.{List, [], ◌∷◌, ◌++◌, append_assoc}
 use Prim.Native.Nat.{ℕ, ◌+◌, ◌≤◌}

@@ -162,6 +162,6 @@ rules_together {id} {room} {places} {bytes} {o} r =
       set = rw r.packets (packets_set r.right);
     }
 
--- the request's promise, of every pass
+-- what is promised, of every pass
 pub together : (id : MouseId) (room places : ℕ) (bytes : List ℕ) → Together id bytes (salvaged id room places bytes)
 together id room places bytes = rules_together (rules id room places bytes)

@@ -1,4 +1,4 @@
--- Two different outcomes can't both satisfy the rules of request 2.8.
+-- Two different outcomes can't both satisfy the rules of salvage.
 use mathlib.Core.Path.{◌≡◌, ap, sym, ◌∙◌}
 use mathlib.Core.List.{List, ◌∷◌, ◌++◌, append-nil}
 use Prim.Native.Nat.{ℕ, ◌+◌, ◌-◌, ◌≤◌}

@@ -1,4 +1,4 @@
--- Passes worked out: recordings of a few bytes, with what document 02 says of each.
+-- Passes worked out: recordings of a few bytes, with what the rules say of each.
 use mathlib.Core.Path.{◌≡◌, refl}
 use mathlib.Core.List.{List, [], ◌∷◌}
 use Prim.Native.Nat.{ℕ}

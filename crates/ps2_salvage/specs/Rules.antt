@@ -1,4 +1,4 @@
--- The rules of request 2.8 as a relation, each by itself: what an outcome must be, however it is come by.
+-- The rules of salvage as a relation, each by itself: what an outcome must be, however it is come by.
 use Rattle.std.specs.Prelude.{true, false, ◌≡◌, List, [], ◌∷◌, ◌++◌, ℕ, ◌-◌, ◌≤◌, ◌<◌, length, Ok, Err}
 use Rattle.ps2_bytes.specs.declared.response.MouseId.{MouseId}
 use Rattle.ps2_packet.specs.Packet.{packet_length}

@@ -10,7 +10,7 @@ use Rattle.ps2_salvage.specs.Pieces.{Piece, packet, dropped, pieces}
 abbrev pub Ending : Type 0
 Ending = Result (Unit {0}) SalvageRefusal
 
--- The number of a refusal in document 02's request 2.8, and of each answer, where 0 is no refusal.
+-- The number of a refusal, and of each answer, where 0 is no refusal.
 abbrev pub refusal_number : SalvageRefusal → ℕ
 refusal_number NoRoom = 30
 

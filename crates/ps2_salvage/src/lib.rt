@@ -19,7 +19,7 @@ pub enum SalvageRefusal {
 }
 
 impl SalvageRefusal {
-    // The number that document 02 gives to a refusal.
+    // The number of a refusal, as an answer tells it.
     pub fn number(self) -> u8
         ensures { result ≡ refusal_number self }
     {

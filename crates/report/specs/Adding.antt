@@ -14,7 +14,7 @@ Answer = Result (Unit {0}) OutOfRange
 abbrev pub out_of_range : OutOfRange
 out_of_range = record {}
 
--- The number of each answer in document 02's request 2.10; 0 is no refusal.
+-- The number of each answer; 0 is no refusal.
 abbrev pub refusal_number : OutOfRange → ℕ
 refusal_number e = 32
 

@@ -22,7 +22,7 @@ use ps2_bytes::MouseId;
 pub struct OutOfRange;
 
 impl OutOfRange {
-    // The number that document 02 gives to this refusal.
+    // The number of this refusal, as an answer tells it.
     pub fn number(self) -> u8
         ensures { result ≡ refusal_number self }
     {

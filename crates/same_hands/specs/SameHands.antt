@@ -1,4 +1,4 @@
--- Two runs from fresh handlers, in which a side's keys were the same: the statement of request 2.14's first half.
+-- Two runs from fresh handlers, in which a side's keys were the same.
 -- The runs are two lists of calls. Each has a table of its own, with one keyboard or two, and lamp exchanges of its own; nothing is asked of the scripts, the logs, the takings, the bytes that lamp exchanges read, or the calls of the other side. Of the tables it is asked that their profile is the same.
 use Rattle.std.specs.Prelude.{Bool, ◌≡◌, ℕ}
 use Rattle.exchange.specs.Exchange.{Exchange}

@@ -1,4 +1,4 @@
--- The conversion of a set 2 stream to set 1, as request 2.2 words it.
+-- The conversion of a set 2 stream to set 1.
 use Rattle.std.specs.Prelude.{true, cond, List, [], ◌∷◌, ◌++◌, ◌≡◌, ℕ, zero, suc, ◌+◌, ◌<◌, length, drop, get_or, Result, Ok, Err}
 use Rattle.std.proofs.Math.Option.{Option, none, some}
 use Rattle.bits.specs.Bits.{put_bit}
@@ -80,7 +80,7 @@ leaves c out = outcome c.end c.used (length c.bytes) (c.bytes ++ drop (length c.
 abbrev pub converted : List ℕ → List ℕ → Outcome
 converted stream out = leaves (convert_stream stream (length out)) out
 
--- The number of a refusal in request 2.2.
+-- The number of a refusal.
 abbrev pub refusal_number : ConvertRefusal → ℕ
 refusal_number NoEntry = 22
 refusal_number OutputFull = 23

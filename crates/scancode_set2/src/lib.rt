@@ -8,7 +8,7 @@ use translation::{AFTER_F0, ALONE, ALONE_FROM_80};
 
 mod translation;
 
-// Why a conversion ends before its stream does, by request 2.2's numbers.
+// Why a conversion ends before its stream does: 22, 23 and 24 by number.
 #[derive(Clone, Copy, Debug, PartialEq, Eq)]
 pub enum ConvertRefusal {
     NoEntry = 22,
@@ -17,7 +17,7 @@ pub enum ConvertRefusal {
 }
 
 impl ConvertRefusal {
-    // The number that request 2.2 gives to a refusal.
+    // The number of a refusal, as an answer tells it.
     pub fn number(self) -> u8
         ensures { result ≡ refusal_number self }
     {

@@ -46,7 +46,7 @@ read_data = seek Data 0 NoResponse
 abbrev pub read_status : Talk ℕ
 read_status = seek Status 0 NoResponse
 
--- Document 01's limits, less the turn that a wait begins with: 255 status reads of a sending; 65,535 polls of a receiving.
+-- The limits, less the turn that a wait begins with: 255 status reads of a sending; 65,535 polls of a receiving.
 abbrev pub further_tries : ℕ
 further_tries = 254
 

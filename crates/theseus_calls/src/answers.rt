@@ -19,7 +19,7 @@ pub struct NotedWords {
     pub bytes: [u8; 16],
 }
 
-// Document 01's number of a text with which the Rust fails; its one panic is 13.
+// The number of the refusal that a text with which the Rust fails stands for; its one panic is 13.
 pub fn number_of(text: &'static str) -> u32
     ensures { result ≡ number_in messages text.now }
 {

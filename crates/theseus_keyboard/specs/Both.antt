@@ -25,7 +25,7 @@ pub record Base (h : KeyboardHandler) : Type 0 where
   pub none_wait : h.state.first.waiting.count ≡ 0
   pub places_are : length h.places ≡ 128
 
--- Flags, and an event, without the right Alt's own flag, which a request added: the Rust never sets its own.
+-- Flags, and an event, without the right Alt's own flag, which is added to the Rust's: the Rust never sets its own.
 abbrev pub base_flags : ℕ → ℕ
 base_flags flags = put_bit alt_right false flags
 

@@ -17,7 +17,7 @@ use Rattle.keyboard_scancodes.specs.Events.{is_known, event_of}
 use Rattle.theseus_ps2.specs.Hardware.{Device, run}
 use Rattle.theseus_ps2.specs.Messages.{said}
 
--- The rows of the table of flags that the Rust has: all but the right Alt's own, which a request added.
+-- The rows of the table of flags that the Rust has: all but the right Alt's own, which is added.
 abbrev pub rusts_table : List FlagRow
 rusts_table =
     flag_row shift_left held 0x2A ∷

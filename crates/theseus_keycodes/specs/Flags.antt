@@ -1,4 +1,4 @@
--- The flags as the Rust numbers them, and as document 01 and request 2.4 do.
+-- The flags as the Rust numbers them, and as ours are numbered.
 use Rattle.std.specs.Prelude.{cond, List, [], ◌∷◌, ℕ, ◌^◌, ltb, Option, Some, None}
 use Rattle.bits.specs.Bits.{bit, put_bit}
 use Rattle.keyboard_modifiers.specs.Flags as Ours

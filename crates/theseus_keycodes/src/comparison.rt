@@ -36,7 +36,7 @@ pub struct BothAnswers {
     pub rusts: bool,
 }
 
-// What is asked of the two flags words: of ours by document 01, of the Rust's by its own list.
+// What is asked of the two flags words: of ours by our list, of the Rust's by its own.
 #[derive(Clone, Copy)]
 pub struct BothQuestions {
     pub shift: BothAnswers,

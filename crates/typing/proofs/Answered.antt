@@ -1,4 +1,4 @@
--- Typing answers as the request words it: 25 exactly where a character has no key, otherwise 26 exactly where there is less room than its keys take.
+-- Typing answers as is asked: 25 exactly where a character has no key, otherwise 26 exactly where there is less room than its keys take.
 use mathlib.Core.Path.{◌≡◌, refl, ap, subst⁻¹}
 use mathlib.Core.Bool.{Bool, true, false, false≢true}
 use mathlib.Core.List.{List, [], ◌∷◌}

@@ -1,4 +1,4 @@
--- The request's sentence leaves no choice: two keys that it allows for a character are one.
+-- The rule of the key to type leaves no choice: two keys that it allows for a character are one.
 use mathlib.Core.Path.{◌≡◌, refl, sym, ap, ◌∙◌}
 use mathlib.Core.Bool.{Bool, true, false, true≢false}
 use Prim.Native.Nat.{ℕ}

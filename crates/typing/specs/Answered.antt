@@ -1,4 +1,4 @@
--- The request's answers, each with what it is given for: what the laws compare typing with.
+-- The answers, each with what it is given for: what the laws compare typing with.
 use Rattle.std.specs.Prelude.{Bool, ◌||◌, ◌&&◌, List, ◌∷◌, ◌≡◌, ℕ, ◌<◌, ◌≤◌, eqb, leb}
 use Rattle.std.proofs.Math.Option.{none, some}
 use Rattle.exchange.specs.Answer.{Answer, gives, refuses}

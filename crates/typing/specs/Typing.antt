@@ -58,7 +58,7 @@ abbrev pub leaves : List ℕ → Answer (List ℕ) → Outcome
 leaves out (gives codes) = outcome (gives success) (length codes) (codes ++ drop (length codes) out)
 leaves out (refuses n) = outcome (refuses n) 0 out
 
--- The number of a refusal in request 2.6.
+-- The number of a refusal.
 abbrev pub refusal_number : TypingRefusal → ℕ
 refusal_number NoKey = 25
 refusal_number OutputShort = 26

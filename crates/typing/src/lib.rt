@@ -7,7 +7,7 @@ ghost use Rattle.typing.specs.Typing.{Accepted, typed, leaves, refusal_number, t
 ghost use Rattle.typing.specs.Lengths.{count_of};
 ghost use Rattle.typing.specs.Table.{or_none};
 
-// Why a text is not typed, by request 2.6's numbers.
+// Why a text is not typed: 25 and 26 by number.
 #[derive(Clone, Copy, Debug, PartialEq, Eq)]
 pub enum TypingRefusal {
     NoKey = 25,
@@ -15,7 +15,7 @@ pub enum TypingRefusal {
 }
 
 impl TypingRefusal {
-    // The number that request 2.6 gives to a refusal.
+    // The number of a refusal, as an answer tells it.
     pub fn number(self) -> u8
         ensures { result ≡ refusal_number self }
     {

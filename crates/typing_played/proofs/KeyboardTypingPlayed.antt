@@ -1,4 +1,4 @@
--- The promise of request 2.6 for the keyboards' own lamp exchanges, those that `handle` makes.
+-- The promise of typed text for the keyboards' own lamp exchanges, those that `handle` makes.
 use mathlib.Core.Path.{◌≡◌}
 use mathlib.Core.Bool.{true}
 use mathlib.Core.List.{List}

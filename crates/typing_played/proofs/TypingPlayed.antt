@@ -1,4 +1,4 @@
--- The promise of request 2.6, for every text that is accepted, every lamp exchange, a table with one keyboard or two and each side of it: a fresh handler whose events are taken at once, fed the text's scancodes for that side, gives press events whose characters are the text.
+-- The promise of typed text, for every text that is accepted, every lamp exchange, a table with one keyboard or two and each side of it: a fresh handler whose events are taken at once, fed the text's scancodes for that side, gives press events whose characters are the text.
 use mathlib.Core.Path.{◌≡◌, ap, subst, ◌∙◌}
 use mathlib.Core.Bool.{true, false}
 use mathlib.Core.List.{List}

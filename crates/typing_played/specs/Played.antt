@@ -1,4 +1,4 @@
--- The promise of request 2.6, of a list of calls of one side from a fresh record on.
+-- The promise of typed text, of a list of calls of one side from a fresh record on.
 use Rattle.std.specs.Prelude.{false, List, [], ◌≡◌, ℕ, ◌≤◌}
 use Rattle.exchange.specs.Exchange.{Exchange}
 use Rattle.exchange.specs.Answer.{Answer}

@@ -1,4 +1,4 @@
--- Document 01's thirteen rows, one table, hold: by computing the definitions of every layer.
+-- The thirteen worked positions, one table, hold: by computing the definitions of every layer.
 use mathlib.Core.Path.{◌≡◌, refl, sym, subst}
 use mathlib.Core.Bool.{false, xor}
 use mathlib.Core.List.{List, [], ◌∷◌}

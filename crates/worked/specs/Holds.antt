@@ -88,7 +88,7 @@ ReadAs P (yields (gives packet)) = P packet
 ReadAs P (yields (refuses n)) = ⊥
 ReadAs P (lacks x) = ⊥
 
--- Document 01's table: one keyboard, and no profile.
+-- The table of the worked positions: one keyboard, and no profile.
 abbrev pub laid : Table
 laid = record { keyboards = Keyboards.One; profile = Profile.Any }
 

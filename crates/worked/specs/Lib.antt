@@ -1,4 +1,4 @@
--- Document 01's worked positions.
+-- The worked positions.
 pub mod Positions
 pub mod Table
 pub mod Holds

@@ -1,4 +1,4 @@
--- The table of worked positions. Above each row stands what document 01 says; bytes are hexadecimal there and here.
+-- The table of worked positions. Above each row stands what it says in words; bytes are hexadecimal.
 use Rattle.std.specs.Prelude.{List, [], ◌∷◌, pos, neg_ℤ}
 use Rattle.keycodes_ascii.specs.declared.KeyAction.TheVariants.{Pressed, Released}
 use Rattle.keycodes_ascii.specs.declared.Keycode.TheVariants.{A, Num1, Menu, OverflowError}

@@ -1,2 +1,2 @@
-// Document 01's table of worked positions, held against the definitions of every layer. No code.
+// The table of worked positions, held against the definitions of every layer. No code.
 #![tactic(auto)]

@@ -18,7 +18,7 @@ use Rattle.ps2_setup.proofs.Writing.{write_first, write_here}
 use Rattle.ps2_setup.proofs.enable_port.Goals as goal
 use Rattle.ps2_setup.proofs.enable_port.Goals.{in-Port1, in-Port2, After-write_command}
 
--- what goes with the port, by the document's sentence
+-- what goes with the port, by the sentence on it
 abbrev of_port : DevicePort → ControllerConfigurationByte → HostToControllerCommand × ControllerConfigurationByte
 of_port port c = (enable_of port, running (clock_of port) (interrupt_of port) c)
 
