@@ -1,4 +1,5 @@
-// Initialisation of the controller, and the devices that it found.
+// Initialisation of the controller, and the devices that it found. Its steps are numbered and named as the OSDev Wiki's
+// (crates/ps2_setup).
 #![tactic(auto)]
 
 ghost use Rattle.std.specs.Prelude.{◌≡◌};
@@ -75,23 +76,33 @@ impl PS2Controller {
 fn set_up(script: &[u8], log: &mut [u8]) -> Answer<PS2Controller>
     ensures { told result log.new ≡ play set_up script.now log.old }
 {
+    // Step 3: Disable Devices
+    // Step 4: Flush The Output Buffer
     let disabled = disable_devices(script, log)?;
+    // Step 5: Set the Controller Configuration Byte
     let config = quieted(disabled.value);
+    // Step 7: Determine If There Are 2 Channels. There are if the second one's clock stands, now
+    // that both are disabled.
     let has_mouse = disabled.value.port2_clock_disabled();
+    // Step 6: Perform Controller Self Test
     let tested = disabled.then(test_with(
         &script[disabled.used..],
         &mut log[2 * disabled.pairs..],
         config,
     ))?;
+    // Step 8: Perform Interface Tests
     let working = tested.then(test_ports(
         &script[tested.used..],
         &mut log[2 * tested.pairs..],
         has_mouse,
     ))?;
+    // Step 9: Enable Devices
     let enabled = working.then(enable_ports(&mut log[2 * working.pairs..], working.value, config))?;
+    // Step 10: Reset Devices
     enabled.then(reset_devices(&script[enabled.used..], &mut log[2 * enabled.pairs..]))
 }
 
+// Step 10: Reset Devices
 // Resets the keyboard and then the mouse, whether the keyboard's reset passed or not. The configuration is read once more; the Rust logs it.
 fn reset_devices(script: &[u8], log: &mut [u8]) -> Answer<PS2Controller>
     ensures { told result log.new ≡ play (bind reset_devices read_last) script.now log.old }

@@ -1,4 +1,7 @@
 // The steps of initialisation that concern the controller alone: both ports disabled, the tests, the ports enabled again.
+// They are numbered and named as in the OSDev Wiki, "8042 PS/2 Controller", section "Initialising
+// the PS/2 Controller". Steps 1 and 2, of USB and of whether there is a controller, use none of its
+// ports and are the caller's. Step 10 is in ps2_init.
 #![tactic(auto)]
 
 ghost use Rattle.std.specs.Prelude.{◌≡◌};
@@ -24,16 +27,19 @@ pub struct WorkingPorts {
 pub fn disable_devices(script: &[u8], log: &mut [u8]) -> Answer<ControllerConfigurationByte>
     ensures { told result log.new ≡ play disable_devices script.now log.old }
 {
+    // Step 3: Disable Devices
     let one = write_command(log, HostToControllerCommand::DisablePort1)?;
     let both = one.then(write_command(
         &mut log[2 * one.pairs..],
         HostToControllerCommand::DisablePort2,
     ))?;
-    // A byte that a device sent before it was disabled is dropped.
+    // Step 4: Flush The Output Buffer. A byte that a device sent before it was disabled is dropped.
     let flushed = both.then(flush_output_buffer(script))?;
+    // Step 5: Set the Controller Configuration Byte. It is read here.
     flushed.then(read_config(&script[flushed.used..], &mut log[2 * flushed.pairs..]))
 }
 
+// Step 5: Set the Controller Configuration Byte
 // Neither port interrupts, and scancodes are not translated.
 pub fn quieted(config: ControllerConfigurationByte) -> ControllerConfigurationByte
     ensures { result ≡ quieted_rule config }
@@ -44,6 +50,7 @@ pub fn quieted(config: ControllerConfigurationByte) -> ControllerConfigurationBy
         .set_port1_scancode_translation_enabled(false)
 }
 
+// Step 6: Perform Controller Self Test
 // The controller's own test, with the configuration written before it and again after it: the test can reset the controller.
 pub fn test_with(script: &[u8], log: &mut [u8], config: ControllerConfigurationByte) -> Answer<()>
     ensures { told result log.new ≡ play (test_with config) script.now log.old }
@@ -53,6 +60,7 @@ pub fn test_with(script: &[u8], log: &mut [u8], config: ControllerConfigurationB
     tested.then(write_config(&mut log[2 * tested.pairs..], config))
 }
 
+// Step 8: Perform Interface Tests
 // The tests of both ports; that one of them fails is forgiven, and one that passed is enough.
 pub fn test_ports(script: &[u8], log: &mut [u8], has_mouse: bool) -> Answer<WorkingPorts>
     ensures { told result log.new ≡ play (test_ports has_mouse) script.now log.old }
@@ -92,6 +100,7 @@ pub fn tried(answer: Answer<()>) -> Answer<bool>
     Ok(done.with(done.value.is_ok()))
 }
 
+// Step 9: Enable Devices
 // Enables the ports that passed, and then writes the configuration that says so.
 pub fn enable_ports(
     log: &mut [u8],
