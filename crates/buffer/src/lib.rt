@@ -4,7 +4,7 @@
 ghost use Rattle.std.specs.Prelude.{[], ◌∷◌};
 ghost use Rattle.buffer.specs.Writer.{Puts};
 
-// A lent buffer and the place in it that is next. What finds no place is dropped.
+/// A lent buffer and the place in it that is next. What finds no place is dropped.
 #[derive(Drop)]
 pub struct Writer<'a> {
     pub out: &'a mut [u8],
@@ -12,7 +12,7 @@ pub struct Writer<'a> {
 }
 
 impl Writer<'_> {
-    // Puts a byte at the next place, where there is one.
+    /// Puts a byte at the next place, where there is one.
     pub fn put_byte(&mut self, byte: u8)
         ensures { Puts (byte ∷ []) self.old self.new }
     {
@@ -22,7 +22,7 @@ impl Writer<'_> {
         }
     }
 
-    // Puts the bytes of a text, one after another.
+    /// Puts the bytes of a text, one after another.
     pub fn put_text(&mut self, text: &[u8])
         ensures { Puts text.now self.old self.new }
     {

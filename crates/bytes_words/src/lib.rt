@@ -15,7 +15,8 @@ use keycodes_ascii::{KEY_RELEASED_OFFSET, KeyAction, Keycode};
 
 // C reads these three: a refusal stands beside the counts, and outputs are slices that C lends.
 
-// What a conversion answers: the refusal's number, 0 where there is none; bytes of the stream used, bytes of the output written.
+/// What a conversion answers: the refusal's number, 0 where there is none; bytes of the stream
+/// used, bytes of the output written.
 #[repr(C)]
 #[derive(Clone, Copy)]
 pub struct ConvertedWords {
@@ -24,7 +25,7 @@ pub struct ConvertedWords {
     pub written: usize,
 }
 
-// What a typing answers: the refusal's number, 0 where there is none; bytes of the output written.
+/// What a typing answers: the refusal's number, 0 where there is none; bytes of the output written.
 #[repr(C)]
 #[derive(Clone, Copy)]
 pub struct WrittenWords {
@@ -32,7 +33,8 @@ pub struct WrittenWords {
     pub written: usize,
 }
 
-// What a salvage answers: the refusal's number, 0 where there is none; bytes of the recording used, bytes of packets and positions of dropped bytes written.
+/// What a salvage answers: the refusal's number, 0 where there is none; bytes of the recording
+/// used, bytes of packets and positions of dropped bytes written.
 #[repr(C)]
 #[derive(Clone, Copy)]
 pub struct SalvagedWords {
@@ -84,7 +86,8 @@ fn character_number(found: Option<u8>) -> u32
     found.map_or(0, |ascii| u32::from(ascii))
 }
 
-// The character of a key under some flags, 0 where it has none: 255 where the keycode or the flags stand for nothing.
+/// The character of a key under some flags, 0 where it has none: 255 where the keycode or the flags
+/// stand for nothing.
 pub fn character(keycode: u32, flags: u32) -> u32
     ensures { result ≡ character_at (keycode_of keycode) (flags_at flags) }
 {
@@ -108,7 +111,8 @@ fn code_of(action: KeyAction, number: u32) -> u32
     }
 }
 
-// The byte by which a report takes an event, of a keycode that is pressed (0) or released (1): 255 where one of the two stands for nothing.
+/// The byte by which a report takes an event, of a keycode that is pressed (0) or released (1): 255
+/// where one of the two stands for nothing.
 pub fn event_code(keycode: u32, action: u32) -> u32
     ensures { result ≡ event_code_at (keycode_of keycode) (action_at action) }
 {
@@ -118,7 +122,7 @@ pub fn event_code(keycode: u32, action: u32) -> u32
     }
 }
 
-// Converts a set 2 key stream to set 1.
+/// Converts a set 2 key stream to set 1.
 pub fn convert_set2(stream: &[u8], out: &mut [u8]) -> ConvertedWords
     ensures { StreamConverted stream.now out.old result out.new }
 {
@@ -130,7 +134,8 @@ pub fn convert_set2(stream: &[u8], out: &mut [u8]) -> ConvertedWords
     }
 }
 
-// Writes the scancodes of a text.
+/// Writes the scancodes of a text.
+/// Refused: no key (25), then output short (26).
 pub fn type_text(text: &[u8], out: &mut [u8]) -> WrittenWords
     ensures { TextTyped text.now out.old result out.new }
 {
@@ -146,7 +151,8 @@ pub fn type_text(text: &[u8], out: &mut [u8]) -> WrittenWords
     }
 }
 
-// Salvages a recording of a mouse whose identity is 0, 3 or 4: 255 where it is another.
+/// Salvages a recording of a mouse whose identity is 0, 3 or 4: 255 where it is another.
+/// Refused: no room (30).
 pub fn salvage(
     identity: u32,
     bytes: &[u8],

@@ -11,7 +11,8 @@ ghost use Rattle.controller_words.specs.Controller.{controller_of, told_init};
 use port_words::answer_words;
 use ps2_init::{Initialized, PS2Controller, init};
 
-// What is known of the controller: whether it was initialised, and whether the keyboard and the mouse passed their resets then. Any number but 0 says yes; 1 does where the library writes it.
+/// What is known of the controller: whether it was initialised, and whether the keyboard and the
+/// mouse passed their resets then. Any number but 0 says yes; 1 does where the library writes it.
 #[repr(C)]
 #[derive(Clone, Copy)]
 pub struct ControllerWords {
@@ -20,9 +21,9 @@ pub struct ControllerWords {
     pub mouse: u32,
 }
 
-// What initialisation answers: the refusal, 0 where there is none; the port of the read that the
-// script was too short for, or 0; script bytes used and pairs written; and the controller as it is
-// left.
+/// What initialisation answers: the refusal, 0 where there is none; the port of the read that the
+/// script was too short for, or 0; script bytes used and pairs written; and the controller as it is
+/// left.
 #[repr(C)]
 #[derive(Clone, Copy)]
 pub struct InitializedWords {
@@ -88,8 +89,8 @@ fn initialized_words(initialized: Initialized, passed: ControllerWords) -> Initi
     }
 }
 
-// Initialises the controller, unless it was before. It becomes initialised only where all steps
-// were done.
+/// Initialises the controller, unless it was before. It becomes initialised only where all steps
+/// were done.
 pub fn controller_init(
     controller: ControllerWords,
     script: &[u8],

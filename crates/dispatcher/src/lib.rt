@@ -18,14 +18,14 @@ use ps2_mouse::PS2Mouse;
 use ps2_packet::{SignedPacket, packet_length};
 use ps2_packet_reading::read_signed_packet;
 
-// What a step can serve: the keyboard of a side, or the mouse.
+/// What a step can serve: the keyboard of a side, or the mouse.
 #[derive(Clone, Copy)]
 pub enum Source {
     Keyboard(Side),
     Mouse,
 }
 
-// A value for each source.
+/// A value for each source.
 #[derive(Clone, Copy)]
 pub struct Each<T> {
     pub first: T,
@@ -33,13 +33,14 @@ pub struct Each<T> {
     pub mouse: T,
 }
 
-// Where in its script each source is: the number of its bytes that are used.
+/// Where in its script each source is: the number of its bytes that are used.
 pub type Places = Each<usize>;
 
-// Which sources wait.
+/// Which sources wait.
 pub type Waits = Each<bool>;
 
-// The dispatcher's state: who was served last, if a source was; the places in the three scripts, the handler record and the mouse's.
+/// The dispatcher's state: who was served last, if a source was; the places in the three scripts,
+/// the handler record and the mouse's.
 #[derive(Clone, Copy)]
 pub struct Dispatcher {
     pub last: Option<Source>,
@@ -48,7 +49,8 @@ pub struct Dispatcher {
     pub handler: KeyboardHandler,
 }
 
-// What a step answers: a side was served, with what its handler call answered; the mouse, with its packet; or nobody waited.
+/// What a step answers: a side was served, with what its handler call answered; the mouse, with its
+/// packet; or nobody waited.
 #[derive(Clone, Copy)]
 pub enum Served {
     Key(Side, CallAnswer),
@@ -56,7 +58,8 @@ pub enum Served {
     Idle,
 }
 
-// What a step gives back beside the state: its answer, with the script bytes used and the pairs written by the call that it made.
+/// What a step gives back beside the state: its answer, with the script bytes used and the pairs
+/// written by the call that it made.
 #[derive(Clone, Copy)]
 pub struct StepAnswer {
     pub served: Served,
@@ -64,7 +67,7 @@ pub struct StepAnswer {
     pub pairs: usize,
 }
 
-// The same with the state, for a step by value.
+/// The same with the state, for a step by value.
 #[derive(Clone, Copy)]
 pub struct Dispatched {
     pub served: Served,
@@ -74,7 +77,7 @@ pub struct Dispatched {
 }
 
 impl Source {
-    // The source that is asked after this one.
+    /// The source that is asked after this one.
     pub fn next(self) -> Source
         ensures { result ≡ next self }
     {
@@ -86,7 +89,7 @@ impl Source {
     }
 }
 
-// The source that a step asks first, by the one served last.
+/// The source that a step asks first, by the one served last.
 pub fn asked_first(last: Option<Source>) -> Source
     ensures { result ≡ asked_first last }
 {
@@ -97,7 +100,7 @@ pub fn asked_first(last: Option<Source>) -> Source
 }
 
 impl<T: Copy> Each<T> {
-    // The value of a source.
+    /// The value of a source.
     pub fn at(self, source: Source) -> T
         ensures { result ≡ value_at source self }
     {
@@ -110,7 +113,7 @@ impl<T: Copy> Each<T> {
 }
 
 impl Waits {
-    // Whom a step serves: the first that waits, going round from the one after the last served.
+    /// Whom a step serves: the first that waits, going round from the one after the last served.
     pub fn serves(self, last: Option<Source>) -> Option<Source>
         ensures { result ≡ served (wait_in self) last }
     {
@@ -131,7 +134,7 @@ impl Waits {
 }
 
 impl Places {
-    // The places with another for one source.
+    /// The places with another for one source.
     pub fn with_place(self, source: Source, place: usize) -> Places
         ensures { result ≡ with_place source place self }
     {
@@ -152,7 +155,8 @@ impl Places {
     }
 }
 
-// A place in a source's script, or the script's end where it is past it: from there on the same bytes are unused.
+/// A place in a source's script, or the script's end where it is past it: from there on the same
+/// bytes are unused.
 pub fn start(place: usize, bytes: &[u8]) -> usize
     ensures within { result ≤ length bytes.now }
     ensures rest { unused result bytes.now ≡ unused place bytes.now }
@@ -160,14 +164,15 @@ pub fn start(place: usize, bytes: &[u8]) -> usize
     place.min(bytes.len())
 }
 
-// Whether a keyboard waits, by its place in its script and the number of its waiting bytes: it has an unused script byte or a waiting byte.
+/// Whether a keyboard waits, by its place in its script and the number of its waiting bytes: it has
+/// an unused script byte or a waiting byte.
 pub fn keyboard_waits(place: usize, bytes: &[u8], waiting: usize) -> bool
     ensures { result ≡ keyboard_waits (unused place bytes.now) waiting }
 {
     place < bytes.len() || 0 < waiting
 }
 
-// Whether a mouse of this identity waits, by its place in its script: a whole packet is unread.
+/// Whether a mouse of this identity waits, by its place in its script: a whole packet is unread.
 pub fn mouse_waits(place: usize, bytes: &[u8], id: MouseId) -> bool
     ensures { result ≡ mouse_waits (unused place bytes.now) id }
 {
@@ -187,7 +192,7 @@ fn counts(answer: Answer<SignedPacket>) -> (usize, usize)
 }
 
 impl Dispatcher {
-    // A dispatcher that has served nobody, at the start of its scripts.
+    /// A dispatcher that has served nobody, at the start of its scripts.
     pub fn new(handler: KeyboardHandler, mouse: PS2Mouse) -> Dispatcher
         ensures { result ≡ new_dispatcher handler mouse }
     {
@@ -203,7 +208,7 @@ impl Dispatcher {
         }
     }
 
-    // The same with another handler record, as after a taking from the queue.
+    /// The same with another handler record, as after a taking from the queue.
     pub fn with_handler(self, handler: KeyboardHandler) -> Dispatcher
         ensures { result ≡ with_handler handler self }
     {
@@ -253,7 +258,7 @@ impl Dispatcher {
         }
     }
 
-    // Which sources wait.
+    /// Which sources wait.
     pub fn waits(&self, first: &[u8], second: &[u8], mouse: &[u8]) -> Waits
         ensures { (source : Source) → wait_in result source ≡ waits_now self.now (scripts first.now second.now mouse.now) source }
     {
@@ -272,7 +277,8 @@ impl Dispatcher {
         }
     }
 
-    // A step: the first source that waits, going round from the one after the last served, is served. Where none waits it is idle and leaves all as it was.
+    /// A step: the first source that waits, going round from the one after the last served, is
+    /// served. Where none waits it is idle and leaves all as it was.
     pub fn step_in_place(
         &mut self,
         first: &[u8],
@@ -294,7 +300,7 @@ impl Dispatcher {
         }
     }
 
-    // The same by value.
+    /// The same by value.
     pub fn step(mut self, first: &[u8], second: &[u8], mouse: &[u8], log: &mut [u8]) -> Dispatched
         ensures { said_step result log.new ≡ step_of keyboard_lamps self (scripts first.now second.now mouse.now) log.old }
     {

@@ -39,12 +39,12 @@ const MOUSE_PLACE_AT: usize = HANDLER_WORDS + 3;
 
 const LAST_AT: usize = HANDLER_WORDS + 4;
 
-// The numbers of a dispatcher.
+/// The numbers of a dispatcher.
 pub const DISPATCHER_WORDS: usize = HANDLER_WORDS + 5;
 
-// What a step answers: the refusal of the call that it made, 0 where there is none; who was served,
-// 0 where nobody waited, 1 or 2 the side, 3 the mouse; and that call's answer, with 0 everywhere in
-// the other.
+/// What a step answers: the refusal of the call that it made, 0 where there is none; who was
+/// served, 0 where nobody waited, 1 or 2 the side, 3 the mouse; and that call's answer, with 0
+/// everywhere in the other.
 #[repr(C)]
 #[derive(Clone, Copy)]
 pub struct StepWords {
@@ -61,8 +61,8 @@ fn put_unserved(words: &mut [u64; DISPATCHER_WORDS], id: MouseId)
     words[MOUSE_AT..].copy_from_slice(&[u64::from(u8::from(id)), 0, 0, 0, 0]);
 }
 
-// Makes a lent dispatcher a fresh one, with a fresh record for a table, as `fresh_words` has it,
-// and a mouse of identity 0, 3 or 4: 21 where there are not 149 numbers.
+/// Makes a lent dispatcher a fresh one, with a fresh record for a table, as `fresh_words` has it,
+/// and a mouse of identity 0, 3 or 4: 21 where there are not 149 numbers.
 pub fn dispatcher_fresh(words: &mut [u64], keyboards: u32, profile: u32, identity: u32) -> u32
     ensures { MadeFresh words.old keyboards profile identity result words.new }
 {
@@ -237,7 +237,9 @@ fn no_call(refusal: u32) -> StepWords
     }
 }
 
-// A step on a lent dispatcher: the first source that waits, going round from the one after the last served, is served. Where none waits it is idle and writes nothing; 21 where there are not 149 numbers.
+/// A step on a lent dispatcher: the first source that waits, going round from the one after the
+/// last served, is served. Where none waits it is idle and writes nothing; 21 where there are not
+/// 149 numbers.
 pub fn dispatcher_step(
     words: &mut [u64],
     first: &[u8],

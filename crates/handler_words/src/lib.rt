@@ -40,7 +40,7 @@ const FIRST_AT: usize = 0;
 
 const SECOND_AT: usize = 5;
 
-// How many keyboards the table has, and the profile.
+/// How many keyboards the table has, and the profile.
 pub const KEYBOARDS_AT: usize = 10;
 
 const PROFILE_AT: usize = 11;
@@ -60,13 +60,16 @@ const PLACES_FROM: usize = 16;
 // The greatest number of a key's event.
 const LAST_KEYCODE: u8 = 0x5D;
 
-// The numbers of a record.
+/// The numbers of a record.
 pub const HANDLER_WORDS: usize = PLACES_FROM + QUEUE_LENGTH;
 
-// A lent slice is asked for its length once, in the public functions; from there on its type says it.
+/// A lent slice is asked for its length once, in the public functions; from there on its type says
+/// it.
 pub type Words = [u64; HANDLER_WORDS];
 
-// What a handler call answers, as numbers: the refusal and that of the lamp exchange, 0 where there is none; script bytes used, pairs written and bytes dropped; and the port of the read that the script was too short for, or 0.
+/// What a handler call answers, as numbers: the refusal and that of the lamp exchange, 0 where
+/// there is none; script bytes used, pairs written and bytes dropped; and the port of the read that
+/// the script was too short for, or 0.
 #[repr(C)]
 #[derive(Clone, Copy)]
 pub struct HandledWords {
@@ -78,7 +81,8 @@ pub struct HandledWords {
     pub port: u32,
 }
 
-// What a taking answers, as numbers: the refusal, 0 where there is none; the side of the event taken, 0 where there is none; its keycode, action and flags.
+/// What a taking answers, as numbers: the refusal, 0 where there is none; the side of the event
+/// taken, 0 where there is none; its keycode, action and flags.
 #[repr(C)]
 #[derive(Clone, Copy)]
 pub struct TakenWords {
@@ -352,7 +356,7 @@ fn followed(modifiers: KeyboardModifiers) -> KeyboardState
     }
 }
 
-// A call that is refused before anything is read.
+/// A call that is refused before anything is read.
 pub fn refusing_words(refusal: u32) -> HandledWords
     ensures { result ≡ refusing refusal }
 {
@@ -468,7 +472,9 @@ fn is_plain_key(words: &Words, side: Side, script: &[u8]) -> bool
     is_from_script(words, side, script) && is_plain(script[0]) && is_ready(words, side)
 }
 
-// A handler call on a lent record, for a side: 21 where it has not 144 numbers. A function with two callers is compiled into neither, and a large answer copied from one to the other: so the dispatcher, which knows the side, calls this one and not the next.
+/// A handler call on a lent record, for a side: 21 where it has not 144 numbers. A function with
+/// two callers is compiled into neither, and a large answer copied from one to the other: so the
+/// dispatcher, which knows the side, calls this one and not the next.
 pub fn handle_at(words: &mut [u64], side: Side, script: &[u8], log: &mut [u8]) -> HandledWords
     ensures { AtSide (some side) words.old script.now log.old result words.new log.new }
 {
@@ -481,7 +487,7 @@ pub fn handle_at(words: &mut [u64], side: Side, script: &[u8], log: &mut [u8]) -
     handle_side(words, side, script, log)
 }
 
-// A handler call on a lent record: for side 1 or 2, and 21 where it has not 144 numbers.
+/// A handler call on a lent record: for side 1 or 2, and 21 where it has not 144 numbers.
 pub fn handle_words(words: &mut [u64], side: u32, script: &[u8], log: &mut [u8]) -> HandledWords
     ensures { WordsHandled words.old side script.now log.old result words.new log.new }
 {
@@ -565,7 +571,7 @@ fn put_queue(words: &mut Words, start: usize, count: usize, others: Sides)
     words[HIGH_SIDES_AT] = others.high;
 }
 
-// A taking from a lent record: 21 where it has not 144 numbers.
+/// A taking from a lent record: 21 where it has not 144 numbers.
 pub fn take_words(words: &mut [u64]) -> TakenWords
     ensures { WordsTaken words.old result words.new }
 {
@@ -609,7 +615,7 @@ fn laid_with(keyboards: Keyboards, profile: u32) -> Option<Table>
     }
 }
 
-// The table that two numbers stand for, if any.
+/// The table that two numbers stand for, if any.
 pub fn table_of(keyboards: u32, profile: u32) -> Option<Table>
     ensures { said_table result ≡ table_at keyboards profile }
 {
@@ -638,7 +644,7 @@ fn profile_word(profile: Profile) -> u64
     }
 }
 
-// Stores a fresh record for a table.
+/// Stores a fresh record for a table.
 pub fn put_fresh(words: &mut Words, table: Table)
     ensures { words.new ≡ words_of (fresh table) }
 {
@@ -647,7 +653,8 @@ pub fn put_fresh(words: &mut Words, table: Table)
     words[PROFILE_AT] = profile_word(table.profile);
 }
 
-// Makes a lent record a fresh one, for a table with 1 keyboard or 2, under profile 0 (none) or 1 (the tournament's): 21 where it has not 144 numbers.
+/// Makes a lent record a fresh one, for a table with 1 keyboard or 2, under profile 0 (none) or 1
+/// (the tournament's): 21 where it has not 144 numbers.
 pub fn fresh_words(words: &mut [u64], keyboards: u32, profile: u32) -> u32
     ensures { WordsFresh words.old keyboards profile result words.new }
 {

@@ -21,7 +21,8 @@ use keycodes_ascii::{KeyAction, KeyEvent};
 // The most script bytes that are read.
 const SCRIPT_LIMIT: usize = 65536;
 
-// Puts the listing of a script into `out`, as much of it as there is room for, and answers how many bytes that is.
+/// Puts the listing of a script into `out`, as much of it as there is room for, and answers how
+/// many bytes that is.
 pub fn list_keys(script: &[u8], out: &mut [u8]) -> usize
     ensures { Holds (listing script.now) out.old result out.new }
 {

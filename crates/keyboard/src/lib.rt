@@ -34,7 +34,8 @@ use ps2_ports::DevicePort;
 // The script bytes of a lamp exchange in which both bytes are acknowledged at once: for each two status reads and FA.
 const AT_ONCE: usize = 6;
 
-// How a handler call ends that isn't done: for lack of a byte or room, or refused with unknown scancode (19), queue full (20), malformed record (21), side full (31) or outside profile (33).
+/// How a handler call ends that isn't done: for lack of a byte or room, or refused with unknown
+/// scancode (19), queue full (20), malformed record (21), side full (31) or outside profile (33).
 #[derive(Clone, Copy)]
 pub enum HandlerRefusal {
     Lacking(Lack),
@@ -45,7 +46,7 @@ pub enum HandlerRefusal {
     OutsideProfile,
 }
 
-// How a handler call ends.
+/// How a handler call ends.
 pub type HandlerAnswer = Result<(), HandlerRefusal>;
 
 // The byte that a call takes, or that there is none; the script bytes used for it; and the bytes that still wait.
@@ -55,7 +56,9 @@ struct TakenByte {
     answer: Answer<u8>,
 }
 
-// What a handler call answers beside the record. A lamp exchange that failed (14) is shown beside the answer, and so is the number of the bytes that it threw away and that found no place to wait.
+/// What a handler call answers beside the record. A lamp exchange that failed (14) is shown beside
+/// the answer, and so is the number of the bytes that it threw away and that found no place to
+/// wait.
 #[derive(Clone, Copy)]
 pub struct CallAnswer {
     pub answer: HandlerAnswer,
@@ -65,7 +68,7 @@ pub struct CallAnswer {
     pub dropped: u32,
 }
 
-// The same with the record, for a call by value.
+/// The same with the record, for a call by value.
 #[derive(Clone, Copy)]
 pub struct Handled {
     pub answer: HandlerAnswer,
@@ -76,8 +79,9 @@ pub struct Handled {
     pub dropped: u32,
 }
 
+/// What a call gives back that leaves the places alone: its answer, and the event that its byte
+/// gives, or that joins the queue.
 // Event and answer stand apart, for speed: the two in one `Result` measured slower.
-// What a call gives back that leaves the places alone: its answer, and the event that its byte gives, or that joins the queue.
 #[derive(Clone, Copy)]
 pub struct Effect {
     pub call: CallAnswer,
@@ -85,7 +89,7 @@ pub struct Effect {
 }
 
 impl HandlerRefusal {
-    // The number of a refusal, as an answer tells it.
+    /// The number of a refusal, as an answer tells it.
     pub fn number(self) -> u8
         ensures { result ≡ number_ended (said_call (Err self)) }
     {
@@ -100,7 +104,7 @@ impl HandlerRefusal {
     }
 }
 
-// The number of how a call ends, and 0 where it is done.
+/// The number of how a call ends, and 0 where it is done.
 pub fn number_of(answer: HandlerAnswer) -> u8
     ensures { result ≡ number_ended (said_call answer) }
 {
@@ -110,7 +114,7 @@ pub fn number_of(answer: HandlerAnswer) -> u8
     }
 }
 
-// Whether the record is as it was passed after a call that is answered so: after 2, 3 and 21.
+/// Whether the record is as it was passed after a call that is answered so: after 2, 3 and 21.
 pub fn leaves_as_passed(answer: HandlerAnswer) -> bool
     ensures { result ≡ ends2_3_21 (said_call answer) }
 {
@@ -358,7 +362,8 @@ fn port_of(side: Side) -> DevicePort
     }
 }
 
-// A handler call for a side but for the places: 21 is asked, then one scancode of its keyboard is taken and followed, and its event is queued where there is room.
+/// A handler call for a side but for the places: 21 is asked, then one scancode of its keyboard is
+/// taken and followed, and its event is queued where there is room.
 pub fn handle_state(state: &mut HandlerState, side: Side, script: &[u8], log: &mut [u8]) -> Effect
     ensures { (said_effect result state.new ≡ effects keyboard_lamps side state.old script.now log.old) × (log.new ≡ log_left keyboard_lamps side state.old script.now log.old) }
 {
@@ -395,7 +400,8 @@ pub fn handle_state(state: &mut HandlerState, side: Side, script: &[u8], log: &m
     }
 }
 
-// A handler call for a side, on a record that is lent: its event goes into the first place behind those that wait.
+/// A handler call for a side, on a record that is lent: its event goes into the first place behind
+/// those that wait.
 pub fn handle_in_place(
     handler: &mut KeyboardHandler,
     side: Side,
@@ -414,7 +420,7 @@ pub fn handle_in_place(
     effect.call
 }
 
-// The same by value.
+/// The same by value.
 pub fn handle(mut handler: KeyboardHandler, side: Side, script: &[u8], log: &mut [u8]) -> Handled
     ensures { (said_handled result ≡ handled keyboard_lamps side handler script.now log.old) × (log.new ≡ log_left keyboard_lamps side handler.state script.now log.old) }
 {

@@ -14,14 +14,16 @@ use ps2_command::failing_as;
 use ps2_detect::keyboard_detect;
 use ps2_keyboard::set_keyboard_scancode_set;
 
-// The handler's record, which is good where the answer is that all was done.
+/// The handler's record, which is good where the answer is that all was done.
 #[derive(Clone, Copy)]
 pub struct KeyboardInitialized {
     pub answer: Answer<()>,
     pub handler: KeyboardHandler,
 }
 
-// Initialises the first keyboard, with a fresh record for a table: one keyboard or two, and a profile.
+/// Initialises the first keyboard, with a fresh record for a table: one keyboard or two, and a
+/// profile.
+/// Refused: 2 to 7, no set or identity (11), keyboard not detected (18).
 pub fn keyboard_init(table: Table, script: &[u8], log: &mut [u8]) -> KeyboardInitialized
     ensures { (told result.answer log.new ≡ play keyboard_init script.now log.old) × (result.handler ≡ fresh table) }
 {

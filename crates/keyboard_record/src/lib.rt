@@ -16,33 +16,36 @@ use keyboard_sides::{Side, Sides};
 use keycodes_ascii::{KeyAction, KeyEvent, Keycode};
 use ps2_kept::KEPT_LIMIT;
 
-// The places of the queue.
+/// The places of the queue.
 pub const QUEUE_LENGTH: usize = 128;
 
-// With two keyboards, the places that the events of one side may take.
+/// With two keyboards, the places that the events of one side may take.
 pub const SHARE: usize = 96;
 
-// The flags are the bits below this one.
+/// The flags are the bits below this one.
 pub const FLAG_LIMIT: u16 = 1 << 11;
 
-// Whether a table has one keyboard or two. One keyboard is the first side's.
+/// Whether a table has one keyboard or two. One keyboard is the first side's.
 #[derive(Clone, Copy, PartialEq, Eq)]
 pub enum Keyboards {
     One,
     Two,
 }
 
-// What a table is laid with: one keyboard or two, and the keys that its games allow. Whoever asks for a fresh record chooses both, and no call changes them.
+/// What a table is laid with: one keyboard or two, and the keys that its games allow. Whoever asks
+/// for a fresh record chooses both, and no call changes them.
 #[derive(Clone, Copy, PartialEq, Eq)]
 pub struct Table {
     pub keyboards: Keyboards,
     pub profile: Profile,
 }
 
-// All of the record but the places: what the handler remembers of each side's keyboard, what the table is laid with, and where in the places the events wait.
-// They stand in a ring: the oldest is at `start`, and `count` of them follow each other round the
-// end. `sides` has the side of each, the oldest first.
-// In this order the waiting bytes of either keyboard begin at a multiple of 16, where a copy of the state, 16 bytes at a time, takes them whole.
+/// All of the record but the places: what the handler remembers of each side's keyboard, what the
+/// table is laid with, and where in the places the events wait.
+/// They stand in a ring: the oldest is at `start`, and `count` of them follow each other round the
+/// end. `sides` has the side of each, the oldest first.
+/// In this order the waiting bytes of either keyboard begin at a multiple of 16, where a copy of
+/// the state, 16 bytes at a time, takes them whole.
 #[derive(Clone, Copy)]
 pub struct HandlerState {
     pub first: KeyboardState,
@@ -53,22 +56,24 @@ pub struct HandlerState {
     pub sides: Sides,
 }
 
-// The handler record: its state, and the places of its queue.
-// The places stand last, where no padding touches them: a copy of the record is then not made in two parts.
+/// The handler record: its state, and the places of its queue.
+/// The places stand last, where no padding touches them: a copy of the record is then not made in
+/// two parts.
 #[derive(Clone, Copy)]
 pub struct KeyboardHandler {
     pub state: HandlerState,
     pub places: [KeyEvent; QUEUE_LENGTH],
 }
 
-// An event of the queue, with the side whose keyboard gave it.
+/// An event of the queue, with the side whose keyboard gave it.
 #[derive(Clone, Copy)]
 pub struct SideEvent {
     pub side: Side,
     pub event: KeyEvent,
 }
 
-// Why the queue takes no more of a side's events: its key is outside the profile (33); the side has its share (31); or every place is taken (20).
+/// Why the queue takes no more of a side's events: its key is outside the profile (33); the side
+/// has its share (31); or every place is taken (20).
 #[derive(Clone, Copy, PartialEq, Eq)]
 pub enum NoRoom {
     OutsideProfile,
@@ -76,14 +81,14 @@ pub enum NoRoom {
     QueueFull,
 }
 
-// The refusal of a record that is not well formed.
+/// The refusal of a record that is not well formed.
 #[derive(Clone, Copy, PartialEq, Eq)]
 pub struct MalformedRecord;
 
-// What a taking from the queue answers: the oldest event, none, or the refusal.
+/// What a taking from the queue answers: the oldest event, none, or the refusal.
 pub type TakenEvent = Result<Option<SideEvent>, MalformedRecord>;
 
-// What a taking gives back.
+/// What a taking gives back.
 #[derive(Clone, Copy)]
 pub struct Taken {
     pub event: TakenEvent,
@@ -91,7 +96,7 @@ pub struct Taken {
 }
 
 impl MalformedRecord {
-    // The number of the refusal, as an answer tells it.
+    /// The number of the refusal, as an answer tells it.
     pub fn number(self) -> u8
         ensures { result ≡ number_answered (said_taken (Err self)) }
     {
@@ -100,7 +105,7 @@ impl MalformedRecord {
 }
 
 impl Keyboards {
-    // Whether a side has a keyboard at the table.
+    /// Whether a side has a keyboard at the table.
     pub fn has(self, side: Side) -> bool
         ensures { result ≡ at_table self side }
     {
@@ -126,7 +131,9 @@ fn is_fair(sides: Sides, count: usize) -> bool
 }
 
 impl HandlerState {
-    // Whether the queue's start and count are such as its places allow; the flags and the waiting bytes of each side at the table such as there can be; and, with two keyboards, no side has more than its share of the events.
+    /// Whether the queue's start and count are such as its places allow; the flags and the waiting
+    /// bytes of each side at the table such as there can be; and, with two keyboards, no side has
+    /// more than its share of the events.
     #[tactic(auto, unfolding(crate::specs::Record::well_formed))]
     pub fn well_formed(self) -> bool
         ensures { result ≡ well_formed self }
@@ -142,7 +149,7 @@ impl HandlerState {
             }
     }
 
-    // The same, and that a call's side is at the table.
+    /// The same, and that a call's side is at the table.
     #[tactic(auto, unfolding(crate::specs::Record::call_formed))]
     pub fn call_formed(self, side: Side) -> bool
         ensures { result ≡ call_formed side self }
@@ -150,7 +157,9 @@ impl HandlerState {
         self.table.keyboards.has(side) && self.well_formed()
     }
 
-    // The same, and that one more event of the side finds a place even if all that wait are the side's, so that none has to be counted: which is why the tests stand here again, with smaller bounds.
+    /// The same, and that one more event of the side finds a place even if all that wait are the
+    /// side's, so that none has to be counted: which is why the tests stand here again, with
+    /// smaller bounds.
     #[tactic(auto, unfolding(crate::specs::Record::is_ready, crate::specs::Record::call_formed, crate::specs::Record::well_formed))]
     pub fn is_ready(self, side: Side) -> bool
         ensures { result ≡ is_ready side self }
@@ -164,7 +173,7 @@ impl HandlerState {
             }
     }
 
-    // What is remembered of a side's keyboard.
+    /// What is remembered of a side's keyboard.
     pub fn keyboard_at(self, side: Side) -> KeyboardState
         ensures { result ≡ keyboard_at side self }
     {
@@ -174,7 +183,7 @@ impl HandlerState {
         }
     }
 
-    // Stores another memory of a side's keyboard.
+    /// Stores another memory of a side's keyboard.
     pub fn put_keyboard(&mut self, side: Side, keyboard: KeyboardState)
         ensures { self.new ≡ with_keyboard side keyboard self.old }
     {
@@ -191,7 +200,7 @@ impl HandlerState {
         SHARE <= self.count && SHARE <= self.sides.count_of(side, self.count)
     }
 
-    // Whether the queue takes one more event of a side, whatever its key: 31 is asked, then 20.
+    /// Whether the queue takes one more event of a side, whatever its key: 31 is asked, then 20.
     #[tactic(auto, using(keyboard_sides::proofs::Row::sides_length), unfolding(crate::specs::Queue::meets))]
     pub fn room_of(self, side: Side) -> Result<(), NoRoom>
         ensures { said_room result ≡ room side self }
@@ -216,7 +225,8 @@ impl HandlerState {
         self.room_of(side)
     }
 
-    // One more event of a side, of this key, waits where the queue takes it; where it doesn't, the state stays.
+    /// One more event of a side, of this key, waits where the queue takes it; where it doesn't, the
+    /// state stays.
     #[tactic(auto, using(crate::proofs::Meeting::place_says))]
     pub fn join(&mut self, side: Side, keycode: Keycode) -> Result<(), NoRoom>
         ensures room { said_room result ≡ place side keycode self.old }
@@ -230,7 +240,7 @@ impl HandlerState {
 }
 
 impl KeyboardHandler {
-    // A fresh record for a table: no prefix, no flag, no byte that waits, an empty queue.
+    /// A fresh record for a table: no prefix, no flag, no byte that waits, an empty queue.
     pub fn fresh(table: Table) -> KeyboardHandler
         ensures { result ≡ fresh table }
     {
@@ -260,7 +270,7 @@ impl KeyboardHandler {
         }
     }
 
-    // Takes the oldest event from the queue; its place is free for a later one.
+    /// Takes the oldest event from the queue; its place is free for a later one.
     #[tactic(auto, using(crate::proofs::WellFormed::well_is), unfolding(crate::specs::Taking::taken))]
     pub fn take(&mut self) -> TakenEvent
         ensures { left (said_taken result) self.new ≡ taken self.old }
@@ -282,7 +292,7 @@ impl KeyboardHandler {
     }
 }
 
-// The same, by value.
+/// The same, by value.
 pub fn take_event(mut handler: KeyboardHandler) -> Taken
     ensures { left (said_taken result.event) result.handler ≡ taken handler }
 {

@@ -83,22 +83,23 @@ const PLAIN_KEYS: u128 = ((1 << 0x5E) - 1)
         | 1 << SUPER_KEY_LEFT
         | 1 << SUPER_KEY_RIGHT);
 
-// Under which keys a game is played: any, or those that rated games allow.
+/// Under which keys a game is played: any, or those that rated games allow.
 #[derive(Clone, Copy, PartialEq, Eq)]
 pub enum Profile {
     Any,
     Tournament,
 }
 
-// Bytes that wait to be taken, the oldest first: a lamp exchange threw them away.
+/// Bytes that wait to be taken, the oldest first: a lamp exchange threw them away.
 #[derive(Clone, Copy)]
 pub struct WaitingBytes {
     pub bytes: [u8; KEPT_LIMIT],
     pub count: u8,
 }
 
-// What the handler remembers of one keyboard: the bytes that wait, whether the last byte was a prefix, and the keys that are held and the locks that are on.
-// In this order no padding lies between the fields, and a copy is not made around it.
+/// What the handler remembers of one keyboard: the bytes that wait, whether the last byte was a
+/// prefix, and the keys that are held and the locks that are on.
+/// In this order no padding lies between the fields, and a copy is not made around it.
 #[derive(Clone, Copy)]
 pub struct KeyboardState {
     pub waiting: WaitingBytes,
@@ -119,21 +120,21 @@ impl From<KeptBytes> for WaitingBytes {
     }
 }
 
-// E0 and E1 say that the next byte belongs to an extended key.
+/// E0 and E1 say that the next byte belongs to an extended key.
 pub fn is_prefix(scan_code: u8) -> bool
     ensures { result ≡ is_prefix scan_code }
 {
     scan_code == EXTENDED_SCANCODE || scan_code == EXTENDED_SCANCODE_2
 }
 
-// The prefixes, 00 (an error of the port) and FA (an acknowledgement) are no key's.
+/// The prefixes, 00 (an error of the port) and FA (an acknowledgement) are no key's.
 pub fn is_silent(scan_code: u8) -> bool
     ensures { result ≡ is_silent scan_code }
 {
     is_prefix(scan_code) || scan_code == KEY_ERROR || scan_code == ACKNOWLEDGE
 }
 
-// A byte of a key that has no flag: whatever came before, its event is all that it gives.
+/// A byte of a key that has no flag: whatever came before, its event is all that it gives.
 pub fn is_plain(scan_code: u8) -> bool
     ensures { result ≡ is_plain scan_code }
 {
@@ -180,7 +181,7 @@ fn followed_lock(profile: Profile, code: u8) -> KeyboardModifiers
 }
 
 impl Profile {
-    // Whether a key's events are queued.
+    /// Whether a key's events are queued.
     pub fn allows(self, keycode: Keycode) -> bool
         ensures { result ≡ allows self keycode }
     {
@@ -199,7 +200,7 @@ fn is_tournament_key(code: u8) -> bool
     }
 }
 
-// The press of a lock that a profile follows: Caps Lock, Num Lock or Scroll Lock, or none.
+/// The press of a lock that a profile follows: Caps Lock, Num Lock or Scroll Lock, or none.
 pub fn is_lock_press(profile: Profile, scan_code: u8) -> bool
     ensures { result ≡ presses_followed profile scan_code }
 {
@@ -213,7 +214,8 @@ fn presses_lock(scan_code: u8) -> bool
     scan_code == CAPS_LOCK || scan_code == NUM_LOCK || scan_code == SCROLL_LOCK
 }
 
-// The flags just after a scancode: a key's press holds its flags down and its release lets them go; a lock that the profile follows goes over at its press.
+/// The flags just after a scancode: a key's press holds its flags down and its release lets them
+/// go; a lock that the profile follows goes over at its press.
 pub fn modifiers_after(
     profile: Profile,
     keyboard: KeyboardState,
@@ -231,7 +233,7 @@ pub fn modifiers_after(
     }
 }
 
-// The lamps of the locks that are on.
+/// The lamps of the locks that are on.
 pub fn leds(modifiers: KeyboardModifiers) -> LEDState
     ensures { result.bits ≡ lamps_lit modifiers.bits }
 {

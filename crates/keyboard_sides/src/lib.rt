@@ -9,16 +9,17 @@ ghost use Rattle.keyboard_sides.specs.Sides.{is_second, sides_of, count_of, olde
 // The bits of a word.
 const WORD: usize = 64;
 
-// The side of a table that a keyboard stands at: the first one's is on the first port, the second one's on the second.
+/// The side of a table that a keyboard stands at: the first one's is on the first port, the second
+/// one's on the second.
 #[derive(Clone, Copy, PartialEq, Eq)]
 pub enum Side {
     First,
     Second,
 }
 
-// The sides of up to 128 events in two words, the low bits first. A bit that is set says the second
-// side. The bits behind those of the events that wait may be anything. C has the words as two
-// numbers.
+/// The sides of up to 128 events in two words, the low bits first. A bit that is set says the
+/// second side. The bits behind those of the events that wait may be anything. C has the words as
+/// two numbers.
 #[derive(Clone, Copy, PartialEq, Eq)]
 pub struct Sides {
     pub low: u64,
@@ -26,7 +27,7 @@ pub struct Sides {
 }
 
 impl Sides {
-    // How many of the first `count` events are of a side.
+    /// How many of the first `count` events are of a side.
     pub fn count_of(self, side: Side, count: usize) -> usize
         ensures { result ≡ count_of side (sides_of self count) }
     {
@@ -48,7 +49,7 @@ impl Sides {
         }
     }
 
-    // The side of the oldest event.
+    /// The side of the oldest event.
     pub fn oldest(self) -> Side
         ensures { result ≡ oldest_side self }
     {
@@ -59,7 +60,7 @@ impl Sides {
         }
     }
 
-    // The sides without the oldest.
+    /// The sides without the oldest.
     pub fn without_oldest(self) -> Sides
         ensures { result ≡ without_oldest_side self }
     {
@@ -69,7 +70,7 @@ impl Sides {
         }
     }
 
-    // The sides of `count` events with one more behind them; behind 128 there is no place for one.
+    /// The sides of `count` events with one more behind them; behind 128 there is no place for one.
     pub fn with_side(self, side: Side, count: usize) -> Sides
         ensures { result ≡ with_side side count self }
     {

@@ -55,7 +55,7 @@ fn set_of(number: u32) -> Option<ScancodeSet>
     }
 }
 
-// The lamps of a number: scroll 1, number 2, caps 4 added.
+/// The lamps of a number: scroll 1, number 2, caps 4 added.
 pub fn lamps_of(lamps: u32) -> Option<LEDState>
     ensures { said_found result ≡ lamps_at lamps }
 {
@@ -82,9 +82,10 @@ fn put_initialized(words: &mut Words, table: Table, answer: Answer<()>)
     }
 }
 
-// Initialises the first keyboard. The lent record becomes a fresh one, for a table with 1 keyboard
-// or 2, under profile 0 (none) or 1 (the tournament's), whether the keyboard did what it was asked
-// or not. After 2 and 3 it is as it was, and after 21, where it has not 144 numbers.
+/// Initialises the first keyboard. The lent record becomes a fresh one, for a table with 1 keyboard
+/// or 2, under profile 0 (none) or 1 (the tournament's), whether the keyboard did what it was asked
+/// or not. After 2 and 3 it is as it was, and after 21, where it has not 144 numbers.
+/// Refused: 2 to 7, no set or identity (11), keyboard not detected (18).
 pub fn keyboard_init(
     words: &mut [u64],
     keyboards: u32,
@@ -105,14 +106,14 @@ pub fn keyboard_init(
     answer_words(answer)
 }
 
-// Resets the keyboard.
+/// Resets the keyboard.
 pub fn keyboard_reset(script: &[u8], log: &mut [u8]) -> PortWords
     ensures { Tells (told no_value) reset_keyboard script.now log.old result log.new }
 {
     answer_words(reset_keyboard(script, log))
 }
 
-// Sends one of the keyboard's commands, by the byte that the wiki lists it with.
+/// Sends one of the keyboard's commands, by the byte that the wiki lists it with.
 pub fn keyboard_command(byte: u32, script: &[u8], log: &mut [u8]) -> KeptWords
     ensures { TellsAt (refusing_kept invalid_argument) told_kept sending_command (command_at byte) script.now log.old result log.new }
 {
@@ -126,7 +127,7 @@ pub fn keyboard_command(byte: u32, script: &[u8], log: &mut [u8]) -> KeptWords
     }
 }
 
-// Sets the lamps: scroll 1, number 2, caps 4 added.
+/// Sets the lamps: scroll 1, number 2, caps 4 added.
 pub fn keyboard_set_lamps(lamps: u32, script: &[u8], log: &mut [u8]) -> KeptWords
     ensures { TellsAt (refusing_kept invalid_argument) told_kept setting_lamps (lamps_at lamps) script.now log.old result log.new }
 {
@@ -136,7 +137,7 @@ pub fn keyboard_set_lamps(lamps: u32, script: &[u8], log: &mut [u8]) -> KeptWord
     }
 }
 
-// Sets the scancode set, 1 to 3.
+/// Sets the scancode set, 1 to 3.
 pub fn keyboard_set_scancode_set(set: u32, script: &[u8], log: &mut [u8]) -> PortWords
     ensures { TellsAt (refusing invalid_argument) (told no_value) set_scancode_set (scancode_set_at set) script.now log.old result log.new }
 {
@@ -146,21 +147,23 @@ pub fn keyboard_set_scancode_set(set: u32, script: &[u8], log: &mut [u8]) -> Por
     }
 }
 
-// Asks for the scancode set; the value is the byte that the keyboard tells, 0 to 3.
+/// Asks for the scancode set; the value is the byte that the keyboard tells, 0 to 3.
 pub fn keyboard_get_scancode_set(script: &[u8], log: &mut [u8]) -> PortWords
     ensures { Tells (told scancode_set_byte) get_scancode_set script.now log.old result log.new }
 {
     answer_words(get_keyboard_scancode_set(script, log))
 }
 
-// Detects the type of the keyboard.
+/// Detects the type of the keyboard.
+/// OSDev Wiki, "8042 PS/2 Controller", "Detecting PS/2 Device Types". Refused: 2 to 7, unknown
+/// keyboard (12).
 pub fn keyboard_detect(script: &[u8], log: &mut [u8]) -> PortWords
     ensures { Tells (told type_number) keyboard_detect script.now log.old result log.new }
 {
     answer_words(ps2_detect::keyboard_detect(script, log))
 }
 
-// Sends the byte of repeat rate and delay.
+/// Sends the byte of repeat rate and delay.
 pub fn keyboard_set_repeat(byte: u32, script: &[u8], log: &mut [u8]) -> PortWords
     ensures { TellsAt (refusing invalid_argument) (told no_value) set_keyboard_repeat (byte_at byte) script.now log.old result log.new }
 {
@@ -170,14 +173,14 @@ pub fn keyboard_set_repeat(byte: u32, script: &[u8], log: &mut [u8]) -> PortWord
     }
 }
 
-// Whether there is a byte of the keyboard to read: the value is 1 where there is.
+/// Whether there is a byte of the keyboard to read: the value is 1 where there is.
 pub fn keyboard_waits(script: &[u8]) -> PortWords
     ensures { TellsReading (told weigh) keyboard_output_buffer_full script.now result }
 {
     answer_words(is_output_buffer_full(script))
 }
 
-// Reads a scancode, which is the value, without asking the status.
+/// Reads a scancode, which is the value, without asking the status.
 pub fn keyboard_read_scancode(script: &[u8]) -> PortWords
     ensures { TellsReading (told byte_value) read_scancode script.now result }
 {

@@ -1,11 +1,12 @@
 // What each key writes, to be held against a keyboard; docs/USING.md has its guide.
 
-// The keycodes that events have: 00 to 5D.
+/// The keycodes that events have: 00 to 5D.
 pub const KEYCODES: usize = 94;
 
-// A row for each keycode, in order: its characters without Shift and Caps Lock, with Shift, with Caps Lock, and with both; 0 where there
-// is none, so that a key fits a line and the page can be held against a keyboard. Beside them stand
-// the keycode, the key's name, and the numbers that the characters have in ASCII, hexadecimal.
+/// A row for each keycode, in order: its characters without Shift and Caps Lock, with Shift, with
+/// Caps Lock, and with both; 0 where there is none, so that a key fits a line and the page can be
+/// held against a keyboard. Beside them stand the keycode, the key's name, and the numbers that the
+/// characters have in ASCII, hexadecimal.
 pub static CHARACTERS: [[u8; 4]; KEYCODES] = [
     [0x00, 0x00, 0x00, 0x00], // 00 OverflowError  00 00 00 00
     [0x1B, 0x1B, 0x1B, 0x1B], // 01 Escape         1B 1B 1B 1B

@@ -11,14 +11,14 @@ use layout::CHARACTERS;
 
 mod layout;
 
-// Whether a key was pressed or released.
+/// Whether a key was pressed or released.
 #[derive(Clone, Copy, PartialEq, Eq)]
 pub enum KeyAction {
     Pressed,
     Released,
 }
 
-// What a keyboard action gives to applications.
+/// What a keyboard action gives to applications.
 #[derive(Clone, Copy, PartialEq, Eq)]
 pub struct KeyEvent {
     pub keycode: Keycode,
@@ -27,6 +27,7 @@ pub struct KeyEvent {
 }
 
 impl KeyEvent {
+    /// The event of a key, with the flags as they are after its byte.
     pub fn new(keycode: Keycode, action: KeyAction, modifiers: KeyboardModifiers) -> KeyEvent
         ensures { (result.keycode ≡ keycode) × (result.action ≡ action) × (result.modifiers ≡ modifiers) }
     {
@@ -38,7 +39,7 @@ impl KeyEvent {
     }
 }
 
-// What a keyboard adds to a key's press code in scan code set 1 to say that the key was released.
+/// What a keyboard adds to a key's press code in scan code set 1 to say that the key was released.
 pub const KEY_RELEASED_OFFSET: u8 = 128;
 
 // The character that an entry of the table stands for.
@@ -48,14 +49,14 @@ fn of_entry(entry: u8) -> Option<u8>
     (entry != 0).then_some(entry)
 }
 
-// The character of a raw scancode under the given modifiers.
+/// The character of a raw scancode under the given modifiers.
 pub fn scancode_to_ascii(modifiers: KeyboardModifiers, scan_code: u8) -> Option<u8>
     ensures { result ≡ scancode_character modifiers scan_code }
 {
     Keycode::try_from(scan_code).ok()?.to_ascii(modifiers)
 }
 
-// The key of an event, by its press code. The last six are release codes, which occur in no event.
+/// The key of an event, by its press code. The last six are release codes, which occur in no event.
 #[derive(Clone, Copy, PartialEq, Eq)]
 pub enum Keycode {
     OverflowError = 0x00,
@@ -160,7 +161,7 @@ pub enum Keycode {
     SuperKeyRightReleased = 0xDC,
 }
 
-// A byte that is the number of no keycode.
+/// A byte that is the number of no keycode.
 #[derive(Clone, Copy, PartialEq, Eq)]
 pub struct NoKeycode(pub u8);
 
@@ -300,7 +301,8 @@ fn column(shift: bool, caps_lock: bool) -> usize
 }
 
 impl Keycode {
-    // The character of this key under the given modifiers: the table's entry. The release codes have no row, and no character.
+    /// The character of this key under the given modifiers: the table's entry. The release codes
+    /// have no row, and no character.
     pub fn to_ascii(self, modifiers: KeyboardModifiers) -> Option<u8>
         ensures { result ≡ character_of self modifiers }
     {
@@ -311,7 +313,7 @@ impl Keycode {
         }
     }
 
-    // Whether this is a letter from A to Z.
+    /// Whether this is a letter from A to Z.
     pub fn is_letter(self) -> bool
         ensures { result ≡ is_letter (writes self) }
     {

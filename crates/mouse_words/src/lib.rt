@@ -36,7 +36,7 @@ fn command_of(byte: u32) -> Option<HostToMouseCommand>
     HostToMouseCommand::try_from(byte).ok()
 }
 
-// The sampling rate that a number stands for.
+/// The sampling rate that a number stands for.
 pub fn rate_of(rate: u32) -> Option<MouseSampleRate>
     ensures { said_found result ≡ rate_at rate }
 {
@@ -44,7 +44,7 @@ pub fn rate_of(rate: u32) -> Option<MouseSampleRate>
     MouseSampleRate::try_from(byte).ok()
 }
 
-// The resolution that a number stands for.
+/// The resolution that a number stands for.
 pub fn resolution_of(resolution: u32) -> Option<MouseResolution>
     ensures { said_found result ≡ resolution_at resolution }
 {
@@ -66,35 +66,36 @@ fn left_words(left: MouseLeft) -> PortWords
 
 // ---- operations
 
-// Resets the mouse.
+/// Resets the mouse.
 pub fn mouse_reset(script: &[u8], log: &mut [u8]) -> PortWords
     ensures { Tells (told no_value) reset_mouse script.now log.old result log.new }
 {
     answer_words(PS2Mouse::reset(script, log))
 }
 
-// Starts the packets.
+/// Starts the packets.
 pub fn mouse_start_packets(script: &[u8], log: &mut [u8]) -> PortWords
     ensures { Tells (told no_value) enable_packet_streaming script.now log.old result log.new }
 {
     answer_words(PS2Mouse::enable_mouse_packet_streaming(script, log))
 }
 
-// Stops the packets.
+/// Stops the packets.
 pub fn mouse_stop_packets(script: &[u8], log: &mut [u8]) -> PortWords
     ensures { Tells (told no_value) disable_packet_streaming script.now log.old result log.new }
 {
     answer_words(PS2Mouse::disable_mouse_packet_streaming(script, log))
 }
 
-// Asks the mouse for its identity: 0, 3 or 4.
+/// Asks the mouse for its identity: 0, 3 or 4.
 pub fn mouse_get_identity(script: &[u8], log: &mut [u8]) -> PortWords
     ensures { Tells (told mouse_id_byte) mouse_id_rule script.now log.old result log.new }
 {
     answer_words(PS2Mouse::mouse_id(script, log))
 }
 
-// Sets the identity of a record that has this one to the highest that the mouse takes on. The value is the identity of the record that is left, after a refusal too.
+/// Sets the identity of a record that has this one to the highest that the mouse takes on. The
+/// value is the identity of the record that is left, after a refusal too.
 pub fn mouse_set_identity(identity: u32, script: &[u8], log: &mut [u8]) -> PortWords
     ensures { TellsLeftAt (identity_at identity) script.now log.old result log.new }
 {
@@ -104,7 +105,7 @@ pub fn mouse_set_identity(identity: u32, script: &[u8], log: &mut [u8]) -> PortW
     }
 }
 
-// Sends a command to the mouse.
+/// Sends a command to the mouse.
 pub fn mouse_command(byte: u32, script: &[u8], log: &mut [u8]) -> KeptWords
     ensures { TellsAt (refusing_kept invalid_argument) told_kept (λ c. keeping_thrown (mouse_command c)) (command_at byte) script.now log.old result log.new }
 {
@@ -118,7 +119,7 @@ pub fn mouse_command(byte: u32, script: &[u8], log: &mut [u8]) -> KeptWords
     }
 }
 
-// Sets the mouse's sampling rate.
+/// Sets the mouse's sampling rate.
 pub fn mouse_set_sampling_rate(rate: u32, script: &[u8], log: &mut [u8]) -> PortWords
     ensures { TellsAt (refusing invalid_argument) (told no_value) set_sampling_rate (rate_at rate) script.now log.old result log.new }
 {
@@ -128,7 +129,7 @@ pub fn mouse_set_sampling_rate(rate: u32, script: &[u8], log: &mut [u8]) -> Port
     }
 }
 
-// Sets the mouse's resolution.
+/// Sets the mouse's resolution.
 pub fn mouse_set_resolution(resolution: u32, script: &[u8], log: &mut [u8]) -> PortWords
     ensures { TellsAt (refusing invalid_argument) (told no_value) set_resolution (resolution_at resolution) script.now log.old result log.new }
 {
@@ -138,14 +139,14 @@ pub fn mouse_set_resolution(resolution: u32, script: &[u8], log: &mut [u8]) -> P
     }
 }
 
-// Whether there is a byte of the mouse to read: 1 where there is.
+/// Whether there is a byte of the mouse to read: 1 where there is.
 pub fn mouse_waits(script: &[u8]) -> PortWords
     ensures { TellsReading (told weigh) mouse_output_buffer_full script.now result }
 {
     answer_words(PS2Mouse::is_output_buffer_full(script))
 }
 
-// Reads the packet that a mouse of this identity sends, its wheel signed.
+/// Reads the packet that a mouse of this identity sends, its wheel signed.
 pub fn mouse_read_packet(identity: u32, script: &[u8]) -> PacketWords
     ensures { TellsReadingAt (refusing_packet invalid_argument) told_packet read_signed_packet (identity_at identity) script.now result }
 {

@@ -17,7 +17,9 @@ use ps2_packet::{MousePacket, SignedPacket};
 
 // The three structs have their counts and 0s beside the refusal, and no `Result`: C reads them.
 
-// What a port operation answers: the refusal, 0 where there is none; the port of the read that the script was too short for, or 0; script bytes used and pairs written; and what the operation gives, 0 where it gives nothing.
+/// What a port operation answers: the refusal, 0 where there is none; the port of the read that the
+/// script was too short for, or 0; script bytes used and pairs written; and what the operation
+/// gives, 0 where it gives nothing.
 #[repr(C)]
 #[derive(Clone, Copy)]
 pub struct PortWords {
@@ -28,7 +30,8 @@ pub struct PortWords {
     pub value: u64,
 }
 
-// The same of one that hands back the bytes that it threw away: the earliest, in order, in the first `count` places, and how many others there were.
+/// The same of one that hands back the bytes that it threw away: the earliest, in order, in the
+/// first `count` places, and how many others there were.
 #[repr(C)]
 #[derive(Clone, Copy)]
 pub struct KeptWords {
@@ -41,7 +44,8 @@ pub struct KeptWords {
     pub bytes: [u8; 16],
 }
 
-// The same of the reading of a mouse's packet, which writes nothing: the buttons from bit 0 up are left, right, middle, fourth and fifth.
+/// The same of the reading of a mouse's packet, which writes nothing: the buttons from bit 0 up are
+/// left, right, middle, fourth and fifth.
 #[repr(C)]
 #[derive(Clone, Copy)]
 pub struct PacketWords {
@@ -56,7 +60,7 @@ pub struct PacketWords {
 
 // ---- the numbers of values
 
-// A value that an operation gives, as a number.
+/// A value that an operation gives, as a number.
 pub trait Value: Copy {
     ghost worth: { Self → ℕ };
 
@@ -146,7 +150,7 @@ impl Value for KeyboardType {
 
 // ---- an answer and a number
 
-// An answer before anything is read.
+/// An answer before anything is read.
 pub fn refusing_words(refusal: u32) -> PortWords
     ensures { result ≡ refusing refusal }
 {
@@ -169,7 +173,7 @@ fn port_lacked(refusal: Refusal) -> u32
     }
 }
 
-// An answer, and its value's number.
+/// An answer, and its value's number.
 pub fn answer_words<V: Value>(answer: Answer<V>) -> PortWords
     ensures { result ≡ told V.worth (ended answer) (used_of answer) (pairs_of answer) }
 {
@@ -192,6 +196,7 @@ pub fn answer_words<V: Value>(answer: Answer<V>) -> PortWords
 
 // ---- an answer with the bytes that were thrown away
 
+/// A refusal by its number, with nothing read, written or kept.
 pub fn refusing_kept_words(refusal: u32) -> KeptWords
     ensures { result ≡ refusing_kept refusal }
 {
@@ -206,6 +211,7 @@ pub fn refusing_kept_words(refusal: u32) -> KeptWords
     }
 }
 
+/// What a command comes to, as numbers: 0 where it is done, and the bytes that it threw away.
 pub fn commanded_words(commanded: Commanded) -> KeptWords
     ensures { result ≡ kept_numbers (ended commanded.answer) (used_of commanded.answer) (pairs_of commanded.answer) commanded.kept }
 {
@@ -225,6 +231,7 @@ pub fn commanded_words(commanded: Commanded) -> KeptWords
 
 // ---- a mouse's packet
 
+/// A refusal by its number, with no packet and nothing read.
 pub fn refusing_packet_words(refusal: u32) -> PacketWords
     ensures { result ≡ refusing_packet refusal }
 {
@@ -251,6 +258,8 @@ fn buttons(packet: MousePacket) -> u32
     left + 2 * right + 4 * middle + 8 * fourth + 16 * fifth
 }
 
+/// A packet that was read, as numbers: the buttons added up, left 1, right 2, middle 4, fourth 8,
+/// fifth 16.
 pub fn packet_words(read: Answer<SignedPacket>) -> PacketWords
     ensures { result ≡ told_packet (ended read) (used_of read) (pairs_of read) }
 {

@@ -12,7 +12,8 @@ use crate::{
     Fields, Preferences, is_lamps, is_repeat_byte, is_resolution, is_sampling_rate, is_scancode_set,
 };
 
-// Why a reading refuses: a number is cut short, too large or not shortest; the version, the count or a checked field is outside its values; bytes follow the last field.
+/// Why a reading refuses: a number is cut short, too large or not shortest; the version, the count
+/// or a checked field is outside its values; bytes follow the last field.
 #[derive(Clone, Copy, PartialEq, Eq)]
 pub enum ReadRefusal {
     Malformed = 27,
@@ -20,7 +21,7 @@ pub enum ReadRefusal {
     BytesFollow = 29,
 }
 
-// Why a writing refuses: a field is outside its values; the output has no room for the record.
+/// Why a writing refuses: a field is outside its values; the output has no room for the record.
 #[derive(Clone, Copy, PartialEq, Eq)]
 pub enum WriteRefusal {
     OutsideValues = 28,
@@ -40,7 +41,7 @@ const FIELDS_1: u32 = 4;
 const FIELDS_2: u32 = 5;
 
 impl ReadRefusal {
-    // The number of a refusal, as an answer tells it.
+    /// The number of a refusal, as an answer tells it.
     pub fn number(self) -> u8
         ensures { result ≡ refusal_number self }
     {
@@ -49,7 +50,7 @@ impl ReadRefusal {
 }
 
 impl WriteRefusal {
-    // The number of a refusal, as an answer tells it.
+    /// The number of a refusal, as an answer tells it.
     pub fn number(self) -> u8
         ensures { result ≡ write_refusal_number self }
     {
@@ -188,7 +189,9 @@ fn read_record(input: &[u8], checks_range: bool) -> Result<Preferences, ReadRefu
     }
 }
 
-// The version 1 reader. Of a record of version 2 it gives the four fields; the fifth must be a number, and may be any.
+/// The version 1 reader. Of a record of version 2 it gives the four fields; the fifth must be a
+/// number, and may be any.
+/// Refused: malformed number (27), outside values (28), bytes follow (29).
 pub fn read_preferences_1(input: &[u8]) -> Result<Fields, ReadRefusal>
     ensures { said_read1 result ≡ read1 input.now }
 {
@@ -197,7 +200,8 @@ pub fn read_preferences_1(input: &[u8]) -> Result<Fields, ReadRefusal>
     }
 }
 
-// The version 2 reader, which takes records of both versions.
+/// The version 2 reader, which takes records of both versions.
+/// Refused: malformed number (27), outside values (28), bytes follow (29).
 pub fn read_preferences_2(input: &[u8]) -> Result<Preferences, ReadRefusal>
     ensures { said_read2 result ≡ read2 input.now }
 {
@@ -242,7 +246,9 @@ fn write_all(numbers: &[u32], output: &mut [u8]) -> Result<usize, WriteRefusal>
     Ok(length)
 }
 
-// Writes a record to the start of an output, and answers how many bytes it takes. What is not written stays as it was; a refusal writes nothing.
+/// Writes a record to the start of an output, and answers how many bytes it takes. What is not
+/// written stays as it was; a refusal writes nothing.
+/// Refused: outside values (28), then output full (23).
 pub fn write_preferences(preferences: Preferences, output: &mut [u8]) -> Result<usize, WriteRefusal>
     ensures { outcome (said_written result) (count_written result) output.new ≡ leaves output.old (written (length output.old) preferences) }
 {

@@ -6,19 +6,19 @@ ghost use Rattle.preferences.specs.Coding.{groups_end, coding};
 ghost use Rattle.preferences.specs.NumberReading.{read_number, said_number};
 ghost use Rattle.preferences.specs.NumberWriting.{outcome, number_written, said_written, count_written};
 
-// A number that was read, and how many bytes it took.
+/// A number that was read, and how many bytes it took.
 #[derive(Clone, Copy, PartialEq, Eq)]
 pub struct Number {
     pub value: u32,
     pub count: usize,
 }
 
-// A number is cut short, too large or not in the shortest form.
+/// A number is cut short, too large or not in the shortest form.
 #[derive(Clone, Copy, PartialEq, Eq)]
 pub struct Malformed;
 
 impl Malformed {
-    // The number of the refusal, as an answer tells it.
+    /// The number of the refusal, as an answer tells it.
     pub fn number(self) -> u8
         ensures { result ≡ number_answered (said_number (Err self)) }
     {
@@ -26,12 +26,12 @@ impl Malformed {
     }
 }
 
-// An output has no room for a number.
+/// An output has no room for a number.
 #[derive(Clone, Copy, PartialEq, Eq)]
 pub struct OutputShort;
 
 impl OutputShort {
-    // The number of the refusal, as an answer tells it.
+    /// The number of the refusal, as an answer tells it.
     pub fn number(self) -> u8
         ensures { result ≡ number_answered (said_written (Err self)) }
     {
@@ -60,8 +60,8 @@ const FOUR_GROUPS: u32 = 0x20_0000;
 
 const FIVE_GROUPS: u32 = 0x1000_0000;
 
-// Reads the number that stands in a string from a place on, which may lie past its end: the number
-// is cut short there.
+/// Reads the number that stands in a string from a place on, which may lie past its end: the number
+/// is cut short there.
 pub fn read_number(input: &[u8], at: usize) -> Result<Number, Malformed>
     ensures { said_number result ≡ read_number (drop at input.now) }
 {
@@ -104,7 +104,7 @@ fn read_groups(input: &[u8], at: usize, first: u64) -> Result<Number, Malformed>
     Err(Malformed)
 }
 
-// How many bytes a number takes.
+/// How many bytes a number takes.
 pub fn number_length(number: u32) -> usize
     ensures { result ≡ length (coding number) }
 {
@@ -117,7 +117,8 @@ pub fn number_length(number: u32) -> usize
     }
 }
 
-// Writes a number into an output from a place on, and tells how many bytes it takes. What is not written stays as it was; a refusal writes nothing.
+/// Writes a number into an output from a place on, and tells how many bytes it takes. What is not
+/// written stays as it was; a refusal writes nothing.
 pub fn write_number(number: u32, output: &mut [u8], at: usize) -> Result<usize, OutputShort>
     ensures { outcome (said_written result) (count_written result) output.new ≡ number_written number at output.old }
 {

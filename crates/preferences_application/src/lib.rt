@@ -21,7 +21,7 @@ use ps2_layouts::LEDState;
 use ps2_mouse::PS2Mouse;
 use ps2_ports::DevicePort;
 
-// What a field asks of a device.
+/// What a field asks of a device.
 #[derive(Clone, Copy)]
 pub enum Setting {
     ScancodeSet(ScancodeSet),
@@ -31,7 +31,10 @@ pub enum Setting {
     RepeatRateAndDelay(u8),
 }
 
-// Applies a record's fields in their order. Where one is outside its values nothing is read or written; after a refusal the fields before it stay applied.
+/// Applies a record's fields in their order. Where one is outside its values nothing is read or
+/// written; after a refusal the fields before it stay applied.
+/// Refused: outside values (28); then 2 to 7, no set or identity (11), LEDs not set (14), rate or
+/// resolution not set (15).
 pub fn apply_preferences(script: &[u8], log: &mut [u8], preferences: Preferences) -> Answer<()>
     ensures { told result log.new ≡ play (apply_preferences preferences) script.now log.old }
 {
@@ -42,7 +45,7 @@ pub fn apply_preferences(script: &[u8], log: &mut [u8], preferences: Preferences
     }
 }
 
-// Sets one setting of a device. What was thrown away meanwhile is dropped.
+/// Sets one setting of a device. What was thrown away meanwhile is dropped.
 pub fn apply_setting(script: &[u8], log: &mut [u8], setting: Setting) -> Answer<()>
     ensures { told result log.new ≡ play (apply_setting setting) script.now log.old }
 {
@@ -55,7 +58,8 @@ pub fn apply_setting(script: &[u8], log: &mut [u8], setting: Setting) -> Answer<
     }
 }
 
-// Sets how fast the keyboard repeats a key that is held, and after which delay.
+/// Sets how fast the keyboard repeats a key that is held, and after which delay.
+/// F3 and the byte. Refused: 2 to 7.
 pub fn set_keyboard_repeat(script: &[u8], log: &mut [u8], byte: u8) -> Answer<()>
     ensures { told result log.new ≡ play (set_keyboard_repeat byte) script.now log.old }
 {

@@ -20,7 +20,8 @@ use preferences_application::apply_preferences;
 
 // C reads these three: a refusal stands beside what is given.
 
-// A record of version 1 or 2: its fields in their order. Version 1 has no repeat byte: it is not looked at, and 0 where it is given back.
+/// A record of version 1 or 2: its fields in their order. Version 1 has no repeat byte: it is not
+/// looked at, and 0 where it is given back.
 #[repr(C)]
 #[derive(Clone, Copy)]
 pub struct PreferencesWords {
@@ -32,7 +33,8 @@ pub struct PreferencesWords {
     pub repeat: u32,
 }
 
-// What a reading answers: the refusal, 0 where there is none; and the record read, all 0 where it is refused.
+/// What a reading answers: the refusal, 0 where there is none; and the record read, all 0 where it
+/// is refused.
 #[repr(C)]
 #[derive(Clone, Copy)]
 pub struct PreferencesReadWords {
@@ -40,7 +42,8 @@ pub struct PreferencesReadWords {
     pub preferences: PreferencesWords,
 }
 
-// What a writing answers: the refusal, 0 where there is none; and how many bytes of the output are written.
+/// What a writing answers: the refusal, 0 where there is none; and how many bytes of the output are
+/// written.
 #[repr(C)]
 #[derive(Clone, Copy)]
 pub struct PreferencesWrittenWords {
@@ -120,8 +123,8 @@ fn read_words(read: Result<Preferences, ReadRefusal>) -> PreferencesReadWords
     }
 }
 
-// Writes a record to the start of an output. What is not written stays as it was; a refusal writes
-// nothing.
+/// Writes a record to the start of an output. What is not written stays as it was; a refusal writes
+/// nothing.
 pub fn write(preferences: PreferencesWords, output: &mut [u8]) -> PreferencesWrittenWords
     ensures { WordsWritten preferences output.old result output.new }
 {
@@ -143,21 +146,23 @@ pub fn write(preferences: PreferencesWords, output: &mut [u8]) -> PreferencesWri
     }
 }
 
-// The version 1 reader. Of a record of either version it gives the four fields, as a record of version 1.
+/// The version 1 reader. Of a record of either version it gives the four fields, as a record of
+/// version 1.
 pub fn read_1(input: &[u8]) -> PreferencesReadWords
     ensures { result ≡ told_read (as_version1 (read1 input.now)) }
 {
     read_words(read_preferences_1(input).map(Preferences::Version1))
 }
 
-// The version 2 reader, which takes records of both versions.
+/// The version 2 reader, which takes records of both versions.
 pub fn read_2(input: &[u8]) -> PreferencesReadWords
     ensures { result ≡ told_read (read2 input.now) }
 {
     read_words(read_preferences_2(input))
 }
 
-// Applies a record's fields to the devices, in their order. Where one is outside its values nothing is read or written; after a refusal the fields before it stay applied.
+/// Applies a record's fields to the devices, in their order. Where one is outside its values
+/// nothing is read or written; after a refusal the fields before it stay applied.
 pub fn apply(preferences: PreferencesWords, script: &[u8], log: &mut [u8]) -> PortWords
     ensures { TellsAt (refusing invalid_argument) (told no_value) apply_preferences (preferences_at preferences) script.now log.old result log.new }
 {

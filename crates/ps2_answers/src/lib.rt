@@ -7,21 +7,23 @@ ghost use Rattle.exchange.specs.Answer.{lack_number};
 ghost use Rattle.ps2_answers.specs.Refusals.{port_of, lack_of, number_of, refusal_number};
 ghost use Rattle.ps2_answers.specs.Answers.{counted, behind, concluded, outcome_of};
 
-// The controller's ports as they are read: data from 60, the status from 64.
+/// The controller's ports as they are read: data from 60, the status from 64.
 #[derive(Clone, Copy, PartialEq, Eq)]
 pub enum ReadPort {
     Data = 0x60,
     Status = 0x64,
 }
 
-// What a call lacked: a script byte for its next read, which was to be of this port, or two free log bytes for its next write.
+/// What a call lacked: a script byte for its next read, which was to be of this port, or two free
+/// log bytes for its next write.
 #[derive(Clone, Copy, PartialEq, Eq)]
 pub enum Lack {
     Script(ReadPort),
     Log,
 }
 
-// Why the controller or a device did not do what was asked, or was not asked. Each has a number (docs/REFUSALS.md).
+/// Why the controller or a device did not do what was asked, or was not asked. Each has a number
+/// (docs/REFUSALS.md).
 #[derive(Clone, Copy, PartialEq, Eq)]
 pub enum Failure {
     AlreadyInitialized = 1,
@@ -43,7 +45,7 @@ pub enum Failure {
     FieldOutsideValues = 28,
 }
 
-// Why a call ended without what it is for: it lacked a byte or room, or it failed.
+/// Why a call ended without what it is for: it lacked a byte or room, or it failed.
 #[derive(Clone, Copy, PartialEq, Eq)]
 pub enum Refusal {
     Lacking(Lack),
@@ -51,7 +53,7 @@ pub enum Refusal {
 }
 
 impl ReadPort {
-    // The port's number.
+    /// The port's number.
     pub fn number(self) -> u8
         ensures { result ≡ port_number (port_of self) }
     {
@@ -60,7 +62,7 @@ impl ReadPort {
 }
 
 impl Lack {
-    // The number of this lack, as an answer tells it.
+    /// The number of this lack, as an answer tells it.
     pub fn number(self) -> u8
         ensures { result ≡ lack_number (lack_of self) }
     {
@@ -72,7 +74,7 @@ impl Lack {
 }
 
 impl Failure {
-    // The number of this failure, as an answer tells it.
+    /// The number of this failure, as an answer tells it.
     pub fn number(self) -> u8
         ensures { result ≡ number_of self }
     {
@@ -81,7 +83,7 @@ impl Failure {
 }
 
 impl Refusal {
-    // The number of this refusal, as an answer tells it.
+    /// The number of this refusal, as an answer tells it.
     pub fn number(self) -> u8
         ensures { result ≡ refusal_number self }
     {
@@ -92,7 +94,7 @@ impl Refusal {
     }
 }
 
-// A value with the counts of what brought it: `used` script bytes, `pairs` written to the log.
+/// A value with the counts of what brought it: `used` script bytes, `pairs` written to the log.
 #[derive(Clone, Copy)]
 pub struct Counted<V> {
     pub value: V,
@@ -100,11 +102,11 @@ pub struct Counted<V> {
     pub pairs: usize,
 }
 
-// What an exchange answers: what it brought, or why it ended without; with the counts of either.
+/// What an exchange answers: what it brought, or why it ended without; with the counts of either.
 pub type Answer<T> = Result<Counted<T>, Counted<Refusal>>;
 
 impl<V: Copy> Counted<V> {
-    // A value before anything is read or written.
+    /// A value before anything is read or written.
     pub fn new(value: V) -> Counted<V>
         ensures { result ≡ counted value 0 0 }
     {
@@ -115,7 +117,7 @@ impl<V: Copy> Counted<V> {
         }
     }
 
-    // Another value with the same counts.
+    /// Another value with the same counts.
     pub fn with<W: Copy>(self, value: W) -> Counted<W>
         ensures { result ≡ counted value self.used self.pairs }
     {
@@ -126,7 +128,8 @@ impl<V: Copy> Counted<V> {
         }
     }
 
-    // The answer of the exchange that came next, with the counts of what came before it added. The sums wrap, which no counts of one script and log do.
+    /// The answer of the exchange that came next, with the counts of what came before it added. The
+    /// sums wrap, which no counts of one script and log do.
     pub fn then<W: Copy>(self, next: Answer<W>) -> Answer<W>
         ensures { result ≡ behind self next }
     {
@@ -144,7 +147,7 @@ impl<V: Copy> Counted<V> {
         }
     }
 
-    // The answer that an outcome comes to, with the same counts.
+    /// The answer that an outcome comes to, with the same counts.
     pub fn conclude<W: Copy>(self, outcome: Result<W, Failure>) -> Answer<W>
         ensures { result ≡ concluded self outcome }
     {
@@ -155,7 +158,8 @@ impl<V: Copy> Counted<V> {
     }
 }
 
-// The outcome of an exchange, for a caller that may forgive a failure. Nothing forgives a lack: it stays a refusal.
+/// The outcome of an exchange, for a caller that may forgive a failure. Nothing forgives a lack: it
+/// stays a refusal.
 pub fn outcome<T: Copy>(answer: Answer<T>) -> Answer<Result<T, Failure>>
     ensures { result ≡ outcome_of answer }
 {

@@ -8,27 +8,29 @@ use crate::Unlisted;
 
 // A device's command has its own `match`, as the types of data.rt have.
 
-// Commands to the controller itself, written to port 64. "Output" is what a device sends to the host, "input" what it gets.
+/// Commands to the controller itself, written to port 64. "Output" is what a device sends to the
+/// host, "input" what it gets.
+/// OSDev Wiki, "8042 PS/2 Controller", "PS/2 Controller Commands".
 #[derive(Clone, Copy, PartialEq, Eq)]
 pub enum HostToControllerCommand {
-    // Returns the configuration byte.
+    /// Returns the configuration byte.
     ReadFromInternalRAMByte0 = 0x20,
-    // Sets the configuration byte.
+    /// Sets the configuration byte.
     WriteToInternalRAMByte0 = 0x60,
-    // Sets `port2_clock_disabled`.
+    /// Sets `port2_clock_disabled`.
     DisablePort2 = 0xA7,
-    // Clears `port2_clock_disabled`.
+    /// Clears `port2_clock_disabled`.
     EnablePort2 = 0xA8,
-    // Returns a `PortTestResult`.
+    /// Returns a `PortTestResult`.
     TestPort2 = 0xA9,
     TestController = 0xAA,
-    // Returns a `PortTestResult`.
+    /// Returns a `PortTestResult`.
     TestPort1 = 0xAB,
-    // Sets `port1_clock_disabled`.
+    /// Sets `port1_clock_disabled`.
     DisablePort1 = 0xAD,
-    // Clears `port1_clock_disabled`.
+    /// Clears `port1_clock_disabled`.
     EnablePort1 = 0xAE,
-    // Sends the next byte to the second port.
+    /// Sends the next byte to the second port.
     WriteByteToPort2InputBuffer = 0xD4,
 }
 
@@ -40,18 +42,19 @@ impl From<HostToControllerCommand> for u8 {
     }
 }
 
-// Commands to the keyboard, written to port 60.
+/// Commands to the keyboard, written to port 60.
+/// OSDev Wiki, "PS/2 Keyboard", "Commands".
 #[derive(Clone, Copy, PartialEq, Eq)]
 pub enum HostToKeyboardCommand {
-    // Takes an `LEDState`.
+    /// Takes an `LEDState`.
     SetLEDStatus = 0xED,
-    // Takes a `ScancodeSet`.
+    /// Takes a `ScancodeSet`.
     ScancodeSet = 0xF0,
     IdentifyKeyboard = 0xF2,
-    // Also called typematic.
+    /// Also called typematic.
     SetRepeatRateAndDelay = 0xF3,
     EnableScanning = 0xF4,
-    // Might also restore default parameters.
+    /// Might also restore default parameters.
     DisableScanning = 0xF5,
     ResendByte = 0xFE,
     ResetAndStartSelfTest = 0xFF,
@@ -85,12 +88,13 @@ impl From<HostToKeyboardCommand> for u8 {
     }
 }
 
-// Commands to the mouse, written to port 60 after the controller command D4.
+/// Commands to the mouse, written to port 60 after the controller command D4.
+/// OSDev Wiki, "PS/2 Mouse".
 #[derive(Clone, Copy, PartialEq, Eq)]
 pub enum HostToMouseCommand {
-    // The Rust has this one byte for scaling 1 or 2; the wiki's E6 is 1:1.
+    /// The Rust has this one byte for scaling 1 or 2; the wiki's E6 is 1:1.
     SetScaling = 0xE6,
-    // Takes a `MouseResolution`.
+    /// Takes a `MouseResolution`.
     SetResolution = 0xE8,
     StatusRequest = 0xE9,
     SetStreamMode = 0xEA,
@@ -99,7 +103,7 @@ pub enum HostToMouseCommand {
     SetWrapMode = 0xEE,
     SetRemoteMode = 0xF0,
     GetDeviceID = 0xF2,
-    // Takes a `MouseSampleRate`.
+    /// Takes a `MouseSampleRate`.
     SampleRate = 0xF3,
     EnableDataReporting = 0xF4,
     DisableDataReporting = 0xF5,

@@ -15,7 +15,8 @@ use crate::Unlisted;
 
 // Each type's `match` on a byte is its table.
 
-// Data of the keyboard command `ScancodeSet`, and what the keyboard answers to `Get`, untranslated.
+/// Data of the keyboard command `ScancodeSet`, and what the keyboard answers to `Get`,
+/// untranslated.
 #[derive(Clone, Copy, PartialEq, Eq)]
 pub enum ScancodeSet {
     Get = 0,
@@ -48,7 +49,7 @@ impl From<ScancodeSet> for u8 {
     }
 }
 
-// Packets a second, data of the mouse command `SampleRate`.
+/// Packets a second, data of the mouse command `SampleRate`.
 #[derive(Clone, Copy, PartialEq, Eq)]
 pub enum MouseSampleRate {
     _10 = 10,
@@ -87,7 +88,7 @@ impl From<MouseSampleRate> for u8 {
     }
 }
 
-// Counts per millimetre, data of the mouse command `SetResolution`.
+/// Counts per millimetre, data of the mouse command `SetResolution`.
 #[derive(Clone, Copy, PartialEq, Eq)]
 pub enum MouseResolution {
     Count1PerMm = 0,

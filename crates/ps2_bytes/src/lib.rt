@@ -13,6 +13,6 @@ pub use writable::{
     HostToDevice, HostToKeyboardCommandOrData, HostToMouseCommandOrData, WritableData,
 };
 
-// A byte that stands for none of what it was read as.
+/// A byte that stands for none of what it was read as.
 #[derive(Clone, Copy, PartialEq, Eq)]
 pub struct Unlisted(pub u8);

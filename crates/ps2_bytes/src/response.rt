@@ -8,7 +8,7 @@ use crate::Unlisted;
 
 // As in data.rt, each type has its own `match`: its rows are what is to be read. A case has its number where a byte is made of it.
 
-// What a port test found.
+/// What a port test found.
 #[derive(Clone, Copy, PartialEq, Eq)]
 pub enum PortTestResult {
     Passed,
@@ -35,17 +35,18 @@ impl TryFrom<u8> for PortTestResult {
     }
 }
 
-// What a device answers to a command. Every other byte of a keyboard is a scancode; a mouse sends only AA, FC, FA, its identity and packets.
+/// What a device answers to a command. Every other byte of a keyboard is a scancode; a mouse sends
+/// only AA, FC, FA, its identity and packets.
 #[derive(Clone, Copy, PartialEq, Eq)]
 pub enum DeviceToHostResponse {
     KeyDetectionErrorOrInternalBufferOverrun1,
-    // Sent after a reset or at power up.
+    /// Sent after a reset or at power up.
     SelfTestPassed,
     ResponseToEcho,
     Acknowledge,
-    // Sent after a reset or at power up.
+    /// Sent after a reset or at power up.
     SelfTestFailed1,
-    // Sent after a reset or at power up.
+    /// Sent after a reset or at power up.
     SelfTestFailed2,
     ResendCommand,
     KeyDetectionErrorOrInternalBufferOverrun2,
@@ -71,14 +72,14 @@ impl TryFrom<u8> for DeviceToHostResponse {
     }
 }
 
-// A mouse's identity, which says what its packets hold.
+/// A mouse's identity, which says what its packets hold.
 #[derive(Clone, Copy, PartialEq, Eq)]
 pub enum MouseId {
-    // No wheel.
+    /// No wheel.
     Zero = 0,
-    // A wheel.
+    /// A wheel.
     Three = 3,
-    // A wheel and buttons 4 and 5.
+    /// A wheel and buttons 4 and 5.
     Four = 4,
 }
 
@@ -105,7 +106,7 @@ impl From<MouseId> for u8 {
     }
 }
 
-// What `keyboard_detect` recognises.
+/// What `keyboard_detect` recognises.
 #[derive(Clone, Copy, PartialEq, Eq)]
 pub enum KeyboardType {
     MF2Keyboard,

@@ -6,7 +6,7 @@ use crate::command::{HostToKeyboardCommand, HostToMouseCommand};
 use crate::data::{MouseResolution, MouseSampleRate, ScancodeSet};
 use ps2_layouts::{ControllerConfigurationByte, LEDState};
 
-// Kinds of data that can be written to port 60.
+/// Kinds of data that can be written to port 60.
 #[derive(Clone, Copy, PartialEq, Eq)]
 pub enum WritableData {
     Configuration(ControllerConfigurationByte),
@@ -24,7 +24,7 @@ impl From<WritableData> for u8 {
     }
 }
 
-// A byte for one of the devices. Each case holds an enum of its own.
+/// A byte for one of the devices. Each case holds an enum of its own.
 #[derive(Clone, Copy, PartialEq, Eq)]
 pub enum HostToDevice {
     Keyboard(HostToKeyboardCommandOrData),
@@ -42,13 +42,13 @@ impl From<HostToDevice> for u8 {
     }
 }
 
-// A byte for the keyboard.
+/// A byte for the keyboard.
 #[derive(Clone, Copy, PartialEq, Eq)]
 pub enum HostToKeyboardCommandOrData {
     KeyboardCommand(HostToKeyboardCommand),
     LEDState(LEDState),
     ScancodeSet(ScancodeSet),
-    // Data of `SetRepeatRateAndDelay`.
+    /// Data of `SetRepeatRateAndDelay`.
     RepeatRateAndDelay(u8),
 }
 
@@ -65,7 +65,7 @@ impl From<HostToKeyboardCommandOrData> for u8 {
     }
 }
 
-// A byte for the mouse.
+/// A byte for the mouse.
 #[derive(Clone, Copy, PartialEq, Eq)]
 pub enum HostToMouseCommandOrData {
     MouseCommand(HostToMouseCommand),

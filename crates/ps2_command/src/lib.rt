@@ -32,7 +32,7 @@ const SELF_TEST_PASSED: u8 = 0xAA;
 // A device's byte for a command that it accepts.
 const ACKNOWLEDGE: u8 = 0xFA;
 
-// What a command comes to, with the bytes that its whole run threw away.
+/// What a command comes to, with the bytes that its whole run threw away.
 pub type Commanded = Handed<()>;
 
 // What a response says of the command: whether it is accepted, or else another attempt is to be made; or why it failed.
@@ -136,8 +136,8 @@ fn command_pair_keeping(
     done.then(command_by_onto(&script[done.used..], &mut log[tail..], port, second, kept))
 }
 
-// The same, with the bytes kept before taken and given by value: they and those that the run threw
-// away, or none after 2 and 3.
+/// The same, with the bytes kept before taken and given by value: they and those that the run threw
+/// away, or none after 2 and 3.
 pub fn command_pair_onto(
     script: &[u8],
     log: &mut [u8],
@@ -194,7 +194,9 @@ fn two_to(port: DevicePort, log: &mut [u8], first: u8, second: u8) -> Option<usi
     }
 }
 
-// Two commands to a device that acknowledges both at once, and so throws nothing away: the pairs that they write. For any other device, and for a log without room, nothing is done, and the answer is `None`.
+/// Two commands to a device that acknowledges both at once, and so throws nothing away: the pairs
+/// that they write. For any other device, and for a log without room, nothing is done, and the
+/// answer is `None`.
 pub fn command_pair_at_once(
     script: &[u8],
     log: &mut [u8],
@@ -213,7 +215,8 @@ pub fn command_pair_at_once(
     two_to(port, log, u8::from(first), u8::from(second))
 }
 
-// A command to the device of either port, with no byte kept before it.
+/// A command to the device of either port, with no byte kept before it.
+/// At most four attempts. Refused: 2 to 5, self test failed (6), not acknowledged (7).
 pub fn command_by(script: &[u8], log: &mut [u8], port: DevicePort, value: HostToDevice) -> Commanded
     ensures { PlaysKeptTold (keeping_thrown (command_by port value)) script.now log.old result.answer log.new result.kept }
 {
@@ -225,7 +228,7 @@ pub fn command_by(script: &[u8], log: &mut [u8], port: DevicePort, value: HostTo
     }
 }
 
-// Two commands to a device, with no byte kept before them.
+/// Two commands to a device, with no byte kept before them.
 pub fn command_pair(
     script: &[u8],
     log: &mut [u8],
@@ -238,7 +241,7 @@ pub fn command_pair(
     command_pair_onto(script, log, port, first, second, none_kept())
 }
 
-// Reads data, without asking the status, until a device says that it passed its self test.
+/// Reads data, without asking the status, until a device says that it passed its self test.
 pub fn read_self_test_result(script: &[u8], reads: u32) -> Answer<()>
     ensures { ReadsTold (self_test_within reads) script.now result }
 {
@@ -251,7 +254,8 @@ pub fn read_self_test_result(script: &[u8], reads: u32) -> Answer<()>
     )
 }
 
-// A refusal from inside an operation that has a failure of its own; a used-up script and a full log are replaced by nothing.
+/// A refusal from inside an operation that has a failure of its own; a used-up script and a full
+/// log are replaced by nothing.
 pub fn refusing_as(e: Refusal, failure: Failure) -> Refusal
     ensures { result ≡ replaced_by failure e }
 {
@@ -261,7 +265,7 @@ pub fn refusing_as(e: Refusal, failure: Failure) -> Refusal
     }
 }
 
-// The answer of an operation with its refusals replaced by one of its own.
+/// The answer of an operation with its refusals replaced by one of its own.
 pub fn failing_as<T: Copy>(answer: Answer<T>, failure: Failure) -> Answer<T>
     ensures end { ended result ≡ told_end (renumbered (number_of failure)) (ended answer) }
     ensures used { used_of result ≡ used_of answer }

@@ -20,7 +20,9 @@ const ANCIENT: u8 = 0x00;
 
 const MF2: u8 = 0xAB;
 
-// Detects the type of the keyboard.
+/// Detects the type of the keyboard.
+/// OSDev Wiki, "8042 PS/2 Controller", "Detecting PS/2 Device Types". Refused: 2 to 7, unknown
+/// keyboard (12).
 pub fn keyboard_detect(script: &[u8], log: &mut [u8]) -> Answer<KeyboardType>
     ensures { told result log.new ≡ play keyboard_detect script.now log.old }
 {

@@ -14,7 +14,8 @@ use ps2_mouse::PS2Mouse;
 use ps2_ports::read_config;
 use ps2_setup::{disable_devices, enable_ports, quieted, test_ports, test_with, tried};
 
-// What is known of the controller: whether it was initialised, and which devices passed their reset then.
+/// What is known of the controller: whether it was initialised, and which devices passed their
+/// reset then.
 #[derive(Clone, Copy)]
 pub struct PS2Controller {
     pub initialized: bool,
@@ -22,19 +23,21 @@ pub struct PS2Controller {
     pub mouse_attached: bool,
 }
 
-// A keyboard that is attached. It has no record: what is done with one stands in ps2_keyboard.
+/// A keyboard that is attached. It has no record: what is done with one stands in ps2_keyboard.
 #[derive(Clone, Copy)]
 pub struct PS2Keyboard;
 
-// The answer of `init`, with the controller's record as it is left.
-// After 1, 8 or 9 the record is as it was passed.
+/// The answer of `init`, with the controller's record as it is left.
+/// After 1, 8 or 9 the record is as it was passed.
 #[derive(Clone, Copy)]
 pub struct Initialized {
     pub answer: Answer<()>,
     pub controller: PS2Controller,
 }
 
-// Initialises the controller, unless it was before. It becomes initialised only where all steps were done.
+/// Initialises the controller, unless it was before. It becomes initialised only where all steps
+/// were done.
+/// Refused: already initialized (1), 2, 3, controller test failed (8), port test failed (9).
 pub fn init(controller: PS2Controller, script: &[u8], log: &mut [u8]) -> Initialized
     ensures { PlaysLeftTold said_init (initialize controller) controller script.now log.old result.answer log.new result.controller }
 {
@@ -57,14 +60,14 @@ pub fn init(controller: PS2Controller, script: &[u8], log: &mut [u8]) -> Initial
 }
 
 impl PS2Controller {
-    // The keyboard, where its reset passed.
+    /// The keyboard, where its reset passed.
     pub fn keyboard_ref(self) -> Option<PS2Keyboard>
         ensures { result ≡ keyboard_ref self }
     {
         self.keyboard_attached.then_some(PS2Keyboard)
     }
 
-    // The mouse, where its reset passed.
+    /// The mouse, where its reset passed.
     pub fn mouse_ref(self) -> Option<PS2Mouse>
         ensures { result ≡ mouse_ref self }
     {

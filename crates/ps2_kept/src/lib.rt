@@ -8,10 +8,11 @@ ghost use Rattle.ps2_kept.specs.Added.{added};
 
 use ps2_answers::{Answer, Refusal};
 
-// The bytes that are kept; any further ones are only counted.
+/// The bytes that are kept; any further ones are only counted.
 pub const KEPT_LIMIT: usize = 16;
 
-// Bytes that were thrown away: the earliest, in order, in the first `count` places, and how many others there were.
+/// Bytes that were thrown away: the earliest, in order, in the first `count` places, and how many
+/// others there were.
 #[derive(Clone, Copy)]
 pub struct KeptBytes {
     pub bytes: [u8; KEPT_LIMIT],
@@ -19,15 +20,15 @@ pub struct KeptBytes {
     pub others: u32,
 }
 
-// An answer, with the bytes that the whole run threw away.
-// They are handed back with a failure too.
+/// An answer, with the bytes that the whole run threw away.
+/// They are handed back with a failure too.
 #[derive(Clone, Copy)]
 pub struct Handed<T> {
     pub answer: Answer<T>,
     pub kept: KeptBytes,
 }
 
-// No byte yet.
+/// No byte yet.
 pub fn none_kept() -> KeptBytes
     ensures { result ≡ nothing_kept }
 {
@@ -39,7 +40,8 @@ pub fn none_kept() -> KeptBytes
 }
 
 impl KeptBytes {
-    // One byte more: in the first free place, or counted. The count stops at its greatest number, which no operation of the ports reaches.
+    /// One byte more: in the first free place, or counted. The count stops at its greatest number,
+    /// which no operation of the ports reaches.
     #[tactic(auto, unfolding(crate::specs::Added::added))]
     pub fn add(&mut self, byte: u8)
         ensures { self.new ≡ added self.old byte }
@@ -53,14 +55,14 @@ impl KeptBytes {
         }
     }
 
-    // What is handed back beside an answer: nothing where the script was used up or the log full.
+    /// What is handed back beside an answer: nothing where the script was used up or the log full.
     pub fn after<T: Copy>(self, answer: Answer<T>) -> KeptBytes
         ensures { result ≡ kept_at (ended answer) self }
     {
         self.or_lent(none_kept(), answer)
     }
 
-    // The same of bytes that were lent: after 2 and 3 they are as they were lent.
+    /// The same of bytes that were lent: after 2 and 3 they are as they were lent.
     pub fn or_lent<T: Copy>(self, lent: KeptBytes, answer: Answer<T>) -> KeptBytes
         ensures { result ≡ kept_or lent (ended answer) self }
     {

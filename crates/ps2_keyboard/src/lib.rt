@@ -25,7 +25,8 @@ use ps2_ports::{DevicePort, read_data, status_register};
 // The most data reads of a reset, after the command.
 const RESET_READS: u32 = 262140;
 
-// A byte for the keyboard, by the command rule.
+/// A byte for the keyboard, by the command rule.
+/// Refused: 2 to 7.
 pub fn command_to_keyboard(
     script: &[u8],
     log: &mut [u8],
@@ -41,7 +42,9 @@ pub fn command_to_keyboard(
     )
 }
 
-// Resets the keyboard: it answers the command, and then says by a byte of its own that it passed its self test.
+/// Resets the keyboard: it answers the command, and then says by a byte of its own that it passed
+/// its self test.
+/// FF, then AA from the keyboard. Refused: 2 to 7, reset failed (10).
 pub fn reset_keyboard(script: &[u8], log: &mut [u8]) -> Answer<()>
     ensures { told result log.new ≡ play reset_keyboard script.now log.old }
 {
@@ -54,14 +57,15 @@ pub fn reset_keyboard(script: &[u8], log: &mut [u8]) -> Answer<()>
     sent.then(read_self_test_result(&script[sent.used..], RESET_READS))
 }
 
-// Sets the keyboard's lamps, and hands back the bytes that the exchange threw away.
+/// Sets the keyboard's lamps, and hands back the bytes that the exchange threw away.
+/// ED and the lamps' byte. Refused: 2, 3, LEDs not set (14).
 pub fn set_keyboard_led(script: &[u8], log: &mut [u8], value: LEDState) -> Commanded
     ensures { PlaysKeptTold (keeping_thrown (set_keyboard_led value)) script.now log.old result.answer log.new result.kept }
 {
     set_port_led_onto(script, log, DevicePort::Port1, value, none_kept())
 }
 
-// The same for the keyboard of either port, with what is thrown away behind the bytes kept before.
+/// The same for the keyboard of either port, with what is thrown away behind the bytes kept before.
 pub fn set_port_led_onto(
     script: &[u8],
     log: &mut [u8],
@@ -87,7 +91,8 @@ pub fn set_port_led_onto(
     }
 }
 
-// The same where the keyboard acknowledges both bytes at once: the pairs written, and `None` where it doesn't, or where the log has no room, and nothing is done.
+/// The same where the keyboard acknowledges both bytes at once: the pairs written, and `None` where
+/// it doesn't, or where the log has no room, and nothing is done.
 pub fn set_port_led_at_once(
     script: &[u8],
     log: &mut [u8],
@@ -107,7 +112,8 @@ pub fn set_port_led_at_once(
     )
 }
 
-// Sets the scancode set. That the keyboard then tells another one is no failure.
+/// Sets the scancode set. That the keyboard then tells another one is no failure.
+/// F0 and the set, then F0 and 00. Refused: 2 to 7, no set or identity (11).
 pub fn set_keyboard_scancode_set(script: &[u8], log: &mut [u8], value: ScancodeSet) -> Answer<()>
     ensures { told result log.new ≡ play (set_scancode_set value) script.now log.old }
 {
@@ -117,7 +123,8 @@ pub fn set_keyboard_scancode_set(script: &[u8], log: &mut [u8], value: ScancodeS
     Ok(told.with(()))
 }
 
-// Asks for the scancode set.
+/// Asks for the scancode set.
+/// F0 and 00; the keyboard answers the set. Refused: 2 to 7, no set or identity (11).
 pub fn get_keyboard_scancode_set(script: &[u8], log: &mut [u8]) -> Answer<ScancodeSet>
     ensures { told result log.new ≡ play get_scancode_set script.now log.old }
 {
@@ -162,7 +169,8 @@ fn poll_scancode_set(script: &[u8]) -> Answer<ScancodeSet>
     }
 }
 
-// Whether there is a byte of the keyboard to read.
+/// Whether there is a byte of the keyboard to read.
+/// One read of port 64. Refused: script ends (2).
 pub fn is_output_buffer_full(script: &[u8]) -> Answer<bool>
     ensures { ReadsTold keyboard_output_buffer_full script.now result }
 {
@@ -170,7 +178,8 @@ pub fn is_output_buffer_full(script: &[u8]) -> Answer<bool>
     Ok(status.with(status.value.output_buffer_full()))
 }
 
-// Reads a scancode, without asking the status.
+/// Reads a scancode, without asking the status.
+/// One read of port 60. Refused: script ends (2).
 pub fn read_scancode(script: &[u8]) -> Answer<u8>
     ensures { ReadsTold read_scancode script.now result }
 {

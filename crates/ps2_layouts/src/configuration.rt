@@ -23,7 +23,9 @@ const PORT1_SCANCODE_TRANSLATION_ENABLED: u8 = 6;
 
 const MUST_BE_ZERO: u8 = 7;
 
-// Features of the controller that are on or off. A setter gives the byte with one bit changed and the others kept.
+/// Features of the controller that are on or off. A setter gives the byte with one bit changed and
+/// the others kept.
+/// OSDev Wiki, "8042 PS/2 Controller", "PS/2 Controller Configuration Byte".
 #[derive(Clone, Copy, PartialEq, Eq)]
 pub struct ControllerConfigurationByte {
     bits: u8,
@@ -48,60 +50,63 @@ impl From<ControllerConfigurationByte> for u8 {
 
 // Bits are asked and changed by masks and shifts.
 impl ControllerConfigurationByte {
-    // Interrupt when the first port has a byte.
+    /// Interrupt when the first port has a byte.
     pub fn port1_interrupt_enabled(self) -> bool
         ensures { result ≡ bit port1_interrupt self.bits }
     {
         has(self.bits, PORT1_INTERRUPT_ENABLED)
     }
 
-    // Interrupt when the second port has a byte.
+    /// Interrupt when the second port has a byte.
     pub fn port2_interrupt_enabled(self) -> bool
         ensures { result ≡ bit port2_interrupt self.bits }
     {
         has(self.bits, PORT2_INTERRUPT_ENABLED)
     }
 
-    // Cleared on reset; set when the system passed its self test.
+    /// Cleared on reset; set when the system passed its self test.
     pub fn system_passed_self_test(self) -> bool
         ensures { result ≡ bit system_flag self.bits }
     {
         has(self.bits, SYSTEM_PASSED_SELF_TEST)
     }
 
+    /// Bit 3, which should be 0, as 0 or 1.
     pub fn should_be_zero(self) -> u8
         ensures { result ≡ weigh (bit should_be_zero self.bits) }
     {
         bit_of(self.bits, SHOULD_BE_ZERO)
     }
 
-    // Disables the keyboard.
+    /// Disables the keyboard.
     pub fn port1_clock_disabled(self) -> bool
         ensures { result ≡ bit port1_clock_disabled self.bits }
     {
         has(self.bits, PORT1_CLOCK_DISABLED)
     }
 
-    // Disables the mouse. As read at initialisation, set means that there is a second port.
+    /// Disables the mouse. As read at initialisation, set means that there is a second port.
     pub fn port2_clock_disabled(self) -> bool
         ensures { result ≡ bit port2_clock_disabled self.bits }
     {
         has(self.bits, PORT2_CLOCK_DISABLED)
     }
 
-    // The controller translates scancode set 2 to set 1.
+    /// The controller translates scancode set 2 to set 1.
     pub fn port1_scancode_translation_enabled(self) -> bool
         ensures { result ≡ bit port1_translation self.bits }
     {
         has(self.bits, PORT1_SCANCODE_TRANSLATION_ENABLED)
     }
 
+    /// Bit 7, which must be 0, as 0 or 1.
     pub fn must_be_zero(self) -> u8
         ensures { result ≡ weigh (bit must_be_zero self.bits) }
     {
         bit_of(self.bits, MUST_BE_ZERO)
     }
 
+    /// With bit 0 set or cleared: the first port interrupts.
     pub fn set_port1_interrupt_enabled(self, value: bool) -> Self
         ensures { result.bits ≡ put_bit port1_interrupt value self.bits }
     {
@@ -110,6 +115,7 @@ impl ControllerConfigurationByte {
         }
     }
 
+    /// With bit 1 set or cleared: the second port interrupts.
     pub fn set_port2_interrupt_enabled(self, value: bool) -> Self
         ensures { result.bits ≡ put_bit port2_interrupt value self.bits }
     {
@@ -118,6 +124,7 @@ impl ControllerConfigurationByte {
         }
     }
 
+    /// With bit 4 set or cleared: the first port's clock stands.
     pub fn set_port1_clock_disabled(self, value: bool) -> Self
         ensures { result.bits ≡ put_bit port1_clock_disabled value self.bits }
     {
@@ -126,6 +133,7 @@ impl ControllerConfigurationByte {
         }
     }
 
+    /// With bit 5 set or cleared: the second port's clock stands.
     pub fn set_port2_clock_disabled(self, value: bool) -> Self
         ensures { result.bits ≡ put_bit port2_clock_disabled value self.bits }
     {
@@ -134,6 +142,7 @@ impl ControllerConfigurationByte {
         }
     }
 
+    /// With bit 6 set or cleared: scancodes of set 2 become those of set 1.
     pub fn set_port1_scancode_translation_enabled(self, value: bool) -> Self
         ensures { result.bits ≡ put_bit port1_translation value self.bits }
     {

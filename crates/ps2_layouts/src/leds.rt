@@ -13,7 +13,8 @@ const NUMBER_LOCK: u8 = 1;
 
 const CAPS_LOCK: u8 = 2;
 
-// The keyboard's LEDs, data of `SetLEDStatus`.
+/// The keyboard's LEDs, data of `SetLEDStatus`.
+/// OSDev Wiki, "PS/2 Keyboard", "Commands", ED.
 #[derive(Clone, Copy, PartialEq, Eq)]
 pub struct LEDState {
     bits: u8,
@@ -37,31 +38,35 @@ impl From<LEDState> for u8 {
 }
 
 impl LEDState {
-    // All off.
+    /// All off.
     pub fn new() -> Self
         ensures { result.bits ≡ 0 }
     {
         LEDState { bits: 0 }
     }
 
+    /// Bit 0: the lamp of Scroll Lock.
     pub fn scroll_lock(self) -> bool
         ensures { result ≡ bit scroll_lock self.bits }
     {
         has(self.bits, SCROLL_LOCK)
     }
 
+    /// Bit 1: the lamp of Num Lock.
     pub fn number_lock(self) -> bool
         ensures { result ≡ bit number_lock self.bits }
     {
         has(self.bits, NUMBER_LOCK)
     }
 
+    /// Bit 2: the lamp of Caps Lock.
     pub fn caps_lock(self) -> bool
         ensures { result ≡ bit caps_lock self.bits }
     {
         has(self.bits, CAPS_LOCK)
     }
 
+    /// With the lamp of Scroll Lock on or off.
     pub fn with_scroll_lock(self, value: bool) -> Self
         ensures { result.bits ≡ put_bit scroll_lock value self.bits }
     {
@@ -70,6 +75,7 @@ impl LEDState {
         }
     }
 
+    /// With the lamp of Num Lock on or off.
     pub fn with_number_lock(self, value: bool) -> Self
         ensures { result.bits ≡ put_bit number_lock value self.bits }
     {
@@ -78,6 +84,7 @@ impl LEDState {
         }
     }
 
+    /// With the lamp of Caps Lock on or off.
     pub fn with_caps_lock(self, value: bool) -> Self
         ensures { result.bits ≡ put_bit caps_lock value self.bits }
     {

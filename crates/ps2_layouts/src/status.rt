@@ -22,7 +22,8 @@ const TIMEOUT_ERROR: u8 = 6;
 
 const PARITY_ERROR: u8 = 7;
 
-// What the controller says of its buffers.
+/// What the controller says of its buffers.
+/// OSDev Wiki, "8042 PS/2 Controller", "Status Register".
 #[derive(Clone, Copy, PartialEq, Eq)]
 pub struct ControllerToHostStatus {
     bits: u8,
@@ -48,56 +49,56 @@ impl From<ControllerToHostStatus> for u8 {
 // Bits are asked by masks and shifts. The system flag is the
 // configuration's too, but a bit of another register.
 impl ControllerToHostStatus {
-    // Must be set before port 60 is read.
+    /// Must be set before port 60 is read.
     pub fn output_buffer_full(self) -> bool
         ensures { result ≡ bit output_buffer_full self.bits }
     {
         has(self.bits, OUTPUT_BUFFER_FULL)
     }
 
-    // Must be clear before port 60 or 64 is written.
+    /// Must be clear before port 60 or 64 is written.
     pub fn input_buffer_full(self) -> bool
         ensures { result ≡ bit input_buffer_full self.bits }
     {
         has(self.bits, INPUT_BUFFER_FULL)
     }
 
-    // Cleared on reset; set when the system passed its self test.
+    /// Cleared on reset; set when the system passed its self test.
     pub fn system_passed_self_test(self) -> bool
         ensures { result ≡ bit system_flag self.bits }
     {
         has(self.bits, SYSTEM_PASSED_SELF_TEST)
     }
 
-    // 0: what was written is data for a device; 1: it is a controller command.
+    /// 0: what was written is data for a device; 1: it is a controller command.
     pub fn input_buffer_is_command(self) -> u8
         ensures { result ≡ weigh (bit input_is_command self.bits) }
     {
         bit_of(self.bits, INPUT_BUFFER_IS_COMMAND)
     }
 
-    // Chipset specific; unused on modern systems.
+    /// Chipset specific; unused on modern systems.
     pub fn keyboard_enabled(self) -> bool
         ensures { result ≡ bit keyboard_lock self.bits }
     {
         has(self.bits, KEYBOARD_ENABLED)
     }
 
-    // Like `output_buffer_full`, for the mouse.
+    /// Like `output_buffer_full`, for the mouse.
     pub fn mouse_output_buffer_full(self) -> bool
         ensures { result ≡ bit second_port_output_full self.bits }
     {
         has(self.bits, MOUSE_OUTPUT_BUFFER_FULL)
     }
 
-    // The keyboard was too late with a command or a response.
+    /// The keyboard was too late with a command or a response.
     pub fn timeout_error(self) -> bool
         ensures { result ≡ bit time_out_error self.bits }
     {
         has(self.bits, TIMEOUT_ERROR)
     }
 
-    // Even parity was received.
+    /// Even parity was received.
     pub fn parity_error(self) -> bool
         ensures { result ≡ bit parity_error self.bits }
     {

@@ -30,21 +30,22 @@ use ps2_ports::{DevicePort, flush_output_buffer, read_data, status_register};
 // The most data reads of a reset: three times the polls of a search.
 const RESET_READS: u32 = 196605;
 
-// The mouse as its record says it is. A mouse's packets go by its identity.
+/// The mouse as its record says it is. A mouse's packets go by its identity.
 #[derive(Clone, Copy)]
 pub struct PS2Mouse {
     pub id: MouseId,
 }
 
 impl PS2Mouse {
-    // The record of a mouse that has been asked nothing yet.
+    /// The record of a mouse that has been asked nothing yet.
     pub fn new() -> Self
         ensures { result ≡ fresh_mouse }
     {
         PS2Mouse { id: MouseId::Zero }
     }
 
-    // Resets the mouse, which then says that it passed its self test and names its identity, 0.
+    /// Resets the mouse, which then says that it passed its self test and names its identity, 0.
+    /// FF, then AA from the mouse, then its identity. Refused: 2 to 7, reset failed (10).
     pub fn reset(script: &[u8], log: &mut [u8]) -> Answer<()>
         ensures { told result log.new ≡ play reset_mouse script.now log.old }
     {
@@ -52,7 +53,8 @@ impl PS2Mouse {
         accepted.then(read_self_test_and_id(&script[accepted.used..]))
     }
 
-    // Sends a byte to the mouse by the command rule.
+    /// Sends a byte to the mouse by the command rule.
+    /// Each attempt writes D4 to port 64 first. Refused: 2 to 7.
     pub fn command_to_mouse(
         script: &[u8],
         log: &mut [u8],
@@ -63,7 +65,8 @@ impl PS2Mouse {
         command_by(script, log, DevicePort::Port2, HostToDevice::Mouse(value))
     }
 
-    // Sets the mouse's sampling rate.
+    /// Sets the mouse's sampling rate.
+    /// F3 and the rate. Refused: 2, 3, rate or resolution not set (15).
     pub fn set_mouse_sampling_rate(
         script: &[u8],
         log: &mut [u8],
@@ -79,7 +82,8 @@ impl PS2Mouse {
         )
     }
 
-    // Asks the mouse for its identity. Its packets are to be stopped.
+    /// Asks the mouse for its identity. Its packets are to be stopped.
+    /// F2; the mouse answers its identity. Refused: 2 to 7, no set or identity (11).
     pub fn mouse_id(script: &[u8], log: &mut [u8]) -> Answer<MouseId>
         ensures { told result log.new ≡ play mouse_id_rule script.now log.old }
     {
@@ -87,7 +91,8 @@ impl PS2Mouse {
         accepted.then(receive_mouse_id(&script[accepted.used..]))
     }
 
-    // Starts the packets.
+    /// Starts the packets.
+    /// F4. Refused: 2, 3, packets not started (17).
     pub fn enable_mouse_packet_streaming(script: &[u8], log: &mut [u8]) -> Answer<()>
         ensures { told result log.new ≡ play enable_packet_streaming script.now log.old }
     {
@@ -95,7 +100,8 @@ impl PS2Mouse {
         failing_as(done, Failure::PacketsNotStarted)
     }
 
-    // Stops the packets.
+    /// Stops the packets.
+    /// F5. Refused: 2, 3, packets not stopped (16).
     pub fn disable_mouse_packet_streaming(script: &[u8], log: &mut [u8]) -> Answer<()>
         ensures { told result log.new ≡ play disable_packet_streaming script.now log.old }
     {
@@ -103,7 +109,8 @@ impl PS2Mouse {
         failing_as(done, Failure::PacketsNotStopped)
     }
 
-    // Sets the mouse's resolution.
+    /// Sets the mouse's resolution.
+    /// E8 and the resolution. Refused: 2, 3, rate or resolution not set (15).
     pub fn mouse_resolution(script: &[u8], log: &mut [u8], value: MouseResolution) -> Answer<()>
         ensures { told result log.new ≡ play (set_resolution value) script.now log.old }
     {
@@ -115,21 +122,27 @@ impl PS2Mouse {
         )
     }
 
-    // Reads the packet that a mouse of this identity sends, without asking the status. Its wheel at identity 4 is the Rust's, 0 to 15.
+    /// Reads the packet that a mouse of this identity sends, without asking the status. Its wheel
+    /// at identity 4 is the Rust's, 0 to 15.
+    /// 3 reads of port 60 at identity 0, 4 at 3 and 4. Refused: script ends (2).
     pub fn read_mouse_packet(self, script: &[u8]) -> Answer<MousePacket>
         ensures { ReadsTold (read_mouse_packet self.id) script.now result }
     {
         read_packet(self.id, script)
     }
 
-    // Reads the same packet with the wheel at identity 4 signed, -8 to 7. A new program should read packets by this one.
+    /// Reads the same packet with the wheel at identity 4 signed, -8 to 7. A new program should
+    /// read packets by this one.
+    /// 3 reads of port 60 at identity 0, 4 at 3 and 4. Refused: script ends (2).
     pub fn read_signed_packet(self, script: &[u8]) -> Answer<SignedPacket>
         ensures { ReadsTold (read_signed_packet self.id) script.now result }
     {
         read_signed_packet(self.id, script)
     }
 
-    // Whether there is a byte of the mouse to read. Bit 0 alone would also be set for the FA before an identity.
+    /// Whether there is a byte of the mouse to read. Bit 0 alone would also be set for the FA
+    /// before an identity.
+    /// One read of port 64. Refused: script ends (2).
     pub fn is_output_buffer_full(script: &[u8]) -> Answer<bool>
         ensures { ReadsTold mouse_output_buffer_full script.now result }
     {

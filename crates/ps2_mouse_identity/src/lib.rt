@@ -13,15 +13,18 @@ use ps2_answers::{Answer, Counted, Failure, Refusal, outcome};
 use ps2_bytes::{MouseId, MouseSampleRate};
 use ps2_mouse::PS2Mouse;
 
-// An answer, with the mouse's record as it is left.
-// A refusal leaves a record too.
+/// An answer, with the mouse's record as it is left.
+/// A refusal leaves a record too.
 #[derive(Clone, Copy)]
 pub struct MouseLeft {
     pub answer: Answer<()>,
     pub mouse: PS2Mouse,
 }
 
-// Sets the record's identity to the highest that the mouse takes on: a sequence of sampling rates asks it to.
+/// Sets the record's identity to the highest that the mouse takes on: a sequence of sampling rates
+/// asks it to.
+/// Refused: 2, 3, first identity four (13), rate or resolution not set (15), packets not stopped
+/// (16), packets not started (17).
 pub fn set_mouse_id(mouse: PS2Mouse, script: &[u8], log: &mut [u8]) -> MouseLeft
     ensures { PlaysLeftTold said_mouse (set_mouse_id mouse) mouse script.now log.old result.answer log.new result.mouse }
 {

@@ -27,7 +27,9 @@ enum FourByteId {
     Four,
 }
 
-// Reads the packet that a mouse of this identity sends, without asking the status. Its wheel at identity 4 is the Rust's, 0 to 15.
+/// Reads the packet that a mouse of this identity sends, without asking the status. Its wheel at
+/// identity 4 is the Rust's, 0 to 15.
+/// 3 reads of port 60 at identity 0, 4 at 3 and 4. Refused: script ends (2).
 pub fn read_packet(id: MouseId, script: &[u8]) -> Answer<MousePacket>
     ensures { ReadsTold (read_mouse_packet id) script.now result }
 {
@@ -35,7 +37,9 @@ pub fn read_packet(id: MouseId, script: &[u8]) -> Answer<MousePacket>
     first.then(read_after_three(&script[first.used..], first.value, id))
 }
 
-// Reads the same packet with the wheel at identity 4 signed, -8 to 7, as the OSDev wiki has it. A new program should read packets by this one.
+/// Reads the same packet with the wheel at identity 4 signed, -8 to 7, as the OSDev wiki has it. A
+/// new program should read packets by this one.
+/// 3 reads of port 60 at identity 0, 4 at 3 and 4. Refused: script ends (2).
 pub fn read_signed_packet(id: MouseId, script: &[u8]) -> Answer<SignedPacket>
     ensures { ReadsTold (read_signed_packet id) script.now result }
 {

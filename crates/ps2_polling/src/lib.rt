@@ -22,7 +22,8 @@ use ps2_ports::{read_data, status_register, write_command, write_data};
 // The most status reads of a sending.
 const SEND_TRIES: u8 = 255;
 
-// The most polls of a receiving, of a port test and of a search for a byte, and data reads of the controller's test.
+/// The most polls of a receiving, of a port test and of a search for a byte, and data reads of the
+/// controller's test.
 pub const POLL_LIMIT: u32 = 65535;
 
 // A port's answer to its test where it passed. The wait compares bytes: any other uses up its turn,
@@ -32,20 +33,21 @@ const PORT_TEST_PASSED: u8 = 0x00;
 // The controller's answer to its test where it passed.
 const CONTROLLER_TEST_PASSED: u8 = 0x55;
 
-// What one poll answers: the byte that it brought, or that there was none.
+/// What one poll answers: the byte that it brought, or that there was none.
 pub type Polled = Answer<Option<u8>>;
 
-// How a byte is waited for: by polls, or by data reads that do not ask the status.
+/// How a byte is waited for: by polls, or by data reads that do not ask the status.
 #[derive(Clone, Copy, PartialEq, Eq)]
 pub enum Waiting {
     Polls,
     DataReads,
 }
 
-// A device's response, with the bytes that were thrown away before it.
+/// A device's response, with the bytes that were thrown away before it.
 pub type Received = Handed<DeviceToHostResponse>;
 
-// Has the controller test itself.
+/// Has the controller test itself.
+/// AA, which a controller in order answers with 55. Refused: 2, 3, controller test failed (8).
 pub fn test(script: &[u8], log: &mut [u8]) -> Answer<()>
     ensures { told result log.new ≡ play test_controller script.now log.old }
 {
@@ -53,14 +55,16 @@ pub fn test(script: &[u8], log: &mut [u8]) -> Answer<()>
     written.then(read_controller_test_result(script))
 }
 
-// Has the controller test the keyboard's port.
+/// Has the controller test the keyboard's port.
+/// AB, which a port in order answers with 00. Refused: 2, 3, port test failed (9).
 pub fn test_port1(script: &[u8], log: &mut [u8]) -> Answer<()>
     ensures { told result log.new ≡ play (test_port TestPort1) script.now log.old }
 {
     test_port(script, log, HostToControllerCommand::TestPort1)
 }
 
-// Has the controller test the mouse's port.
+/// Has the controller test the mouse's port.
+/// A9, which a port in order answers with 00. Refused: 2, 3, port test failed (9).
 pub fn test_port2(script: &[u8], log: &mut [u8]) -> Answer<()>
     ensures { told result log.new ≡ play (test_port TestPort2) script.now log.old }
 {
@@ -75,7 +79,7 @@ fn test_port(script: &[u8], log: &mut [u8], command: HostToControllerCommand) ->
     written.then(match_port_test_result(script))
 }
 
-// Polls until a port test's answer says that the port passed.
+/// Polls until a port test's answer says that the port passed.
 pub fn match_port_test_result(script: &[u8]) -> Answer<()>
     ensures { ReadsTold port_test_result script.now result }
 {
@@ -88,7 +92,7 @@ pub fn match_port_test_result(script: &[u8]) -> Answer<()>
     )
 }
 
-// Reads data, without asking the status, until the controller says that it passed its test.
+/// Reads data, without asking the status, until the controller says that it passed its test.
 pub fn read_controller_test_result(script: &[u8]) -> Answer<()>
     ensures { ReadsTold controller_test_result script.now result }
 {
@@ -101,7 +105,7 @@ pub fn read_controller_test_result(script: &[u8]) -> Answer<()>
     )
 }
 
-// Waits for the byte that says that a test was passed; any other uses up its turn.
+/// Waits for the byte that says that a test was passed; any other uses up its turn.
 // A bounded `loop` that yields by `break`, here and below.
 pub fn read_test_result(
     script: &[u8],
@@ -139,8 +143,8 @@ fn take_turn(script: &[u8], waiting: Waiting) -> Polled
     }
 }
 
-// One attempt: sends a byte, then receives the response. What is thrown away is added to the bytes
-// that are lent; after 2 and 3 they are as they were lent.
+/// One attempt: sends a byte, then receives the response. What is thrown away is added to the bytes
+/// that are lent; after 2 and 3 they are as they were lent.
 pub fn polling_send_receive(
     script: &[u8],
     log: &mut [u8],
@@ -156,7 +160,8 @@ pub fn polling_send_receive(
     received
 }
 
-// Writes a byte for a device as soon as the status says that the last one was taken.
+/// Writes a byte for a device as soon as the status says that the last one was taken.
+/// At most 255 reads of the status. Refused: 2, 3, input buffer full (4).
 pub fn polling_send(script: &[u8], log: &mut [u8], value: HostToDevice) -> Answer<()>
     ensures { told result log.new ≡ play (polling_send value) script.now log.old }
 {
@@ -175,7 +180,9 @@ pub fn polling_send(script: &[u8], log: &mut [u8], value: HostToDevice) -> Answe
     }
 }
 
-// Polls until a device's response comes; an unlisted byte is thrown away and uses up its poll. The bytes that were are handed back.
+/// Polls until a device's response comes; an unlisted byte is thrown away and uses up its poll. The
+/// bytes that were are handed back.
+/// At most 65,535 polls. Refused: 2, no response (5).
 pub fn polling_receive(script: &[u8]) -> Received
     ensures { ReadsKeptTold (keeping_thrown polling_receive) script.now result.answer result.kept }
 {
@@ -209,7 +216,7 @@ fn polling_receive_keeping(script: &[u8], kept: &mut KeptBytes) -> Answer<Device
     }
 }
 
-// One poll: reads the status, and data where the status says that there is some.
+/// One poll: reads the status, and data where the status says that there is some.
 pub fn poll_data(script: &[u8]) -> Polled
     ensures { ReadsTurn polled poll_data script.now result }
 {

@@ -11,13 +11,15 @@ use ps2_answers::{Answer, Counted, Lack, ReadPort, Refusal};
 use ps2_bytes::{HostToControllerCommand, WritableData};
 use ps2_layouts::{ControllerConfigurationByte, ControllerToHostStatus};
 
-// Data to and from the controller and its devices.
+/// Data to and from the controller and its devices.
+/// OSDev Wiki, "8042 PS/2 Controller", "PS/2 Controller IO Ports".
 pub const PS2_DATA_PORT: u8 = 0x60;
 
-// Commands to the controller, and its status.
+/// Commands to the controller, and its status.
+/// OSDev Wiki, "8042 PS/2 Controller", "PS/2 Controller IO Ports".
 pub const PS2_COMMAND_AND_STATUS_PORT: u8 = 0x64;
 
-// The ports of the two devices.
+/// The ports of the two devices.
 #[derive(Clone, Copy, PartialEq, Eq)]
 pub enum DevicePort {
     Port1,
@@ -54,14 +56,16 @@ fn write_port(log: &mut [u8], port: u8, value: u8) -> Answer<()>
     })
 }
 
-// Writes a command to the command port.
+/// Writes a command to the command port.
+/// One pair: port 64 and the command. Refused: log full (3).
 pub fn write_command(log: &mut [u8], value: HostToControllerCommand) -> Answer<()>
     ensures { WritesTold (write_command value) log.old result log.new }
 {
     write_port(log, PS2_COMMAND_AND_STATUS_PORT, u8::from(value))
 }
 
-// Reads the configuration byte.
+/// Reads the configuration byte.
+/// Writes 20 to port 64, and reads port 60. Refused: script ends (2), log full (3).
 pub fn read_config(script: &[u8], log: &mut [u8]) -> Answer<ControllerConfigurationByte>
     ensures { told result log.new ≡ play read_config script.now log.old }
 {
@@ -70,7 +74,8 @@ pub fn read_config(script: &[u8], log: &mut [u8]) -> Answer<ControllerConfigurat
     Ok(read.with(ControllerConfigurationByte::from(read.value)))
 }
 
-// Writes the configuration byte.
+/// Writes the configuration byte.
+/// Writes 60 to port 64, and the byte to port 60. Refused: log full (3).
 pub fn write_config(log: &mut [u8], value: ControllerConfigurationByte) -> Answer<()>
     ensures { WritesTold (write_config value) log.old result log.new }
 {
@@ -79,7 +84,8 @@ pub fn write_config(log: &mut [u8], value: ControllerConfigurationByte) -> Answe
     written.then(write_data(&mut log[at..], WritableData::Configuration(value)))
 }
 
-// Reads the status.
+/// Reads the status.
+/// One read of port 64. Refused: script ends (2).
 pub fn status_register(script: &[u8]) -> Answer<ControllerToHostStatus>
     ensures { ReadsTold read_status script.now result }
 {
@@ -87,21 +93,24 @@ pub fn status_register(script: &[u8]) -> Answer<ControllerToHostStatus>
     Ok(read.with(ControllerToHostStatus::from(read.value)))
 }
 
-// Drops one byte of data, without asking whether there is one.
+/// Drops one byte of data, without asking whether there is one.
+/// One read of port 60. Refused: script ends (2).
 pub fn flush_output_buffer(script: &[u8]) -> Answer<()>
     ensures { ReadsTold flush_output_buffer script.now result }
 {
     Ok(read_data(script)?.with(()))
 }
 
-// Reads a byte of data.
+/// Reads a byte of data.
+/// One read of port 60. Refused: script ends (2).
 pub fn read_data(script: &[u8]) -> Answer<u8>
     ensures { ReadsTold read_data script.now result }
 {
     read_port(script, ReadPort::Data)
 }
 
-// Writes a byte of data.
+/// Writes a byte of data.
+/// One pair: port 60 and the byte. Refused: log full (3).
 pub fn write_data(log: &mut [u8], value: WritableData) -> Answer<()>
     ensures { WritesTold (write_data value) log.old result log.new }
 {

@@ -12,14 +12,15 @@ use ps2_bytes::MouseId;
 // The bit of a packet's first byte that is always set.
 const ALWAYS_ONE: u8 = 3;
 
-// Why a pass ended before the recording did: a packet, or a byte to drop, found no room in its output.
+/// Why a pass ended before the recording did: a packet, or a byte to drop, found no room in its
+/// output.
 #[derive(Clone, Copy, Debug, PartialEq, Eq)]
 pub enum SalvageRefusal {
     NoRoom = 30,
 }
 
 impl SalvageRefusal {
-    // The number of a refusal, as an answer tells it.
+    /// The number of a refusal, as an answer tells it.
     pub fn number(self) -> u8
         ensures { result ≡ refusal_number self }
     {
@@ -27,7 +28,9 @@ impl SalvageRefusal {
     }
 }
 
-// What a pass gives back, the counts with a refusal too: whether it came to the recording's end or to a tail too short for a packet, how many bytes of the recording it used, and how much it wrote to each output.
+/// What a pass gives back, the counts with a refusal too: whether it came to the recording's end or
+/// to a tail too short for a packet, how many bytes of the recording it used, and how much it wrote
+/// to each output.
 #[derive(Clone, Copy)]
 pub struct Salvaged {
     pub answer: Result<(), SalvageRefusal>,
@@ -86,8 +89,11 @@ fn pass<const LENGTH: usize>(bytes: &[u8], packets: &mut [u8], positions: &mut [
     }
 }
 
-// Salvages a recording of a mouse of this identity: at a packet's start a byte with bit 3 clear is dropped and its position listed, otherwise a whole packet is written.
-// A tail too short for a packet is left; what finds no room in its output ends the pass and is not used. What was not written stays as it was.
+/// Salvages a recording of a mouse of this identity: at a packet's start a byte with bit 3 clear is
+/// dropped and its position listed, otherwise a whole packet is written.
+/// A tail too short for a packet is left; what finds no room in its output ends the pass and is not
+/// used. What was not written stays as it was.
+/// Refused: no room (30).
 pub fn salvage(id: MouseId, bytes: &[u8], packets: &mut [u8], positions: &mut [u64]) -> Salvaged
     ensures { Leaves (salvaged id (length packets.old) (length positions.old) bytes.now) packets.old positions.old result packets.new positions.new }
 {

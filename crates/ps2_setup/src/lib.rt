@@ -17,13 +17,15 @@ use ps2_layouts::ControllerConfigurationByte;
 use ps2_polling::{test, test_port1, test_port2};
 use ps2_ports::{DevicePort, flush_output_buffer, read_config, write_command, write_config};
 
+/// Which of the two ports passed its test.
 #[derive(Clone, Copy)]
 pub struct WorkingPorts {
     pub port_1_works: bool,
     pub port_2_works: bool,
 }
 
-// Disables both ports, and reads the configuration.
+/// Disables both ports, and reads the configuration.
+/// AD and A7, a read of port 60, then the configuration. Refused: 2, 3.
 pub fn disable_devices(script: &[u8], log: &mut [u8]) -> Answer<ControllerConfigurationByte>
     ensures { told result log.new ≡ play disable_devices script.now log.old }
 {
@@ -39,8 +41,8 @@ pub fn disable_devices(script: &[u8], log: &mut [u8]) -> Answer<ControllerConfig
     flushed.then(read_config(&script[flushed.used..], &mut log[2 * flushed.pairs..]))
 }
 
-// Step 5: Set the Controller Configuration Byte
-// Neither port interrupts, and scancodes are not translated.
+/// Step 5: Set the Controller Configuration Byte
+/// Neither port interrupts, and scancodes are not translated.
 pub fn quieted(config: ControllerConfigurationByte) -> ControllerConfigurationByte
     ensures { result ≡ quieted_rule config }
 {
@@ -50,8 +52,9 @@ pub fn quieted(config: ControllerConfigurationByte) -> ControllerConfigurationBy
         .set_port1_scancode_translation_enabled(false)
 }
 
-// Step 6: Perform Controller Self Test
-// The controller's own test, with the configuration written before it and again after it: the test can reset the controller.
+/// Step 6: Perform Controller Self Test
+/// The controller's own test, with the configuration written before it and again after it: the test
+/// can reset the controller.
 pub fn test_with(script: &[u8], log: &mut [u8], config: ControllerConfigurationByte) -> Answer<()>
     ensures { told result log.new ≡ play (test_with config) script.now log.old }
 {
@@ -60,8 +63,8 @@ pub fn test_with(script: &[u8], log: &mut [u8], config: ControllerConfigurationB
     tested.then(write_config(&mut log[2 * tested.pairs..], config))
 }
 
-// Step 8: Perform Interface Tests
-// The tests of both ports; that one of them fails is forgiven, and one that passed is enough.
+/// Step 8: Perform Interface Tests
+/// The tests of both ports; that one of them fails is forgiven, and one that passed is enough.
 pub fn test_ports(script: &[u8], log: &mut [u8], has_mouse: bool) -> Answer<WorkingPorts>
     ensures { told result log.new ≡ play (test_ports has_mouse) script.now log.old }
 {
@@ -92,7 +95,8 @@ fn test_second(script: &[u8], log: &mut [u8], has_mouse: bool) -> Answer<bool>
     }
 }
 
-// Whether a step worked, where its failure is forgiven. Nothing forgives a lack: it is the only refusal that is answered.
+/// Whether a step worked, where its failure is forgiven. Nothing forgives a lack: it is the only
+/// refusal that is answered.
 pub fn tried(answer: Answer<()>) -> Answer<bool>
     ensures { Forgiven answer result }
 {
@@ -100,8 +104,8 @@ pub fn tried(answer: Answer<()>) -> Answer<bool>
     Ok(done.with(done.value.is_ok()))
 }
 
-// Step 9: Enable Devices
-// Enables the ports that passed, and then writes the configuration that says so.
+/// Step 9: Enable Devices
+/// Enables the ports that passed, and then writes the configuration that says so.
 pub fn enable_ports(
     log: &mut [u8],
     ports: WorkingPorts,

@@ -78,7 +78,7 @@ pub enum Request {
     Write(ReadPort, u8),
 }
 
-// What a turn's first byte comes to.
+/// What a turn's first byte comes to.
 #[derive(Clone, Copy)]
 pub enum Worth {
     Found,

@@ -11,18 +11,20 @@ ghost use Rattle.report.specs.Narrow.{narrow_limits, report_of};
 ghost use Rattle.report.specs.Runs.{add};
 ghost use Rattle.std.proofs.Common.{rules};
 
+/// The report in 64 bits.
 pub mod long;
+/// The numbers of a session.
 pub mod sessions;
 
 use crate::sessions::{Totals, tally};
 use ps2_bytes::MouseId;
 
-// A count or a sum would be outside its range.
+/// A count or a sum would be outside its range.
 #[derive(Clone, Copy)]
 pub struct OutOfRange;
 
 impl OutOfRange {
-    // The number of this refusal, as an answer tells it.
+    /// The number of this refusal, as an answer tells it.
     pub fn number(self) -> u8
         ensures { result ≡ refusal_number self }
     {
@@ -30,7 +32,7 @@ impl OutOfRange {
     }
 }
 
-// The number of an answer: 0 where nothing is refused.
+/// The number of an answer: 0 where nothing is refused.
 pub fn answer_number(answer: Result<(), OutOfRange>) -> u8
     ensures { result ≡ answer_number answer }
 {
@@ -40,7 +42,7 @@ pub fn answer_number(answer: Result<(), OutOfRange>) -> u8
     }
 }
 
-// What a report's numbers may be: counts up to one number, sums from one to another.
+/// What a report's numbers may be: counts up to one number, sums from one to another.
 #[derive(Clone, Copy)]
 pub struct Limits {
     pub count: u64,
@@ -83,7 +85,7 @@ fn add_sum(low: i64, high: i64, old: i64, more: i64) -> Result<i64, OutOfRange>
     }
 }
 
-// Totals with others added to them, where every number is within the limits then.
+/// Totals with others added to them, where every number is within the limits then.
 pub fn settle(limits: Limits, old: Totals, more: Totals) -> Result<Totals, OutOfRange>
     ensures { result ≡ fitting limits (plus old more) }
 {
@@ -97,7 +99,7 @@ pub fn settle(limits: Limits, old: Totals, more: Totals) -> Result<Totals, OutOf
 
 // ---- the mean
 
-// How far a number is from 0, less 1 below 0.
+/// How far a number is from 0, less 1 below 0.
 pub fn magnitude(z: i64) -> u64
     ensures { result ≡ mag z }
 {
@@ -107,7 +109,7 @@ pub fn magnitude(z: i64) -> u64
     z as u64
 }
 
-// A whole quotient, rounded down, and the remainder, which is below the packet count.
+/// A whole quotient, rounded down, and the remainder, which is below the packet count.
 #[derive(Clone, Copy)]
 pub struct WholeMean {
     pub quotient: i64,
@@ -135,7 +137,7 @@ fn divide(sum: i64, packets: u64) -> WholeMean
     }
 }
 
-// The mean of a sum over so many packets, where there are any.
+/// The mean of a sum over so many packets, where there are any.
 pub fn mean_of(sum: i64, packets: u64) -> Option<WholeMean>
     ensures { result ≡ mean_of sum packets }
 {
@@ -147,7 +149,7 @@ pub fn mean_of(sum: i64, packets: u64) -> Option<WholeMean>
 
 // ---- the report of a season
 
-// A report of one width: what its numbers may be, and which they are.
+/// A report of one width: what its numbers may be, and which they are.
 pub trait Season: Copy {
     ghost use Rattle.report.specs.declared.sessions.Totals.{Totals};
     ghost use Rattle.report.specs.declared.Limits.{Limits};
@@ -200,7 +202,7 @@ pub trait Season: Copy {
 
 // ---- the report in 32 bits
 
-// Presses for each key, packets, and sums of x and y, as C has them.
+/// Presses for each key, packets, and sums of x and y, as C has them.
 #[repr(C)]
 #[derive(Clone, Copy)]
 pub struct Report {
@@ -244,7 +246,7 @@ fn narrow_counts(counts: [u64; 94]) -> [u32; 94]
 }
 
 impl Report {
-    // A report of no session.
+    /// A report of no session.
     pub fn empty() -> Report
         ensures { result ≡ report_of no_totals }
     {

@@ -8,7 +8,7 @@ ghost use Rattle.report.specs.Long.{long_of, widened};
 use crate::sessions::Totals;
 use crate::{Limits, Report, Season};
 
-// Presses for each key, packets, and sums of x and y.
+/// Presses for each key, packets, and sums of x and y.
 #[repr(C)]
 #[derive(Clone, Copy)]
 pub struct LongReport {
@@ -16,7 +16,7 @@ pub struct LongReport {
 }
 
 impl LongReport {
-    // A report of no session.
+    /// A report of no session.
     pub fn empty() -> LongReport
         ensures { result ≡ long_of no_totals }
     {
@@ -30,7 +30,7 @@ impl LongReport {
         }
     }
 
-    // An old report, with no number changed.
+    /// An old report, with no number changed.
     pub fn widen(old: Report) -> LongReport
         ensures { result ≡ widened old }
     {

@@ -18,7 +18,8 @@ const KEYS: usize = 94;
 // Sums over fewer bytes fit 64 bits, since a packet moves by at most 256.
 const TALLY_BYTES: usize = 18014398509481984;
 
-// Presses by keycode, packets, and sums of x and y. C reads them as they lie, so the counts are an array.
+/// Presses by keycode, packets, and sums of x and y. C reads them as they lie, so the counts are an
+/// array.
 #[repr(C)]
 #[derive(Clone, Copy)]
 pub struct Totals {
@@ -36,8 +37,9 @@ struct Moved {
     y: i64,
 }
 
-// An event as a report takes it, in one byte: the keycode's number where it is a press, and from 128 on where it is a release.
-// C lends a session's events as such bytes.
+/// An event as a report takes it, in one byte: the keycode's number where it is a press, and from
+/// 128 on where it is a release.
+/// C lends a session's events as such bytes.
 pub fn event_code(event: KeyEvent) -> u8
     ensures { result ≡ event_code event }
 {
@@ -102,8 +104,10 @@ fn tally_mouse(id: MouseId, bytes: &[u8]) -> Moved
     }
 }
 
-// What a session brings: the presses among its events, each as `event_code` has it, and the packets of its mouse bytes with their movements.
-// Nothing where its mouse bytes are too many to be summed: they are more packets than a report can count.
+/// What a session brings: the presses among its events, each as `event_code` has it, and the
+/// packets of its mouse bytes with their movements.
+/// Nothing where its mouse bytes are too many to be summed: they are more packets than a report can
+/// count.
 pub fn tally(id: MouseId, events: &[u8], mouse: &[u8]) -> Option<Totals>
     ensures { result ≡ tallied (record { id = id; events = events.now; mouse = mouse.now }) }
 {

@@ -13,7 +13,8 @@ use argument_words::{INVALID_ARGUMENT, identity_of};
 use report::long::LongReport;
 use report::{Report, Season, WholeMean, answer_number};
 
-// What adding a session answers: the refusal's number, 0 where there is none; and the report after it. C has a struct for each width.
+/// What adding a session answers: the refusal's number, 0 where there is none; and the report after
+/// it. C has a struct for each width.
 #[repr(C)]
 #[derive(Clone, Copy)]
 pub struct ReportAddedWords {
@@ -21,6 +22,7 @@ pub struct ReportAddedWords {
     pub report: Report,
 }
 
+/// The same, of a report in 64 bits.
 #[repr(C)]
 #[derive(Clone, Copy)]
 pub struct LongAddedWords {
@@ -28,7 +30,8 @@ pub struct LongAddedWords {
     pub report: LongReport,
 }
 
-// A mean, where one is present (1) and not absent (0): a whole quotient and the remainder. C has no `Option`.
+/// A mean, where one is present (1) and not absent (0): a whole quotient and the remainder. C has
+/// no `Option`.
 #[repr(C)]
 #[derive(Clone, Copy)]
 pub struct MeanWords {
@@ -65,13 +68,14 @@ fn mean_words(mean: Option<WholeMean>) -> MeanWords
     }
 }
 
-// The mean movement sideways, and upwards, of a report of either width.
+/// The mean movement sideways, and upwards, of a report of either width.
 pub fn mean_x<R: Season>(report: R) -> MeanWords
     ensures { result ≡ mean_words (mean_of (R.told report).x (R.told report).packets) }
 {
     mean_words(report.mean_x())
 }
 
+/// The mean movement up or down, of a report of either width.
 pub fn mean_y<R: Season>(report: R) -> MeanWords
     ensures { result ≡ mean_words (mean_of (R.told report).y (R.told report).packets) }
 {
@@ -80,14 +84,14 @@ pub fn mean_y<R: Season>(report: R) -> MeanWords
 
 // ---- the report in 32 bits
 
-// A report of no session.
+/// A report of no session.
 pub fn report_empty() -> Report
     ensures { result ≡ report_of no_totals }
 {
     Report::empty()
 }
 
-// A report with a session more, of a mouse whose identity is 0, 3 or 4: 255 where it is another.
+/// A report with a session more, of a mouse whose identity is 0, 3 or 4: 255 where it is another.
 pub fn report_add(
     mut report: Report,
     identity: u32,
@@ -102,21 +106,21 @@ pub fn report_add(
 
 // ---- the report in 64 bits
 
-// An old report, with no number changed.
+/// An old report, with no number changed.
 pub fn report_widen(report: Report) -> LongReport
     ensures { result ≡ widened report }
 {
     LongReport::widen(report)
 }
 
-// A report of no session.
+/// A report of no session.
 pub fn long_report_empty() -> LongReport
     ensures { result ≡ long_of no_totals }
 {
     LongReport::empty()
 }
 
-// A report with a session more, of a mouse whose identity is 0, 3 or 4: 255 where it is another.
+/// A report with a session more, of a mouse whose identity is 0, 3 or 4: 255 where it is another.
 pub fn long_report_add(
     mut long: LongReport,
     identity: u32,

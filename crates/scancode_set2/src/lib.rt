@@ -8,7 +8,7 @@ use translation::{AFTER_F0, ALONE, ALONE_FROM_80};
 
 mod translation;
 
-// Why a conversion ends before its stream does: 22, 23 and 24 by number.
+/// Why a conversion ends before its stream does: 22, 23 and 24 by number.
 #[derive(Clone, Copy, Debug, PartialEq, Eq)]
 pub enum ConvertRefusal {
     NoEntry = 22,
@@ -17,7 +17,7 @@ pub enum ConvertRefusal {
 }
 
 impl ConvertRefusal {
-    // The number of a refusal, as an answer tells it.
+    /// The number of a refusal, as an answer tells it.
     pub fn number(self) -> u8
         ensures { result ≡ refusal_number self }
     {
@@ -25,7 +25,8 @@ impl ConvertRefusal {
     }
 }
 
-// An answer with its counts, which are told with a refusal too: bytes of the stream used, bytes of the output written.
+/// An answer with its counts, which are told with a refusal too: bytes of the stream used, bytes of
+/// the output written.
 #[derive(Clone, Copy)]
 pub struct Conversion {
     pub answer: Result<(), ConvertRefusal>,
@@ -42,7 +43,10 @@ const NO_ENTRY: u8 = 0x00;
 // From here on a code has the top bit: F0, E0 and E1, and two keys.
 const TOP_BIT: u8 = 0x80;
 
-// Converts a set 2 key stream to set 1, from the start of both slices on. Behind the bytes written the output stays as it was.
+/// Converts a set 2 key stream to set 1, from the start of both slices on. Behind the bytes written
+/// the output stays as it was.
+/// Refused: no entry (22), output full (23), ends after F0 (24). OSDev Wiki, "PS/2 Keyboard", "Scan
+/// Code Set 2"; the conversion is Brouwer's, "Keyboard scancodes".
 pub fn convert(stream: &[u8], out: &mut [u8]) -> Conversion
     ensures { outcome (said_converted result.answer) result.used result.written out.new ≡ converted stream.now out.old }
 {

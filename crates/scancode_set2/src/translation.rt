@@ -1,7 +1,7 @@
 // The 8042's translation of scan code set 2 to set 1 on one page, as the code reads it.
 
-// The byte of set 1 that each code below 80 becomes by itself, in rows of sixteen; 00 where it has
-// no entry.
+/// The byte of set 1 that each code below 80 becomes by itself, in rows of sixteen; 00 where it has
+/// no entry.
 pub static ALONE: [u8; 128] = *b"\
     \x00\x43\x41\x3F\x3D\x3B\x3C\x58\x64\x44\x42\x40\x3E\x0F\x29\x59\
     \x65\x38\x2A\x70\x1D\x10\x02\x5A\x66\x71\x2C\x1F\x1E\x11\x03\x5B\
@@ -12,9 +12,9 @@ pub static ALONE: [u8; 128] = *b"\
     \x55\x56\x77\x78\x79\x7A\x0E\x7B\x7C\x4F\x7D\x4B\x47\x7E\x7F\x6F\
     \x52\x53\x50\x4C\x4D\x48\x01\x45\x57\x4E\x51\x4A\x37\x49\x46\x54";
 
-// The same of each code from 80 on: 83 and 84 have entries, E0 and E1 pass through.
-// A table of its own, for speed: with one for all codes the two arms that read it became one, and
-// a long stream took 1.2 times as long.
+/// The same of each code from 80 on: 83 and 84 have entries, E0 and E1 pass through.
+/// A table of its own, for speed: with one for all codes the two arms that read it became one, and
+/// a long stream took 1.2 times as long.
 pub static ALONE_FROM_80: [u8; 128] = *b"\
     \x00\x00\x00\x41\x54\x00\x00\x00\x00\x00\x00\x00\x00\x00\x00\x00\
     \x00\x00\x00\x00\x00\x00\x00\x00\x00\x00\x00\x00\x00\x00\x00\x00\
@@ -25,7 +25,7 @@ pub static ALONE_FROM_80: [u8; 128] = *b"\
     \xE0\xE1\x00\x00\x00\x00\x00\x00\x00\x00\x00\x00\x00\x00\x00\x00\
     \x00\x00\x00\x00\x00\x00\x00\x00\x00\x00\x00\x00\x00\x00\x00\x00";
 
-// The byte that each code becomes after F0: its entry with the top bit set.
+/// The byte that each code becomes after F0: its entry with the top bit set.
 pub static AFTER_F0: [u8; 256] = *b"\
     \x00\xC3\xC1\xBF\xBD\xBB\xBC\xD8\xE4\xC4\xC2\xC0\xBE\x8F\xA9\xD9\
     \xE5\xB8\xAA\xF0\x9D\x90\x82\xDA\xE6\xF1\xAC\x9F\x9E\x91\x83\xDB\

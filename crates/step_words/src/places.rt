@@ -18,6 +18,7 @@ fn port_at(word: u64) -> Option<ReadPort>
     }
 }
 
+/// The byte that a number is, and none for one above 255.
 pub fn byte_at(word: u64) -> Option<u8>
     ensures { result ≡ below 256 word }
 {
@@ -89,14 +90,14 @@ pub fn going_at(kind: u64, first: u64, second: u64, third: u64) -> Option<Going>
     }))
 }
 
-// What is waited for, in two numbers.
+/// What is waited for, in two numbers.
 #[derive(Clone, Copy)]
 pub struct Two {
     pub kind: u64,
     pub first: u64,
 }
 
-// The numbers of a place.
+/// The numbers of a place.
 #[derive(Clone, Copy)]
 pub struct Four {
     pub kind: u64,

@@ -32,7 +32,7 @@ pub struct RequestWords {
     pub refusal: u32,
 }
 
-// A refusal before anything is asked.
+/// A refusal before anything is asked.
 pub fn refusing_request(refusal: u32) -> RequestWords
     ensures { result ≡ refusing refusal }
 {
@@ -44,7 +44,7 @@ pub fn refusing_request(refusal: u32) -> RequestWords
     }
 }
 
-// A request as numbers.
+/// A request as numbers.
 pub fn request_words(request: Request) -> RequestWords
     ensures { result ≡ request_numbers (Asks request) }
 {

@@ -17,6 +17,7 @@ use questions::{Question, Sought};
 // The turns of a sending, of a poll for a byte and of the keyboard's self test, behind the first.
 const FURTHER_TRIES: u32 = 254;
 
+/// The polls of a receiving behind the first: 65,535 in all.
 pub const FURTHER_POLLS: u32 = 65534;
 
 // The attempts that a command has.
@@ -32,6 +33,7 @@ pub fn write<P: Partner>(partner: &mut P, port: ReadPort, value: u8) -> Result<(
 }
 
 /// Writes a command to the controller.
+/// One pair: port 64 and the command. Refused: log full (3).
 pub fn write_command<P: Partner>(
     partner: &mut P,
     command: HostToControllerCommand,
@@ -58,6 +60,7 @@ pub fn seek<P: Partner>(
 }
 
 /// Reads a byte of data, without asking the status.
+/// One read of port 60. Refused: script ends (2).
 pub fn read_data<P: Partner>(partner: &mut P) -> Result<u8, Stop>
     ensures { by result partner.new ≡ heard P.replies talk.read_data partner.old }
 {
@@ -72,6 +75,7 @@ pub fn read_status<P: Partner>(partner: &mut P) -> Result<u8, Stop>
 }
 
 /// Sends a byte to a device, once the input buffer is free.
+/// At most 255 reads of the status. Refused: 2, 3, input buffer full (4).
 #[tactic(auto, unfolding(crate::specs::Commands::send, crate::specs::Heard::heard))]
 pub fn polling_send<P: Partner>(partner: &mut P, value: HostToDevice) -> Result<(), Stop>
     ensures { by result partner.new ≡ heard P.replies (talk.send value) partner.old }
@@ -96,6 +100,7 @@ fn response_of(byte: u8) -> Result<DeviceToHostResponse, Stop>
 }
 
 /// Receives a device's response.
+/// At most 65,535 polls. Refused: 2, no response (5).
 #[tactic(auto, unfolding(crate::specs::Commands::receive, crate::specs::Heard::heard))]
 pub fn polling_receive<P: Partner>(partner: &mut P) -> Result<DeviceToHostResponse, Stop>
     ensures { by result partner.new ≡ heard P.replies talk.receive partner.old }
@@ -166,6 +171,7 @@ pub fn command<P: Partner>(partner: &mut P, value: HostToDevice) -> Result<(), S
 }
 
 /// A command to the device of either port.
+/// At most four attempts. Refused: 2 to 5, self test failed (6), not acknowledged (7).
 #[tactic(auto, unfolding(crate::specs::Commands::command_by, crate::specs::Heard::heard))]
 pub fn command_by<P: Partner>(
     partner: &mut P,

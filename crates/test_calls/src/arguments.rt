@@ -5,7 +5,7 @@ ghost use Rattle.test_calls.specs.Arguments.{set_at};
 
 use ps2_bytes::ScancodeSet;
 
-// The scancode set of a number, of which 0 asks.
+/// The scancode set of a number, of which 0 asks.
 pub fn set_of(number: u32) -> Option<ScancodeSet>
     ensures { said_found result ≡ set_at number }
 {

@@ -19,7 +19,7 @@ pub struct NotedWords {
     pub bytes: [u8; 16],
 }
 
-// The number of the refusal that a text with which the Rust fails stands for; its one panic is 13.
+/// The number of the refusal that a text with which the Rust fails stands for; its one panic is 13.
 pub fn number_of(text: &'static str) -> u32
     ensures { result ≡ number_in messages text.now }
 {
@@ -83,15 +83,15 @@ fn later_number_of(text: &'static str) -> u32
     }
 }
 
-// What a call answers by numbers, and the log that was lent to it.
+/// What a call answers by numbers, and the log that was lent to it.
 #[derive(Drop)]
 pub struct Run<'a, W: Copy> {
     pub words: W,
     pub log: &'a mut [u8],
 }
 
-// What the call answers, and the log that the recording had. A log on its own the prover follows to
-// its end, and one in a recording that was lent on it does not.
+/// What the call answers, and the log that the recording had. A log on its own the prover follows
+/// to its end, and one in a recording that was lent on it does not.
 pub fn run_of<'a, W: Copy>(words: W, left: Recording<'a>) -> Run<'a, W>
     ensures words { result.words ≡ words }
     ensures log { result.log ≡ left.entry.log }
@@ -100,7 +100,7 @@ pub fn run_of<'a, W: Copy>(words: W, left: Recording<'a>) -> Run<'a, W>
     Run { words, log }
 }
 
-// A recording of a script and a log, of which nothing is used or written yet.
+/// A recording of a script and a log, of which nothing is used or written yet.
 pub fn begun_recording<'a>(script: &'a [u8], log: &'a mut [u8]) -> Recording<'a>
     ensures starts { Starts script.now log.old result }
     ensures same_log { result.log.ghost_name ≡ log.entry.ghost_name }
@@ -116,7 +116,7 @@ pub fn begun_recording<'a>(script: &'a [u8], log: &'a mut [u8]) -> Recording<'a>
     }
 }
 
-// A controller over one.
+/// A controller over one.
 pub fn begun<'a>(script: &'a [u8], log: &'a mut [u8]) -> PS2Controller<Recording<'a>>
     ensures starts { Starts script.now log.old result.hardware }
     ensures same_log { result.hardware.log.ghost_name ≡ log.entry.ghost_name }
@@ -169,7 +169,7 @@ fn with_bytes(answer: PortWords, kept: KeptBytes) -> NotedWords
     }
 }
 
-// What a function of the Rust answered, and how it left its recording.
+/// What a function of the Rust answered, and how it left its recording.
 pub fn recorded_words<V: Value>(rusts: Result<V, &'static str>, left: &Recording<'_>) -> NotedWords
     ensures { result ≡ told_recorded V.worth (said rusts.entry) left.now }
 {
@@ -177,7 +177,7 @@ pub fn recorded_words<V: Value>(rusts: Result<V, &'static str>, left: &Recording
     with_bytes(answer, if left.short { none_kept() } else { left.thrown })
 }
 
-// A refusal before anything is read.
+/// A refusal before anything is read.
 pub fn refusing_noted_words(refusal: u32) -> NotedWords
     ensures { result ≡ refusing_noted refusal }
 {

@@ -7,7 +7,7 @@ ghost use Rattle.theseus_calls.specs.Arguments.{set_at};
 
 use ps2_bytes::{HostToKeyboardCommand, HostToMouseCommand, ScancodeSet};
 
-// The command to the keyboard that is sent as this byte.
+/// The command to the keyboard that is sent as this byte.
 pub fn keyboard_command_of(byte: u32) -> Option<HostToKeyboardCommand>
     ensures { said_found result ≡ command_at byte }
 {
@@ -15,7 +15,7 @@ pub fn keyboard_command_of(byte: u32) -> Option<HostToKeyboardCommand>
     HostToKeyboardCommand::try_from(byte).ok()
 }
 
-// The command to the mouse that is sent as this byte.
+/// The command to the mouse that is sent as this byte.
 pub fn mouse_command_of(byte: u32) -> Option<HostToMouseCommand>
     ensures { said_found result ≡ mouse_command_at byte }
 {
@@ -23,7 +23,7 @@ pub fn mouse_command_of(byte: u32) -> Option<HostToMouseCommand>
     HostToMouseCommand::try_from(byte).ok()
 }
 
-// The scancode set of a number, of which 0 asks.
+/// The scancode set of a number, of which 0 asks.
 pub fn set_of(number: u32) -> Option<ScancodeSet>
     ensures { said_found result ≡ set_at number }
 {

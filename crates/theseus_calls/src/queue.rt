@@ -13,7 +13,7 @@ use theseus_keyboard::{Queue, ps2_keyboard_handler};
 use theseus_keycodes::{KeyAction, KeyEvent, KeyboardModifiers, Keycode};
 use theseus_ps2::{Hardware, PS2Controller, PS2Keyboard, Recording};
 
-// The queue: in the first `count` places wait events, the oldest first.
+/// The queue: in the first `count` places wait events, the oldest first.
 #[derive(Drop)]
 pub struct Places {
     pub events: [KeyEvent; 128],

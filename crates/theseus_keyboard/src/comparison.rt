@@ -20,7 +20,7 @@ use keyboard_sides::Side;
 use theseus_keycodes::KeyboardModifiers;
 use theseus_ps2::{Both, Hardware, PS2Controller, PS2Keyboard, Recording, start};
 
-// What a call of ours gave back, and how the Rust's hardware was left.
+/// What a call of ours gave back, and how the Rust's hardware was left.
 #[derive(Drop)]
 pub struct BothCalls<'a> {
     pub ours: Handled,
@@ -40,7 +40,8 @@ fn rusts_handle<H: Hardware + Drop, Q: Queue>(
     ps2_keyboard_handler(&mut keyboard, queue, kbd_modifiers, extended_scancode);
 }
 
-// A handler call: where the record says what the Rust has, it says so afterwards, and bytes used, writes and answers are equal.
+/// A handler call: where the record says what the Rust has, it says so afterwards, and bytes used,
+/// writes and answers are equal.
 pub fn both_handle<'a, Q: Queue>(
     handler: KeyboardHandler,
     script: &'a [u8],
@@ -61,8 +62,8 @@ pub fn both_handle<'a, Q: Queue>(
     }
 }
 
-// A handler call for either side of any table, under either profile, whatever waits: beside it the
-// Rust's handler for that side's keyboard alone, which reads the oldest waiting byte first.
+/// A handler call for either side of any table, under either profile, whatever waits: beside it the
+/// Rust's handler for that side's keyboard alone, which reads the oldest waiting byte first.
 pub fn both_handle_alone<'a, Q: Queue>(
     handler: KeyboardHandler,
     side: Side,
@@ -96,7 +97,7 @@ fn rusts_init<H: Hardware + Drop>(controller: &mut PS2Controller<H>) -> Result<(
     init(&mut keyboard)
 }
 
-// Keyboard initialisation. A fresh record, as ours gives, says what the Rust's statics begin with.
+/// Keyboard initialisation. A fresh record, as ours gives, says what the Rust's statics begin with.
 pub fn both_keyboard_init<'a>(
     table: Table,
     script: &'a [u8],

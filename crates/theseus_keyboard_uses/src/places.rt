@@ -8,7 +8,7 @@ use theseus_keycodes::{KeyAction, KeyEvent, KeyboardModifiers, Keycode};
 // The places of the Rust's queue.
 const PLACES: usize = 128;
 
-// The events wait in the first of its places, the oldest first.
+/// The events wait in the first of its places, the oldest first.
 #[derive(Drop)]
 pub struct Places {
     pub events: [KeyEvent; PLACES],
@@ -16,7 +16,7 @@ pub struct Places {
 }
 
 impl Places {
-    // An empty queue.
+    /// An empty queue.
     pub fn new() -> Self
         ensures { result.count ≡ 0 }
     {

@@ -11,32 +11,35 @@ use keycodes_ascii::{
     KeyAction as OurAction, KeyEvent as OurEvent, Keycode as OurKeycode, NoKeycode as OurNoKeycode,
 };
 
-// What the two come to.
+/// What the two come to.
 #[derive(Clone, Copy)]
 pub struct BothKeycodes {
     pub ours: Result<OurKeycode, OurNoKeycode>,
     pub rusts: Result<Keycode, NoKeycode>,
 }
 
+/// A key's character by ours and by the Rust.
 #[derive(Clone, Copy)]
 pub struct BothCharacters {
     pub ours: Option<u8>,
     pub rusts: Option<char>,
 }
 
+/// An event of ours, and the Rust's.
 #[derive(Clone, Copy)]
 pub struct BothEvents {
     pub ours: OurEvent,
     pub rusts: KeyEvent,
 }
 
+/// What ours and the Rust answer to one question.
 #[derive(Clone, Copy)]
 pub struct BothAnswers {
     pub ours: bool,
     pub rusts: bool,
 }
 
-// What is asked of the two flags words: of ours by our list, of the Rust's by its own.
+/// What is asked of the two flags words: of ours by our list, of the Rust's by its own.
 #[derive(Clone, Copy)]
 pub struct BothQuestions {
     pub shift: BothAnswers,
@@ -49,7 +52,7 @@ pub struct BothQuestions {
     pub scroll_lock: BothAnswers,
 }
 
-// The keycode of a byte: both have it, or neither has one.
+/// The keycode of a byte: both have it, or neither has one.
 pub fn both_try_from(byte: u8) -> BothKeycodes
     ensures { result_ok result.ours ≡ read_as_ours result.rusts }
 {
@@ -59,7 +62,7 @@ pub fn both_try_from(byte: u8) -> BothKeycodes
     }
 }
 
-// The character of a key under some flags.
+/// The character of a key under some flags.
 pub fn both_to_ascii(
     our_keycode: OurKeycode,
     our_modifiers: OurModifiers,
@@ -74,7 +77,7 @@ pub fn both_to_ascii(
     }
 }
 
-// The character of a byte.
+/// The character of a byte.
 pub fn both_scancode_to_ascii(
     our_modifiers: OurModifiers,
     modifiers: KeyboardModifiers,
@@ -88,7 +91,7 @@ pub fn both_scancode_to_ascii(
     }
 }
 
-// Whether a key is a letter.
+/// Whether a key is a letter.
 pub fn both_is_letter(our_keycode: OurKeycode, keycode: Keycode) -> BothAnswers
     ensures { our_keycode ≡ ours keycode → result.ours ≡ result.rusts }
 {
@@ -98,7 +101,7 @@ pub fn both_is_letter(our_keycode: OurKeycode, keycode: Keycode) -> BothAnswers
     }
 }
 
-// A key event.
+/// A key event.
 pub fn both_new_event(
     our_keycode: OurKeycode,
     our_press: OurAction,
@@ -115,7 +118,7 @@ pub fn both_new_event(
     }
 }
 
-// What is asked of flags.
+/// What is asked of flags.
 pub fn both_questions(our_modifiers: OurModifiers, modifiers: KeyboardModifiers) -> BothQuestions
     ensures shift { our_modifiers ≡ ours_modifiers modifiers → result.shift.ours ≡ result.shift.rusts }
     ensures control { our_modifiers ≡ ours_modifiers modifiers → result.control.ours ≡ result.control.rusts }

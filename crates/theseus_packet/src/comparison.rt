@@ -9,7 +9,7 @@ use ps2_packet::{
     MousePacketGeneric as OurPacketGeneric,
 };
 
-// All that is asked of a packet.
+/// All that is asked of a packet.
 #[derive(Clone, Copy)]
 pub struct PacketAnswers {
     pub button_left: bool,
@@ -23,6 +23,7 @@ pub struct PacketAnswers {
     pub button_5: bool,
 }
 
+/// What ours and the Rust answer of one packet.
 #[derive(Clone, Copy)]
 pub struct BothPackets {
     pub ours: PacketAnswers,
@@ -61,7 +62,7 @@ fn our_packet(id: MouseId, byte1: u8, byte2: u8, byte3: u8, byte4: u8) -> OurPac
     }
 }
 
-// A packet of these bytes; at identity 0 the fourth is none of it.
+/// A packet of these bytes; at identity 0 the fourth is none of it.
 pub fn both_packet(id: MouseId, byte1: u8, byte2: u8, byte3: u8, byte4: u8) -> BothPackets
     ensures { result.ours ≡ result.rusts }
 {

@@ -23,6 +23,7 @@ use ps2_ports::{
     write_data,
 };
 
+/// The Rust's `write_command` on the script and its log, and ours on the same: they agree.
 pub fn both_write_command<'a>(
     script: &'a [u8],
     log: &mut [u8],
@@ -41,6 +42,7 @@ pub fn both_write_command<'a>(
     }
 }
 
+/// The Rust's `read_config` on the script and its log, and ours on the same: they agree.
 pub fn both_read_config<'a>(
     script: &'a [u8],
     log: &mut [u8],
@@ -58,6 +60,7 @@ pub fn both_read_config<'a>(
     }
 }
 
+/// The Rust's `write_config` on the script and its log, and ours on the same: they agree.
 pub fn both_write_config<'a>(
     script: &'a [u8],
     log: &mut [u8],
@@ -76,6 +79,7 @@ pub fn both_write_config<'a>(
     }
 }
 
+/// The Rust's `status_register` on the script and its log, and ours on the same: they agree.
 pub fn both_status_register<'a>(
     script: &'a [u8],
     rusts_log: &'a mut [u8],
@@ -92,6 +96,7 @@ pub fn both_status_register<'a>(
     }
 }
 
+/// The Rust's `flush_output_buffer` on the script and its log, and ours on the same: they agree.
 pub fn both_flush_output_buffer<'a>(
     script: &'a [u8],
     rusts_log: &'a mut [u8],
@@ -108,6 +113,7 @@ pub fn both_flush_output_buffer<'a>(
     }
 }
 
+/// The Rust's `test` on the script and its log, and ours on the same: they agree.
 pub fn both_test<'a>(
     script: &'a [u8],
     log: &mut [u8],
@@ -125,6 +131,7 @@ pub fn both_test<'a>(
     }
 }
 
+/// The Rust's `test_port1` on the script and its log, and ours on the same: they agree.
 pub fn both_test_port1<'a>(
     script: &'a [u8],
     log: &mut [u8],
@@ -142,6 +149,7 @@ pub fn both_test_port1<'a>(
     }
 }
 
+/// The Rust's `test_port2` on the script and its log, and ours on the same: they agree.
 pub fn both_test_port2<'a>(
     script: &'a [u8],
     log: &mut [u8],
@@ -159,6 +167,7 @@ pub fn both_test_port2<'a>(
     }
 }
 
+/// The Rust's `match_port_test_result` on the script and its log, and ours on the same: they agree.
 pub fn both_match_port_test_result<'a>(
     script: &'a [u8],
     rusts_log: &'a mut [u8],
@@ -175,6 +184,8 @@ pub fn both_match_port_test_result<'a>(
     }
 }
 
+/// The Rust's `read_controller_test_result` on the script and its log, and ours on the same: they
+/// agree.
 pub fn both_read_controller_test_result<'a>(
     script: &'a [u8],
     rusts_log: &'a mut [u8],
@@ -191,6 +202,7 @@ pub fn both_read_controller_test_result<'a>(
     }
 }
 
+/// The Rust's `polling_send_receive` on the script and its log, and ours on the same: they agree.
 pub fn both_polling_send_receive<'a>(
     script: &'a [u8],
     log: &mut [u8],
@@ -210,6 +222,7 @@ pub fn both_polling_send_receive<'a>(
     }
 }
 
+/// The Rust's `polling_send`, over any hardware.
 pub fn rusts_polling_send<H: Hardware + Drop>(
     controller: &mut PS2Controller<H>,
     value: HostToDevice,
@@ -219,6 +232,7 @@ pub fn rusts_polling_send<H: Hardware + Drop>(
     controller.polling_send(value)
 }
 
+/// The Rust's `polling_send` on the script and its log, and ours on the same: they agree.
 pub fn both_polling_send<'a>(
     script: &'a [u8],
     log: &mut [u8],
@@ -237,6 +251,7 @@ pub fn both_polling_send<'a>(
     }
 }
 
+/// The Rust's `polling_receive`, over any hardware.
 pub fn rusts_polling_receive<H: Hardware + Drop>(
     controller: &mut PS2Controller<H>,
 ) -> Result<DeviceToHostResponse, &'static str>
@@ -245,6 +260,7 @@ pub fn rusts_polling_receive<H: Hardware + Drop>(
     controller.polling_receive()
 }
 
+/// The Rust's `polling_receive` on the script and its log, and ours on the same: they agree.
 pub fn both_polling_receive<'a>(
     script: &'a [u8],
     rusts_log: &'a mut [u8],
@@ -261,6 +277,7 @@ pub fn both_polling_receive<'a>(
     }
 }
 
+/// The Rust's `read_data` on the script and its log, and ours on the same: they agree.
 pub fn both_read_data<'a>(script: &'a [u8], rusts_log: &'a mut [u8]) -> Both<'a, Answer<u8>, u8>
     ensures { Agree result.ours rusts_log.old (gives result.rusts) result.left }
 {
@@ -274,6 +291,7 @@ pub fn both_read_data<'a>(script: &'a [u8], rusts_log: &'a mut [u8]) -> Both<'a,
     }
 }
 
+/// The Rust's `write_data` on the script and its log, and ours on the same: they agree.
 pub fn both_write_data<'a>(
     script: &'a [u8],
     log: &mut [u8],

@@ -18,6 +18,7 @@ use ps2_mouse::PS2Mouse as Mouse;
 use ps2_mouse_identity::{MouseLeft, set_mouse_id};
 use ps2_packet::MousePacket;
 
+/// The Rust's `read_mouse_packet`, over any hardware.
 pub fn rusts_read_mouse_packet<H: Hardware + Drop>(
     controller: &mut PS2Controller<H>,
     id: MouseId,
@@ -27,6 +28,7 @@ pub fn rusts_read_mouse_packet<H: Hardware + Drop>(
     PS2Mouse { controller, id }.read_mouse_packet()
 }
 
+/// The Rust's `read_mouse_packet` on the script and its log, and ours on the same: they agree.
 pub fn both_read_mouse_packet<'a>(
     script: &'a [u8],
     rusts_log: &'a mut [u8],
@@ -44,13 +46,14 @@ pub fn both_read_mouse_packet<'a>(
     }
 }
 
-// What the Rust's `set_mouse_id` answers, and the identity that it leaves.
+/// What the Rust's `set_mouse_id` answers, and the identity that it leaves.
 #[derive(Drop)]
 pub struct Identified {
     pub answer: Result<(), &'static str>,
     pub id: MouseId,
 }
 
+/// The Rust's `set_mouse_id`, over any hardware.
 pub fn rusts_set_mouse_id<H: Hardware + Drop>(
     controller: &mut PS2Controller<H>,
     id: MouseId,
@@ -65,7 +68,7 @@ pub fn rusts_set_mouse_id<H: Hardware + Drop>(
     }
 }
 
-// The record's identity too. Ours answers 13 just where the Rust panics.
+/// The record's identity too. Ours answers 13 just where the Rust panics.
 pub fn both_set_mouse_id<'a>(
     script: &'a [u8],
     log: &mut [u8],

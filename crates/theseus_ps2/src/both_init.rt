@@ -11,8 +11,8 @@ use crate::{Hardware, PS2Controller, PS2Keyboard, PS2Mouse, Recording, init};
 use ps2_init::{Initialized, PS2Controller as Ours, PS2Keyboard as Keyboard, init as our_init};
 use ps2_mouse::PS2Mouse as Mouse;
 
-// What the Rust's `init` answers, and how it leaves its static: whether that is completed, and the
-// flags of the controller on these ports.
+/// What the Rust's `init` answers, and how it leaves its static: whether that is completed, and the
+/// flags of the controller on these ports.
 #[derive(Drop)]
 pub struct Completed {
     pub answer: Result<(), &'static str>,
@@ -21,7 +21,7 @@ pub struct Completed {
     pub mouse_attached: bool,
 }
 
-// The record is what the Rust's static is, which is completed just where the record says so.
+/// The record is what the Rust's static is, which is completed just where the record says so.
 pub fn both_init<'a>(
     script: &'a [u8],
     log: &mut [u8],
@@ -50,7 +50,7 @@ pub fn both_init<'a>(
     }
 }
 
-// The keyboard that each lends, where the two have the same flag.
+/// The keyboard that each lends, where the two have the same flag.
 pub fn both_keyboard_ref<'c, H: Hardware + Drop>(
     ours: Ours,
     rusts: &'c mut PS2Controller<H>,
@@ -60,7 +60,7 @@ pub fn both_keyboard_ref<'c, H: Hardware + Drop>(
     (ours.keyboard_ref(), rusts.keyboard_ref())
 }
 
-// The mouse likewise, with its identity.
+/// The mouse likewise, with its identity.
 pub fn both_mouse_ref<'c, H: Hardware + Drop>(
     ours: Ours,
     rusts: &'c mut PS2Controller<H>,

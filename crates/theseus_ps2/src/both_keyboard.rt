@@ -22,6 +22,7 @@ use ps2_keyboard::{
 };
 use ps2_layouts::LEDState;
 
+/// The Rust's `reset_keyboard`, over any hardware.
 pub fn rusts_reset_keyboard<H: Hardware + Drop>(
     controller: &mut PS2Controller<H>,
 ) -> Result<(), &'static str>
@@ -30,6 +31,7 @@ pub fn rusts_reset_keyboard<H: Hardware + Drop>(
     PS2Keyboard::new(controller).reset()
 }
 
+/// The Rust's `reset_keyboard` on the script and its log, and ours on the same: they agree.
 pub fn both_reset_keyboard<'a>(
     script: &'a [u8],
     log: &mut [u8],
@@ -47,6 +49,7 @@ pub fn both_reset_keyboard<'a>(
     }
 }
 
+/// The Rust's `command_to_keyboard`, over any hardware.
 pub fn rusts_command_to_keyboard<H: Hardware + Drop>(
     controller: &mut PS2Controller<H>,
     value: HostToKeyboardCommandOrData,
@@ -56,6 +59,7 @@ pub fn rusts_command_to_keyboard<H: Hardware + Drop>(
     PS2Keyboard::new(controller).command_to_keyboard(value)
 }
 
+/// The Rust's `command_to_keyboard` on the script and its log, and ours on the same: they agree.
 pub fn both_command_to_keyboard<'a>(
     script: &'a [u8],
     log: &mut [u8],
@@ -74,6 +78,7 @@ pub fn both_command_to_keyboard<'a>(
     }
 }
 
+/// The Rust's `set_keyboard_led`, over any hardware.
 pub fn rusts_set_keyboard_led<H: Hardware + Drop>(
     controller: &mut PS2Controller<H>,
     value: LEDState,
@@ -83,6 +88,7 @@ pub fn rusts_set_keyboard_led<H: Hardware + Drop>(
     PS2Keyboard::new(controller).set_keyboard_led(value)
 }
 
+/// The Rust's `set_keyboard_led` on the script and its log, and ours on the same: they agree.
 pub fn both_set_keyboard_led<'a>(
     script: &'a [u8],
     log: &mut [u8],
@@ -101,6 +107,7 @@ pub fn both_set_keyboard_led<'a>(
     }
 }
 
+/// The Rust's `set_keyboard_scancode_set`, over any hardware.
 pub fn rusts_set_keyboard_scancode_set<H: Hardware + Drop>(
     controller: &mut PS2Controller<H>,
     value: ScancodeSet,
@@ -110,6 +117,8 @@ pub fn rusts_set_keyboard_scancode_set<H: Hardware + Drop>(
     PS2Keyboard::new(controller).set_keyboard_scancode_set(value)
 }
 
+/// The Rust's `set_keyboard_scancode_set` on the script and its log, and ours on the same: they
+/// agree.
 pub fn both_set_keyboard_scancode_set<'a>(
     script: &'a [u8],
     log: &mut [u8],
@@ -128,6 +137,7 @@ pub fn both_set_keyboard_scancode_set<'a>(
     }
 }
 
+/// The Rust's `get_keyboard_scancode_set`, over any hardware.
 pub fn rusts_get_keyboard_scancode_set<H: Hardware + Drop>(
     controller: &mut PS2Controller<H>,
 ) -> Result<ScancodeSet, &'static str>
@@ -136,6 +146,8 @@ pub fn rusts_get_keyboard_scancode_set<H: Hardware + Drop>(
     PS2Keyboard::new(controller).get_keyboard_scancode_set()
 }
 
+/// The Rust's `get_keyboard_scancode_set` on the script and its log, and ours on the same: they
+/// agree.
 pub fn both_get_keyboard_scancode_set<'a>(
     script: &'a [u8],
     log: &mut [u8],
@@ -153,6 +165,7 @@ pub fn both_get_keyboard_scancode_set<'a>(
     }
 }
 
+/// The Rust's `keyboard_detect`, over any hardware.
 pub fn rusts_keyboard_detect<H: Hardware + Drop>(
     controller: &mut PS2Controller<H>,
 ) -> Result<KeyboardType, &'static str>
@@ -161,6 +174,7 @@ pub fn rusts_keyboard_detect<H: Hardware + Drop>(
     PS2Keyboard::new(controller).keyboard_detect()
 }
 
+/// The Rust's `keyboard_detect` on the script and its log, and ours on the same: they agree.
 pub fn both_keyboard_detect<'a>(
     script: &'a [u8],
     log: &mut [u8],
@@ -178,6 +192,7 @@ pub fn both_keyboard_detect<'a>(
     }
 }
 
+/// The Rust's `keyboard_output_buffer_full`, over any hardware.
 pub fn rusts_keyboard_output_buffer_full<H: Hardware + Drop>(
     controller: &mut PS2Controller<H>,
 ) -> bool
@@ -186,6 +201,8 @@ pub fn rusts_keyboard_output_buffer_full<H: Hardware + Drop>(
     PS2Keyboard::new(controller).is_output_buffer_full()
 }
 
+/// The Rust's `keyboard_output_buffer_full` on the script and its log, and ours on the same: they
+/// agree.
 pub fn both_keyboard_output_buffer_full<'a>(
     script: &'a [u8],
     rusts_log: &'a mut [u8],
@@ -202,12 +219,14 @@ pub fn both_keyboard_output_buffer_full<'a>(
     }
 }
 
+/// The Rust's `read_scancode`, over any hardware.
 pub fn rusts_read_scancode<H: Hardware + Drop>(controller: &mut PS2Controller<H>) -> u8
     ensures { ran (gives result) controller.new ≡ run (on_controller H.device) read_scancode controller.old }
 {
     PS2Keyboard::new(controller).read_scancode()
 }
 
+/// The Rust's `read_scancode` on the script and its log, and ours on the same: they agree.
 pub fn both_read_scancode<'a>(script: &'a [u8], rusts_log: &'a mut [u8]) -> Both<'a, Answer<u8>, u8>
     ensures { Agree result.ours rusts_log.old (gives result.rusts) result.left }
 {

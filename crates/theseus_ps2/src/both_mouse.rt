@@ -14,6 +14,7 @@ use ps2_bytes::{HostToMouseCommandOrData, MouseId, MouseResolution, MouseSampleR
 use ps2_command::Commanded;
 use ps2_mouse::PS2Mouse as Mouse;
 
+/// The Rust's `reset_mouse`, over any hardware.
 pub fn rusts_reset_mouse<H: Hardware + Drop>(
     controller: &mut PS2Controller<H>,
 ) -> Result<(), &'static str>
@@ -22,6 +23,7 @@ pub fn rusts_reset_mouse<H: Hardware + Drop>(
     PS2Mouse::new(controller).reset()
 }
 
+/// The Rust's `reset_mouse` on the script and its log, and ours on the same: they agree.
 pub fn both_reset_mouse<'a>(
     script: &'a [u8],
     log: &mut [u8],
@@ -39,6 +41,7 @@ pub fn both_reset_mouse<'a>(
     }
 }
 
+/// The Rust's `command_to_mouse`, over any hardware.
 pub fn rusts_command_to_mouse<H: Hardware + Drop>(
     controller: &mut PS2Controller<H>,
     value: HostToMouseCommandOrData,
@@ -48,6 +51,7 @@ pub fn rusts_command_to_mouse<H: Hardware + Drop>(
     PS2Mouse::new(controller).command_to_mouse(value)
 }
 
+/// The Rust's `command_to_mouse` on the script and its log, and ours on the same: they agree.
 pub fn both_command_to_mouse<'a>(
     script: &'a [u8],
     log: &mut [u8],
@@ -66,6 +70,7 @@ pub fn both_command_to_mouse<'a>(
     }
 }
 
+/// The Rust's `set_mouse_sampling_rate`, over any hardware.
 pub fn rusts_set_mouse_sampling_rate<H: Hardware + Drop>(
     controller: &mut PS2Controller<H>,
     value: MouseSampleRate,
@@ -75,6 +80,8 @@ pub fn rusts_set_mouse_sampling_rate<H: Hardware + Drop>(
     PS2Mouse::new(controller).set_mouse_sampling_rate(value)
 }
 
+/// The Rust's `set_mouse_sampling_rate` on the script and its log, and ours on the same: they
+/// agree.
 pub fn both_set_mouse_sampling_rate<'a>(
     script: &'a [u8],
     log: &mut [u8],
@@ -93,6 +100,7 @@ pub fn both_set_mouse_sampling_rate<'a>(
     }
 }
 
+/// The Rust's `mouse_id`, over any hardware.
 pub fn rusts_mouse_id<H: Hardware + Drop>(
     controller: &mut PS2Controller<H>,
 ) -> Result<MouseId, &'static str>
@@ -101,6 +109,7 @@ pub fn rusts_mouse_id<H: Hardware + Drop>(
     PS2Mouse::new(controller).mouse_id()
 }
 
+/// The Rust's `mouse_id` on the script and its log, and ours on the same: they agree.
 pub fn both_mouse_id<'a>(
     script: &'a [u8],
     log: &mut [u8],
@@ -118,6 +127,7 @@ pub fn both_mouse_id<'a>(
     }
 }
 
+/// The Rust's `enable_mouse_packet_streaming`, over any hardware.
 pub fn rusts_enable_mouse_packet_streaming<H: Hardware + Drop>(
     controller: &mut PS2Controller<H>,
 ) -> Result<(), &'static str>
@@ -126,6 +136,8 @@ pub fn rusts_enable_mouse_packet_streaming<H: Hardware + Drop>(
     PS2Mouse::new(controller).enable_mouse_packet_streaming()
 }
 
+/// The Rust's `enable_mouse_packet_streaming` on the script and its log, and ours on the same: they
+/// agree.
 pub fn both_enable_mouse_packet_streaming<'a>(
     script: &'a [u8],
     log: &mut [u8],
@@ -143,6 +155,7 @@ pub fn both_enable_mouse_packet_streaming<'a>(
     }
 }
 
+/// The Rust's `disable_mouse_packet_streaming`, over any hardware.
 pub fn rusts_disable_mouse_packet_streaming<H: Hardware + Drop>(
     controller: &mut PS2Controller<H>,
 ) -> Result<(), &'static str>
@@ -151,6 +164,8 @@ pub fn rusts_disable_mouse_packet_streaming<H: Hardware + Drop>(
     PS2Mouse::new(controller).disable_mouse_packet_streaming()
 }
 
+/// The Rust's `disable_mouse_packet_streaming` on the script and its log, and ours on the same:
+/// they agree.
 pub fn both_disable_mouse_packet_streaming<'a>(
     script: &'a [u8],
     log: &mut [u8],
@@ -168,6 +183,7 @@ pub fn both_disable_mouse_packet_streaming<'a>(
     }
 }
 
+/// The Rust's `mouse_resolution`, over any hardware.
 pub fn rusts_mouse_resolution<H: Hardware + Drop>(
     controller: &mut PS2Controller<H>,
     value: MouseResolution,
@@ -177,6 +193,7 @@ pub fn rusts_mouse_resolution<H: Hardware + Drop>(
     PS2Mouse::new(controller).mouse_resolution(value)
 }
 
+/// The Rust's `mouse_resolution` on the script and its log, and ours on the same: they agree.
 pub fn both_mouse_resolution<'a>(
     script: &'a [u8],
     log: &mut [u8],
@@ -195,12 +212,15 @@ pub fn both_mouse_resolution<'a>(
     }
 }
 
+/// The Rust's `mouse_output_buffer_full`, over any hardware.
 pub fn rusts_mouse_output_buffer_full<H: Hardware + Drop>(controller: &mut PS2Controller<H>) -> bool
     ensures { ran (gives result) controller.new ≡ run (on_controller H.device) mouse_output_buffer_full controller.old }
 {
     PS2Mouse::new(controller).is_output_buffer_full()
 }
 
+/// The Rust's `mouse_output_buffer_full` on the script and its log, and ours on the same: they
+/// agree.
 pub fn both_mouse_output_buffer_full<'a>(
     script: &'a [u8],
     rusts_log: &'a mut [u8],

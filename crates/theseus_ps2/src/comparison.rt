@@ -3,7 +3,7 @@ ghost use Rattle.theseus_ps2.specs.Comparison.{Starts};
 
 use crate::{PS2Controller, Recording};
 
-// What the two answered, and how the Rust's hardware was left.
+/// What the two answered, and how the Rust's hardware was left.
 #[derive(Drop)]
 pub struct Both<'a, O: Drop, R: Drop> {
     pub ours: O,
@@ -11,7 +11,7 @@ pub struct Both<'a, O: Drop, R: Drop> {
     pub left: Recording<'a>,
 }
 
-// A controller over a script and a log, of which nothing is used or written yet.
+/// A controller over a script and a log, of which nothing is used or written yet.
 pub fn start<'a>(script: &'a [u8], log: &'a mut [u8]) -> PS2Controller<Recording<'a>>
     ensures { Starts script.now log.old result.hardware }
 {

@@ -11,8 +11,9 @@ use crate::{Hardware, IoPort};
 use ps2_bytes::DeviceToHostResponse;
 use ps2_kept::{KeptBytes, none_kept};
 
-// Where the script or the log is at its end, it has fallen short, and of which port, or of no port,
-// something was asked: from then on nothing is read or written. It notes the bytes thrown away.
+/// Where the script or the log is at its end, it has fallen short, and of which port, or of no
+/// port, something was asked: from then on nothing is read or written. It notes the bytes thrown
+/// away.
 #[derive(Drop)]
 pub struct Recording<'a> {
     pub script: &'a [u8],
@@ -25,7 +26,7 @@ pub struct Recording<'a> {
 }
 
 impl<'a> Recording<'a> {
-    // Nothing is read and nothing written yet.
+    /// Nothing is read and nothing written yet.
     pub fn new(script: &'a [u8], log: &'a mut [u8]) -> Self
         ensures { Starts script.now log.old result }
     {

@@ -7,7 +7,7 @@ ghost use Rattle.typing.specs.Typing.{Accepted, typed, leaves, refusal_number, t
 ghost use Rattle.typing.specs.Lengths.{count_of};
 ghost use Rattle.typing.specs.Table.{or_none};
 
-// Why a text is not typed: 25 and 26 by number.
+/// Why a text is not typed: 25 and 26 by number.
 #[derive(Clone, Copy, Debug, PartialEq, Eq)]
 pub enum TypingRefusal {
     NoKey = 25,
@@ -15,7 +15,7 @@ pub enum TypingRefusal {
 }
 
 impl TypingRefusal {
-    // The number of a refusal, as an answer tells it.
+    /// The number of a refusal, as an answer tells it.
     pub fn number(self) -> u8
         ensures { result ≡ refusal_number self }
     {
@@ -55,8 +55,10 @@ static KEYS: [u8; 256] = *b"\
     \x00\x00\x00\x00\x00\x00\x00\x00\x00\x00\x00\x00\x00\x00\x00\x00\
     \x00\x00\x00\x00\x00\x00\x00\x00\x00\x00\x00\x00\x00\x00\x00\x00";
 
-// Writes the scancodes of a text to the start of an output, and answers how many bytes they are: each key's press and release, with those of Shift around a key that needs it.
-// What is not written stays as it was; a refusal writes nothing.
+/// Writes the scancodes of a text to the start of an output, and answers how many bytes they are:
+/// each key's press and release, with those of Shift around a key that needs it.
+/// What is not written stays as it was; a refusal writes nothing.
+/// Refused: no key (25), then output short (26).
 pub fn type_text(text: &[u8], out: &mut [u8]) -> Result<usize, TypingRefusal>
     ensures { told result out.new ≡ leaves out.old (typed (length out.old) text.now) }
 {

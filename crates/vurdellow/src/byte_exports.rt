@@ -10,7 +10,7 @@ use bytes_words::{
     type_text,
 };
 
-// The character of a key under some flags, 0 where it has none.
+/// The character of a key under some flags, 0 where it has none.
 #[unsafe(no_mangle)]
 pub extern "C" fn vd_character(keycode: u32, flags: u32) -> u32
     ensures { result ≡ character_at (keycode_of keycode) (flags_at flags) }
@@ -18,7 +18,7 @@ pub extern "C" fn vd_character(keycode: u32, flags: u32) -> u32
     character(keycode, flags)
 }
 
-// The byte by which a report takes the press (0) or the release (1) of a key.
+/// The byte by which a report takes the press (0) or the release (1) of a key.
 #[unsafe(no_mangle)]
 pub extern "C" fn vd_event_code(keycode: u32, action: u32) -> u32
     ensures { result ≡ event_code_at (keycode_of keycode) (action_at action) }
@@ -26,7 +26,7 @@ pub extern "C" fn vd_event_code(keycode: u32, action: u32) -> u32
     event_code(keycode, action)
 }
 
-// Converts a set 2 key stream to set 1.
+/// Converts a set 2 key stream to set 1.
 #[unsafe(no_mangle)]
 pub extern "C" fn vd_convert_set2(stream: &[u8], out: &mut [u8]) -> ConvertedWords
     ensures { StreamConverted stream.now out.old result out.new }
@@ -34,7 +34,7 @@ pub extern "C" fn vd_convert_set2(stream: &[u8], out: &mut [u8]) -> ConvertedWor
     convert_set2(stream, out)
 }
 
-// Writes the scancodes of a text.
+/// Writes the scancodes of a text.
 #[unsafe(no_mangle)]
 pub extern "C" fn vd_type_text(text: &[u8], out: &mut [u8]) -> WrittenWords
     ensures { TextTyped text.now out.old result out.new }
@@ -42,7 +42,7 @@ pub extern "C" fn vd_type_text(text: &[u8], out: &mut [u8]) -> WrittenWords
     type_text(text, out)
 }
 
-// Salvages a recording of a mouse whose identity is 0, 3 or 4.
+/// Salvages a recording of a mouse whose identity is 0, 3 or 4.
 #[unsafe(no_mangle)]
 pub extern "C" fn vd_salvage(
     identity: u32,

@@ -5,7 +5,8 @@ ghost use Rattle.controller_words.specs.Controller.{controller_of, told_init};
 
 use controller_words::{ControllerWords, InitializedWords, controller_init};
 
-// Initialises the controller, unless it was before. It becomes initialised only where all steps were done.
+/// Initialises the controller, unless it was before. It becomes initialised only where all steps
+/// were done.
 #[unsafe(no_mangle)]
 pub extern "C" fn vd_controller_init(
     controller: ControllerWords,

@@ -4,7 +4,8 @@ ghost use Rattle.dispatcher_words.specs.Fresh.{MadeFresh};
 
 use dispatcher_words::{StepWords, dispatcher_fresh, dispatcher_step};
 
-// Makes a lent dispatcher a fresh one, for a table as `vd_handler_fresh` has it and a mouse of identity 0, 3 or 4.
+/// Makes a lent dispatcher a fresh one, for a table as `vd_handler_fresh` has it and a mouse of
+/// identity 0, 3 or 4.
 #[unsafe(no_mangle)]
 pub extern "C" fn vd_dispatcher_fresh(
     words: &mut [u64],
@@ -17,7 +18,7 @@ pub extern "C" fn vd_dispatcher_fresh(
     dispatcher_fresh(words, keyboards, profile, identity)
 }
 
-// A step of a lent dispatcher: one source that waits is served.
+/// A step of a lent dispatcher: one source that waits is served.
 #[unsafe(no_mangle)]
 pub extern "C" fn vd_dispatcher_step(
     words: &mut [u64],

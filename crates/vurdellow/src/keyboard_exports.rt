@@ -18,7 +18,9 @@ use keyboard_words::{
 };
 use port_words::{KeptWords, PortWords};
 
-// Initialises the first keyboard. The lent record becomes a fresh one, whatever the keyboard answers, for a table with 1 keyboard or 2, under profile 0 (none) or 1 (the tournament's): 21 where it has not 144 numbers.
+/// Initialises the first keyboard. The lent record becomes a fresh one, whatever the keyboard
+/// answers, for a table with 1 keyboard or 2, under profile 0 (none) or 1 (the tournament's): 21
+/// where it has not 144 numbers.
 #[unsafe(no_mangle)]
 pub extern "C" fn vd_keyboard_init(
     words: &mut [u64],
@@ -32,7 +34,7 @@ pub extern "C" fn vd_keyboard_init(
     keyboard_init(words, keyboards, profile, script, log)
 }
 
-// Resets the keyboard.
+/// Resets the keyboard.
 #[unsafe(no_mangle)]
 pub extern "C" fn vd_keyboard_reset(script: &[u8], log: &mut [u8]) -> PortWords
     ensures { Tells (told no_value) reset_keyboard script.now log.old result log.new }
@@ -40,7 +42,7 @@ pub extern "C" fn vd_keyboard_reset(script: &[u8], log: &mut [u8]) -> PortWords
     keyboard_reset(script, log)
 }
 
-// Sends one of the keyboard's commands, by the byte that the wiki lists it with.
+/// Sends one of the keyboard's commands, by the byte that the wiki lists it with.
 #[unsafe(no_mangle)]
 pub extern "C" fn vd_keyboard_command(byte: u32, script: &[u8], log: &mut [u8]) -> KeptWords
     ensures { TellsAt (refusing_kept invalid_argument) told_kept sending_command (command_at byte) script.now log.old result log.new }
@@ -48,7 +50,7 @@ pub extern "C" fn vd_keyboard_command(byte: u32, script: &[u8], log: &mut [u8]) 
     keyboard_command(byte, script, log)
 }
 
-// Sets the lamps: scroll 1, number 2, caps 4 added.
+/// Sets the lamps: scroll 1, number 2, caps 4 added.
 #[unsafe(no_mangle)]
 pub extern "C" fn vd_keyboard_set_lamps(lamps: u32, script: &[u8], log: &mut [u8]) -> KeptWords
     ensures { TellsAt (refusing_kept invalid_argument) told_kept setting_lamps (lamps_at lamps) script.now log.old result log.new }
@@ -56,7 +58,7 @@ pub extern "C" fn vd_keyboard_set_lamps(lamps: u32, script: &[u8], log: &mut [u8
     keyboard_set_lamps(lamps, script, log)
 }
 
-// Sets the scancode set, 1 to 3.
+/// Sets the scancode set, 1 to 3.
 #[unsafe(no_mangle)]
 pub extern "C" fn vd_keyboard_set_scancode_set(set: u32, script: &[u8], log: &mut [u8]) -> PortWords
     ensures { TellsAt (refusing invalid_argument) (told no_value) set_scancode_set (scancode_set_at set) script.now log.old result log.new }
@@ -64,7 +66,7 @@ pub extern "C" fn vd_keyboard_set_scancode_set(set: u32, script: &[u8], log: &mu
     keyboard_set_scancode_set(set, script, log)
 }
 
-// Asks for the scancode set; the value is the byte that the keyboard tells, 0 to 3.
+/// Asks for the scancode set; the value is the byte that the keyboard tells, 0 to 3.
 #[unsafe(no_mangle)]
 pub extern "C" fn vd_keyboard_get_scancode_set(script: &[u8], log: &mut [u8]) -> PortWords
     ensures { Tells (told scancode_set_byte) get_scancode_set script.now log.old result log.new }
@@ -72,7 +74,7 @@ pub extern "C" fn vd_keyboard_get_scancode_set(script: &[u8], log: &mut [u8]) ->
     keyboard_get_scancode_set(script, log)
 }
 
-// Detects the type of the keyboard.
+/// Detects the type of the keyboard.
 #[unsafe(no_mangle)]
 pub extern "C" fn vd_keyboard_detect(script: &[u8], log: &mut [u8]) -> PortWords
     ensures { Tells (told type_number) keyboard_detect script.now log.old result log.new }
@@ -80,7 +82,7 @@ pub extern "C" fn vd_keyboard_detect(script: &[u8], log: &mut [u8]) -> PortWords
     keyboard_detect(script, log)
 }
 
-// Sends the byte of repeat rate and delay.
+/// Sends the byte of repeat rate and delay.
 #[unsafe(no_mangle)]
 pub extern "C" fn vd_keyboard_set_repeat(byte: u32, script: &[u8], log: &mut [u8]) -> PortWords
     ensures { TellsAt (refusing invalid_argument) (told no_value) set_keyboard_repeat (byte_at byte) script.now log.old result log.new }
@@ -88,7 +90,7 @@ pub extern "C" fn vd_keyboard_set_repeat(byte: u32, script: &[u8], log: &mut [u8
     keyboard_set_repeat(byte, script, log)
 }
 
-// Whether there is a byte of the keyboard to read: the value is 1 where there is.
+/// Whether there is a byte of the keyboard to read: the value is 1 where there is.
 #[unsafe(no_mangle)]
 pub extern "C" fn vd_keyboard_waits(script: &[u8]) -> PortWords
     ensures { TellsReading (told weigh) keyboard_output_buffer_full script.now result }
@@ -96,7 +98,7 @@ pub extern "C" fn vd_keyboard_waits(script: &[u8]) -> PortWords
     keyboard_waits(script)
 }
 
-// Reads a scancode, which is the value, without asking the status.
+/// Reads a scancode, which is the value, without asking the status.
 #[unsafe(no_mangle)]
 pub extern "C" fn vd_keyboard_read_scancode(script: &[u8]) -> PortWords
     ensures { TellsReading (told byte_value) read_scancode script.now result }

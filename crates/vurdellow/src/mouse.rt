@@ -19,7 +19,7 @@ use mouse_words::{
 };
 use port_words::{KeptWords, PacketWords, PortWords};
 
-// Resets the mouse.
+/// Resets the mouse.
 #[unsafe(no_mangle)]
 pub extern "C" fn vd_mouse_reset(script: &[u8], log: &mut [u8]) -> PortWords
     ensures { Tells (told no_value) reset_mouse script.now log.old result log.new }
@@ -27,7 +27,7 @@ pub extern "C" fn vd_mouse_reset(script: &[u8], log: &mut [u8]) -> PortWords
     mouse_reset(script, log)
 }
 
-// Starts the packets.
+/// Starts the packets.
 #[unsafe(no_mangle)]
 pub extern "C" fn vd_mouse_start_packets(script: &[u8], log: &mut [u8]) -> PortWords
     ensures { Tells (told no_value) enable_packet_streaming script.now log.old result log.new }
@@ -35,7 +35,7 @@ pub extern "C" fn vd_mouse_start_packets(script: &[u8], log: &mut [u8]) -> PortW
     mouse_start_packets(script, log)
 }
 
-// Stops the packets.
+/// Stops the packets.
 #[unsafe(no_mangle)]
 pub extern "C" fn vd_mouse_stop_packets(script: &[u8], log: &mut [u8]) -> PortWords
     ensures { Tells (told no_value) disable_packet_streaming script.now log.old result log.new }
@@ -43,7 +43,7 @@ pub extern "C" fn vd_mouse_stop_packets(script: &[u8], log: &mut [u8]) -> PortWo
     mouse_stop_packets(script, log)
 }
 
-// Asks the mouse for its identity: 0, 3 or 4.
+/// Asks the mouse for its identity: 0, 3 or 4.
 #[unsafe(no_mangle)]
 pub extern "C" fn vd_mouse_get_identity(script: &[u8], log: &mut [u8]) -> PortWords
     ensures { Tells (told mouse_id_byte) mouse_id_rule script.now log.old result log.new }
@@ -51,7 +51,8 @@ pub extern "C" fn vd_mouse_get_identity(script: &[u8], log: &mut [u8]) -> PortWo
     mouse_get_identity(script, log)
 }
 
-// Sets the identity of a record that has this one to the highest that the mouse takes on. The value is the identity of the record that is left, after a refusal too.
+/// Sets the identity of a record that has this one to the highest that the mouse takes on. The
+/// value is the identity of the record that is left, after a refusal too.
 #[unsafe(no_mangle)]
 pub extern "C" fn vd_mouse_set_identity(identity: u32, script: &[u8], log: &mut [u8]) -> PortWords
     ensures { TellsLeftAt (identity_at identity) script.now log.old result log.new }
@@ -59,7 +60,7 @@ pub extern "C" fn vd_mouse_set_identity(identity: u32, script: &[u8], log: &mut 
     mouse_set_identity(identity, script, log)
 }
 
-// Sends a command to the mouse.
+/// Sends a command to the mouse.
 #[unsafe(no_mangle)]
 pub extern "C" fn vd_mouse_command(byte: u32, script: &[u8], log: &mut [u8]) -> KeptWords
     ensures { TellsAt (refusing_kept invalid_argument) told_kept (λ c. keeping_thrown (mouse_command c)) (command_at byte) script.now log.old result log.new }
@@ -67,7 +68,7 @@ pub extern "C" fn vd_mouse_command(byte: u32, script: &[u8], log: &mut [u8]) -> 
     mouse_command(byte, script, log)
 }
 
-// Sets the mouse's sampling rate.
+/// Sets the mouse's sampling rate.
 #[unsafe(no_mangle)]
 pub extern "C" fn vd_mouse_set_sampling_rate(rate: u32, script: &[u8], log: &mut [u8]) -> PortWords
     ensures { TellsAt (refusing invalid_argument) (told no_value) set_sampling_rate (rate_at rate) script.now log.old result log.new }
@@ -75,7 +76,7 @@ pub extern "C" fn vd_mouse_set_sampling_rate(rate: u32, script: &[u8], log: &mut
     mouse_set_sampling_rate(rate, script, log)
 }
 
-// Sets the mouse's resolution.
+/// Sets the mouse's resolution.
 #[unsafe(no_mangle)]
 pub extern "C" fn vd_mouse_set_resolution(
     resolution: u32,
@@ -87,7 +88,7 @@ pub extern "C" fn vd_mouse_set_resolution(
     mouse_set_resolution(resolution, script, log)
 }
 
-// Whether there is a byte of the mouse to read: 1 where there is.
+/// Whether there is a byte of the mouse to read: 1 where there is.
 #[unsafe(no_mangle)]
 pub extern "C" fn vd_mouse_waits(script: &[u8]) -> PortWords
     ensures { TellsReading (told weigh) mouse_output_buffer_full script.now result }
@@ -95,7 +96,7 @@ pub extern "C" fn vd_mouse_waits(script: &[u8]) -> PortWords
     mouse_waits(script)
 }
 
-// Reads the packet that a mouse of this identity sends, its wheel signed.
+/// Reads the packet that a mouse of this identity sends, its wheel signed.
 #[unsafe(no_mangle)]
 pub extern "C" fn vd_mouse_read_packet(identity: u32, script: &[u8]) -> PacketWords
     ensures { TellsReadingAt (refusing_packet invalid_argument) told_packet read_signed_packet (identity_at identity) script.now result }

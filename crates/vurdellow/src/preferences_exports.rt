@@ -14,7 +14,8 @@ use preferences_words::{
     PreferencesReadWords, PreferencesWords, PreferencesWrittenWords, apply, read_1, read_2, write,
 };
 
-// Writes a record to the start of an output. What is not written stays as it was; a refusal writes nothing.
+/// Writes a record to the start of an output. What is not written stays as it was; a refusal writes
+/// nothing.
 #[unsafe(no_mangle)]
 pub extern "C" fn vd_preferences_write(
     preferences: PreferencesWords,
@@ -25,7 +26,8 @@ pub extern "C" fn vd_preferences_write(
     write(preferences, output)
 }
 
-// The version 1 reader. Of a record of either version it gives the four fields, as a record of version 1.
+/// The version 1 reader. Of a record of either version it gives the four fields, as a record of
+/// version 1.
 #[unsafe(no_mangle)]
 pub extern "C" fn vd_preferences_read_1(input: &[u8]) -> PreferencesReadWords
     ensures { result ≡ told_read (as_version1 (read1 input.now)) }
@@ -33,7 +35,7 @@ pub extern "C" fn vd_preferences_read_1(input: &[u8]) -> PreferencesReadWords
     read_1(input)
 }
 
-// The version 2 reader, which takes records of both versions.
+/// The version 2 reader, which takes records of both versions.
 #[unsafe(no_mangle)]
 pub extern "C" fn vd_preferences_read_2(input: &[u8]) -> PreferencesReadWords
     ensures { result ≡ told_read (read2 input.now) }
@@ -41,7 +43,8 @@ pub extern "C" fn vd_preferences_read_2(input: &[u8]) -> PreferencesReadWords
     read_2(input)
 }
 
-// Applies a record's fields to the devices, in their order. Where one is outside its values nothing is read or written; after a refusal the fields before it stay applied.
+/// Applies a record's fields to the devices, in their order. Where one is outside its values
+/// nothing is read or written; after a refusal the fields before it stay applied.
 #[unsafe(no_mangle)]
 pub extern "C" fn vd_preferences_apply(
     preferences: PreferencesWords,

@@ -14,7 +14,7 @@ use report_words::{
     mean_y, report_add, report_empty, report_widen,
 };
 
-// A report of no session.
+/// A report of no session.
 #[unsafe(no_mangle)]
 pub extern "C" fn vd_report_empty() -> Report
     ensures { result ≡ report_of no_totals }
@@ -22,7 +22,8 @@ pub extern "C" fn vd_report_empty() -> Report
     report_empty()
 }
 
-// A report with a session more: its events, each as `vd_event_code` has it, and its mouse bytes, in packets of one identity.
+/// A report with a session more: its events, each as `vd_event_code` has it, and its mouse bytes,
+/// in packets of one identity.
 #[unsafe(no_mangle)]
 pub extern "C" fn vd_report_add(
     report: Report,
@@ -35,7 +36,7 @@ pub extern "C" fn vd_report_add(
     report_add(report, identity, events, mouse)
 }
 
-// The mean movement sideways, and upwards.
+/// The mean movement sideways, and upwards.
 #[unsafe(no_mangle)]
 pub extern "C" fn vd_report_mean_x(report: Report) -> MeanWords
     ensures { result ≡ mean_words (mean_of report.x report.packets) }
@@ -43,6 +44,7 @@ pub extern "C" fn vd_report_mean_x(report: Report) -> MeanWords
     mean_x(report)
 }
 
+/// The mean movement up or down: absent (0) where the report has no packet.
 #[unsafe(no_mangle)]
 pub extern "C" fn vd_report_mean_y(report: Report) -> MeanWords
     ensures { result ≡ mean_words (mean_of report.y report.packets) }
@@ -50,7 +52,7 @@ pub extern "C" fn vd_report_mean_y(report: Report) -> MeanWords
     mean_y(report)
 }
 
-// An old report in 64 bits, with no number changed.
+/// An old report in 64 bits, with no number changed.
 #[unsafe(no_mangle)]
 pub extern "C" fn vd_report_widen(report: Report) -> LongReport
     ensures { result ≡ widened report }
@@ -58,7 +60,7 @@ pub extern "C" fn vd_report_widen(report: Report) -> LongReport
     report_widen(report)
 }
 
-// A report of no session, in 64 bits.
+/// A report of no session, in 64 bits.
 #[unsafe(no_mangle)]
 pub extern "C" fn vd_long_report_empty() -> LongReport
     ensures { result ≡ long_of no_totals }
@@ -66,7 +68,7 @@ pub extern "C" fn vd_long_report_empty() -> LongReport
     long_report_empty()
 }
 
-// A report with a session more, in 64 bits.
+/// A report with a session more, in 64 bits.
 #[unsafe(no_mangle)]
 pub extern "C" fn vd_long_report_add(
     long: LongReport,
@@ -79,7 +81,7 @@ pub extern "C" fn vd_long_report_add(
     long_report_add(long, identity, events, mouse)
 }
 
-// The mean movement sideways, and upwards.
+/// The mean movement sideways, and upwards.
 #[unsafe(no_mangle)]
 pub extern "C" fn vd_long_report_mean_x(long: LongReport) -> MeanWords
     ensures { result ≡ mean_words (mean_of long.totals.x long.totals.packets) }
@@ -87,6 +89,7 @@ pub extern "C" fn vd_long_report_mean_x(long: LongReport) -> MeanWords
     mean_x(long)
 }
 
+/// The mean movement up or down, in 64 bits: absent (0) where the report has no packet.
 #[unsafe(no_mangle)]
 pub extern "C" fn vd_long_report_mean_y(long: LongReport) -> MeanWords
     ensures { result ≡ mean_words (mean_of long.totals.y long.totals.packets) }
