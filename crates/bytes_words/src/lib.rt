@@ -135,7 +135,6 @@ pub fn convert_set2(stream: &[u8], out: &mut [u8]) -> ConvertedWords
 }
 
 /// Writes the scancodes of a text.
-/// Refused: no key (25), then output short (26).
 pub fn type_text(text: &[u8], out: &mut [u8]) -> WrittenWords
     ensures { TextTyped text.now out.old result out.new }
 {
@@ -152,7 +151,6 @@ pub fn type_text(text: &[u8], out: &mut [u8]) -> WrittenWords
 }
 
 /// Salvages a recording of a mouse whose identity is 0, 3 or 4: 255 where it is another.
-/// Refused: no room (30).
 pub fn salvage(
     identity: u32,
     bytes: &[u8],

@@ -85,7 +85,6 @@ fn put_initialized(words: &mut Words, table: Table, answer: Answer<()>)
 /// Initialises the first keyboard. The lent record becomes a fresh one, for a table with 1 keyboard
 /// or 2, under profile 0 (none) or 1 (the tournament's), whether the keyboard did what it was asked
 /// or not. After 2 and 3 it is as it was, and after 21, where it has not 144 numbers.
-/// Refused: 2 to 7, no set or identity (11), keyboard not detected (18).
 pub fn keyboard_init(
     words: &mut [u64],
     keyboards: u32,
@@ -155,8 +154,6 @@ pub fn keyboard_get_scancode_set(script: &[u8], log: &mut [u8]) -> PortWords
 }
 
 /// Detects the type of the keyboard.
-/// OSDev Wiki, "8042 PS/2 Controller", "Detecting PS/2 Device Types". Refused: 2 to 7, unknown
-/// keyboard (12).
 pub fn keyboard_detect(script: &[u8], log: &mut [u8]) -> PortWords
     ensures { Tells (told type_number) keyboard_detect script.now log.old result log.new }
 {

@@ -33,7 +33,7 @@ pub fn write<P: Partner>(partner: &mut P, port: ReadPort, value: u8) -> Result<(
 }
 
 /// Writes a command to the controller.
-/// One pair: port 64 and the command. Refused: log full (3).
+/// One pair: port 64 and the command.
 pub fn write_command<P: Partner>(
     partner: &mut P,
     command: HostToControllerCommand,
@@ -60,7 +60,7 @@ pub fn seek<P: Partner>(
 }
 
 /// Reads a byte of data, without asking the status.
-/// One read of port 60. Refused: script ends (2).
+/// One read of port 60.
 pub fn read_data<P: Partner>(partner: &mut P) -> Result<u8, Stop>
     ensures { by result partner.new ≡ heard P.replies talk.read_data partner.old }
 {
@@ -75,7 +75,7 @@ pub fn read_status<P: Partner>(partner: &mut P) -> Result<u8, Stop>
 }
 
 /// Sends a byte to a device, once the input buffer is free.
-/// At most 255 reads of the status. Refused: 2, 3, input buffer full (4).
+/// At most 255 reads of the status. Refused: input buffer full (4).
 #[tactic(auto, unfolding(crate::specs::Commands::send, crate::specs::Heard::heard))]
 pub fn polling_send<P: Partner>(partner: &mut P, value: HostToDevice) -> Result<(), Stop>
     ensures { by result partner.new ≡ heard P.replies (talk.send value) partner.old }
@@ -100,7 +100,7 @@ fn response_of(byte: u8) -> Result<DeviceToHostResponse, Stop>
 }
 
 /// Receives a device's response.
-/// At most 65,535 polls. Refused: 2, no response (5).
+/// At most 65,535 polls. Refused: no response (5).
 #[tactic(auto, unfolding(crate::specs::Commands::receive, crate::specs::Heard::heard))]
 pub fn polling_receive<P: Partner>(partner: &mut P) -> Result<DeviceToHostResponse, Stop>
     ensures { by result partner.new ≡ heard P.replies talk.receive partner.old }
@@ -171,7 +171,7 @@ pub fn command<P: Partner>(partner: &mut P, value: HostToDevice) -> Result<(), S
 }
 
 /// A command to the device of either port.
-/// At most four attempts. Refused: 2 to 5, self test failed (6), not acknowledged (7).
+/// At most four attempts. Refused: 4, 5, self test failed (6), not acknowledged (7).
 #[tactic(auto, unfolding(crate::specs::Commands::command_by, crate::specs::Heard::heard))]
 pub fn command_by<P: Partner>(
     partner: &mut P,

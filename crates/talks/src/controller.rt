@@ -26,7 +26,7 @@ pub struct ControllerLeft {
 }
 
 /// Reads the configuration.
-/// Writes 20 to port 64, and reads port 60. Refused: script ends (2), log full (3).
+/// Writes 20 to port 64, and reads port 60.
 #[tactic(auto, unfolding(crate::specs::Controller::read_config, crate::specs::Heard::heard))]
 pub fn read_config<P: Partner>(partner: &mut P) -> Result<ControllerConfigurationByte, Stop>
     ensures { by result partner.new ≡ heard P.replies talk.read_config partner.old }
@@ -37,7 +37,7 @@ pub fn read_config<P: Partner>(partner: &mut P) -> Result<ControllerConfiguratio
 }
 
 /// Writes the configuration.
-/// Writes 60 to port 64, and the byte to port 60. Refused: log full (3).
+/// Writes 60 to port 64, and the byte to port 60.
 #[tactic(auto, unfolding(crate::specs::Controller::write_config, crate::specs::Heard::heard))]
 pub fn write_config<P: Partner>(
     partner: &mut P,

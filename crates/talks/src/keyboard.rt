@@ -49,7 +49,7 @@ fn keyboard_pair<P: Partner>(
 
 /// Resets the keyboard: it answers the command, and then says by a byte of its own that it passed
 /// its self test.
-/// FF, then AA from the keyboard. Refused: 2 to 7, reset failed (10).
+/// FF, then AA from the keyboard. Refused: 4 to 7, reset failed (10).
 #[tactic(auto, unfolding(crate::specs::Keyboard::reset_keyboard, crate::specs::Heard::heard))]
 pub fn reset_keyboard<P: Partner>(partner: &mut P) -> Result<(), Stop>
     ensures { by result partner.new ≡ heard P.replies talk.reset_keyboard partner.old }
@@ -125,7 +125,7 @@ pub fn set_scancode_set<P: Partner>(partner: &mut P, set: ScancodeSet) -> Result
 }
 
 /// Sets how fast the keyboard repeats a key that is held, and after which delay.
-/// F3 and the byte. Refused: 2 to 7.
+/// F3 and the byte. Refused: 4 to 7.
 #[tactic(auto, unfolding(crate::specs::Keyboard::set_keyboard_repeat))]
 pub fn set_keyboard_repeat<P: Partner>(partner: &mut P, byte: u8) -> Result<(), Stop>
     ensures { by result partner.new ≡ heard P.replies (talk.set_keyboard_repeat byte) partner.old }
@@ -194,7 +194,7 @@ fn type_search<P: Partner>(partner: &mut P) -> Result<KeyboardType, Stop>
 
 /// Detects the type of the keyboard. Scanning is enabled again whether it was recognised or not; a
 /// failure of that outweighs the type.
-/// OSDev Wiki, "8042 PS/2 Controller", "Detecting PS/2 Device Types". Refused: 2 to 7, unknown
+/// OSDev Wiki, "8042 PS/2 Controller", "Detecting PS/2 Device Types". Refused: 4 to 7, unknown
 /// keyboard (12).
 #[tactic(auto, unfolding(crate::specs::Keyboard::keyboard_detect, crate::specs::Heard::heard))]
 pub fn keyboard_detect<P: Partner>(partner: &mut P) -> Result<KeyboardType, Stop>
@@ -208,7 +208,7 @@ pub fn keyboard_detect<P: Partner>(partner: &mut P) -> Result<KeyboardType, Stop
 }
 
 /// Initialises the keyboard: detects its type, and chooses scancode set 1.
-/// Refused: 2 to 7, no set or identity (11), keyboard not detected (18).
+/// Refused: 4 to 7, no set or identity (11), keyboard not detected (18).
 #[tactic(auto, unfolding(crate::specs::Keyboard::keyboard_init, crate::specs::Heard::heard))]
 pub fn keyboard_init<P: Partner>(partner: &mut P) -> Result<(), Stop>
     ensures { by result partner.new ≡ heard P.replies talk.keyboard_init partner.old }

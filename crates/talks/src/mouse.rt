@@ -172,6 +172,7 @@ fn after_three<P: Partner>(
 }
 
 /// Reads the packet that a mouse of this identity sends, without asking the status.
+/// 3 reads of port 60 at identity 0, 4 at 3 and 4.
 #[tactic(auto, unfolding(crate::specs::Mouse::read_packet, crate::specs::Heard::heard))]
 pub fn read_packet<P: Partner>(partner: &mut P, id: MouseId) -> Result<SignedPacket, Stop>
     ensures { by result partner.new ≡ heard P.replies (talk.read_packet id) partner.old }
@@ -304,8 +305,8 @@ fn start_packets<P: Partner>(
 
 /// Sets the identity to the highest that the mouse takes on: a sequence of sampling rates asks it
 /// to.
-/// Refused: 2, 3, first identity four (13), rate or resolution not set (15), packets not stopped
-/// (16), packets not started (17).
+/// Refused: first identity four (13), rate or resolution not set (15), packets not stopped (16),
+/// packets not started (17).
 #[tactic(auto, unfolding(crate::specs::Mouse::set_mouse_id, crate::specs::Heard::heard))]
 pub fn set_mouse_id<P: Partner>(partner: &mut P, old: MouseId) -> Result<IdentityLeft, Stop>
     ensures { by result partner.new ≡ heard P.replies (talk.set_mouse_id old) partner.old }
