@@ -6,4 +6,4 @@ use Rattle.test_calls.proofs.Steps.{at_first}
 use Rattle.test_calls.proofs.rows.vdt_dispatcher_steps.Given as goal
 
 abbrev pub invariant-loop : goal.invariant-loop
-invariant-loop l = left l.state l.log ≡ made l.counter (scripts l.first l.second l.third) (left at_first l.initial.log)
+invariant-loop l = left l.state l.log ≡ made l.counter (scripts l.first l.second l.mouse) (left at_first l.initial.log)
