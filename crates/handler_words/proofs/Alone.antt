@@ -7,7 +7,7 @@ use mathlib.Core.Option.{Option, none, some}
 use Prim.Native.Nat.{ℕ, ◌+◌, ◌*◌, ◌/◌, ◌%◌, ◌<◌}
 use native.Mathlib.Omega.{arith}
 use lib.Dec.{eqb}
-use lib.ListN.{length, get_or, set, drop}
+use lib.ListN.{length, get_or, drop}
 use borrow.Author.Tests.{ltb-true, ltb-false, leb-true, ne_eqb}
 use Rattle.exchange.specs.Exchange.{yields, after_read, played, play}
 use Rattle.exchange.specs.Answer.{Answer, gives, refuses}
@@ -26,7 +26,6 @@ use Rattle.keyboard_scancodes.specs.Remembered.{fresh_keyboard}
 use Rattle.keyboard_scancodes.specs.Waiting.{bytes_from}
 use Rattle.keyboard_scancodes.proofs.Tests.{which}
 use Rattle.keyboard_sides.specs.declared.Side.{Side}
-use Rattle.keyboard_sides.specs.Sides.{with_side}
 use Rattle.keyboard_record.specs.declared.HandlerState.{HandlerState}
 use Rattle.keyboard_record.specs.Queue.{waiting_sides, room, place as at, one_more, if_given, free_place}
 use Rattle.keyboard_record.specs.Record.{keyboard_at, with_keyboard, call_formed}
@@ -41,10 +40,10 @@ use Rattle.keyboard.proofs.Effects.{formed_call}
 use Rattle.keyboard.proofs.Refused.{malformed_effects, malformed_log}
 use Rattle.keyboard_history.proofs.Meaning.{keycode_number}
 use Rattle.handler_words.specs.declared.HandledWords.{HandledWords}
-use Rattle.handler_words.specs.Layout.{keyboard_from, count_at, places_from, words_length}
-use Rattle.handler_words.specs.Words.{action_number, event_at, word_of, keyboard_in, state_of}
-use Rattle.handler_words.specs.Calls.{refusing, with_keyboard_at, with_sides}
-use Rattle.handler_words.specs.Parts.{Narrow, Says, KeyAlone, followed_by, byte_used, KeyQueued, KeyHandled}
+use Rattle.handler_words.specs.Layout.{keyboard_from, words_length}
+use Rattle.handler_words.specs.Words.{action_number, word_of, keyboard_in, state_of}
+use Rattle.handler_words.specs.Calls.{refusing, with_keyboard_at, with_event}
+use Rattle.handler_words.specs.Parts.{Narrow, reread, Says, KeyAlone, followed_by, byte_used, KeyQueued, KeyHandled}
 use Rattle.handler_words.proofs.Calls.{as_passed, moved_on}
 
 -- for its keyboard
@@ -144,10 +143,10 @@ module _ (side : Side) (s : HandlerState) (b flags place : ℕ) (ws : List ℕ) 
     unfolding key_event
     kept_out r m = rw (k, place_is, ← r) (record { answers = refl; moves = m; writes = refl; reads = refl })
 
-    pub joins : gives success ≡ room side s → {word : ℕ} → (word ≡ word_of (event_of b flags)) × (event_at word ≡ event_of b flags)
-        → {ws' : List ℕ} → ws' ≡ with_sides (with_side side s.count s.sides) (set (set ws (places_from + place) word) count_at (s.count + 1)) → KeyQueued outcome place ws 0 ws'
+    pub joins : gives success ≡ room side s → {ws' : List ℕ} → (ws' ≡ with_event place (one_more side s) (some (event_of b flags)) ws) × (reread (some (event_of b flags)) ≡ some (event_of b flags))
+        → KeyQueued outcome place ws 0 ws'
     unfolding key_event
-    joins r w q = rw (k, place_is, ← r) (record { answers = refl; moves = refl; writes = rw w.0 at q; reads = ap some (ap event_at (sym w.0) ∙ w.1) })
+    joins r w = rw (k, place_is, ← r) (record { answers = refl; moves = refl; writes = w.0; reads = w.1 })
 
 -- ---- whether a call is of a key alone, by its numbers
 

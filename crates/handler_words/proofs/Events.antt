@@ -1,5 +1,5 @@
 -- The number of an event stands for it.
-use mathlib.Core.Path.{◌≡◌, refl, ap, ◌∙◌}
+use mathlib.Core.Path.{◌≡◌, refl, ap, subst, ◌∙◌}
 use Prim.Native.Nat.{ℕ, ◌+◌, ◌*◌, ◌/◌, ◌%◌, ◌<◌}
 use native.Mathlib.Omega.{arith}
 use mathlib.Core.Bool.{Bool, true, false, cond, not}
@@ -11,7 +11,7 @@ use Rattle.keycodes_ascii.specs.declared.KeyAction.{KeyAction}
 use Rattle.keycodes_ascii.specs.declared.KeyEvent.{KeyEvent}
 use Rattle.keycodes_ascii.specs.declared.NoKeycode.{NoKeycode}
 use Rattle.keycodes_ascii.specs.Keycode.{number_of, keycodes, keycode_of, keycode_read}
-use Rattle.keycodes_ascii.proofs.Codes.{every_keycode, keycode_number, read_ok, read_err}
+use Rattle.keycodes_ascii.proofs.Codes.{every_keycode, keycode_number, Has, keycode_has, read_ok, read_err}
 use Rattle.keyboard_scancodes.specs.Events.{the_keycode, keycode_at}
 use Rattle.handler_words.specs.Words.{flags_limit, action_of, action_number, event_at, word_of}
 
@@ -54,9 +54,10 @@ event_at_lem v h =
 -- ---- a keycode by its number
 
 module _ (w : ℕ) {f : Result Keycode NoKeycode} {b : ℕ} (q : f ≡ keycode_read b) (r : b ≡ w % 256) where
-  pub found_in : {k : Keycode} → f ≡ Ok k → k ≡ (event_at w).keycode
+  pub found_in : {k : Keycode} → f ≡ Ok k → w % 256 ≡ number_of (event_at w).keycode
   unfolding event_at keycode_at
-  found_in e = ap the_keycode (read_ok b q e ∙ ap keycode_of r)
+  found_in e =
+      subst (λ (o : Option Keycode). Has (w % 256) o → w % 256 ≡ number_of (the_keycode o)) (read_ok b q e ∙ ap keycode_of r) (λ h. h) (keycode_has (w % 256))
 
   pub none_in : {x : NoKeycode} → f ≡ Err x → 0 ≡ number_of (event_at w).keycode
   unfolding event_at keycode_at

@@ -12,7 +12,7 @@ ghost use Rattle.keyboard.specs.Outcomes.{said_event};
 ghost use Rattle.exchange.specs.Answer.{gives, number_answered};
 ghost use Rattle.ps2_answers.specs.Refusals.{success};
 ghost use Rattle.keycodes_ascii.specs.Keycode.{number_of};
-ghost use Rattle.keyboard_record.specs.Queue.{free_place};
+ghost use Rattle.keyboard_record.specs.Queue.{free_place, one_more};
 ghost use Rattle.keyboard_record.specs.Record.{fresh, is_ready};
 ghost use Rattle.port_words.specs.Told.{port_lacked};
 ghost use Rattle.handler_words.specs.Layout.{keyboard_from, count_at, places_from};
@@ -242,15 +242,22 @@ fn put_keyboard(words: &mut Words, side: Side, keyboard: KeyboardState)
     words[at + 4] = high;
 }
 
+// Stores how many events wait, and their sides.
+fn put_row(words: &mut Words, count: usize, sides: Sides)
+    ensures { words.new ≡ with_sides sides (set words.old count_at count) }
+{
+    words[COUNT_AT] = count as u64;
+    words[LOW_SIDES_AT] = sides.low;
+    words[HIGH_SIDES_AT] = sides.high;
+}
+
 // Stores the number of an event in a place, with the count and the sides that it makes.
 fn put_place(words: &mut Words, place: usize, word: u64, waiting: usize, sides: Sides)
     requires { place < 128 }
     ensures { words.new ≡ with_sides sides (set (set words.old (places_from + place) word) count_at waiting) }
 {
     words[PLACES_FROM + place] = word;
-    words[COUNT_AT] = waiting as u64;
-    words[LOW_SIDES_AT] = sides.low;
-    words[HIGH_SIDES_AT] = sides.high;
+    put_row(words, waiting, sides);
 }
 
 // Stores an event in a place, with the count and the sides that it makes.
@@ -304,6 +311,27 @@ fn key_word(scan_code: u8, modifiers: KeyboardModifiers) -> u64
     byte % 128 + 256 * (byte / 128) + 65536 * u64::from(modifiers.bits)
 }
 
+// Queues the event of a key's byte, with these flags, in the first place behind those that wait.
+#[inline(always)]
+fn put_key(
+    words: &mut Words,
+    left: HandlerState,
+    side: Side,
+    scan_code: u8,
+    modifiers: KeyboardModifiers,
+)
+    requires { (is_known scan_code ≡ true) × ((left.start < 128) × (left.count ≤ 128)) }
+    ensures { (words.new ≡ with_event (free_place left) (one_more side left) (some (event_of scan_code modifiers.bits)) words.old) × (reread (some (event_of scan_code modifiers.bits)) ≡ some (event_of scan_code modifiers.bits)) }
+{
+    put_place(
+        words,
+        (left.start + left.count) % QUEUE_LENGTH,
+        key_word(scan_code, modifiers),
+        left.count + 1,
+        left.sides.with_side(side, left.count),
+    );
+}
+
 // Queues the event of a key's byte where it has one and there is room, at a table without the profile, and answers 19, 31, 20 or 0.
 fn queue_key(
     words: &mut Words,
@@ -320,13 +348,7 @@ fn queue_key(
     }
     match left.room_of(side) {
         Ok(()) => {
-            put_place(
-                words,
-                (left.start + left.count) % QUEUE_LENGTH,
-                key_word(scan_code, modifiers),
-                left.count + 1,
-                left.sides.with_side(side, left.count),
-            );
+            put_key(words, left, side, scan_code, modifiers);
             0
         }
         Err(NoRoom::OutsideProfile) => 33,
@@ -447,13 +469,7 @@ fn handle_plain(words: &mut Words, side: Side, script: &[u8]) -> HandledWords
     let state = state_in(words);
     let modifiers = state.keyboard_at(side).modifiers;
     put_keyboard(words, side, followed(modifiers));
-    put_place(
-        words,
-        (state.start + state.count) % QUEUE_LENGTH,
-        key_word(script[0], modifiers),
-        state.count + 1,
-        state.sides.with_side(side, state.count),
-    );
+    put_key(words, state, side, script[0], modifiers);
     byte_used(0)
 }
 
@@ -538,12 +554,13 @@ fn side_number(side: Side) -> u32
     }
 }
 
-// The keycode of the event that a place's number stands for.
+// The keycode of the event that a place's number stands for: its lowest byte, where that is a keycode's.
 fn keycode_in(word: u64) -> u32
     ensures { result ≡ number_of (event_at word).keycode }
 {
-    match Keycode::try_from((word % 256) as u8) {
-        Ok(keycode) => u32::from(u8::from(keycode)),
+    let byte = (word % 256) as u8;
+    match Keycode::try_from(byte) {
+        Ok(_) => u32::from(byte),
         Err(_) => 0,
     }
 }
@@ -566,9 +583,7 @@ fn put_queue(words: &mut Words, start: usize, count: usize, others: Sides)
     ensures { words.new ≡ with_queue_at start count others words.old }
 {
     words[START_AT] = start as u64;
-    words[COUNT_AT] = count as u64;
-    words[LOW_SIDES_AT] = others.low;
-    words[HIGH_SIDES_AT] = others.high;
+    put_row(words, count, others);
 }
 
 /// A taking from a lent record: 21 where it has not 144 numbers.

@@ -172,6 +172,7 @@ impl TryFrom<u8> for Keycode {
 
     // The enum's numbers once more.
     #[tactic(auto, unfolding(crate::specs::Keycode::keycode_of, crate::specs::Keycode::numbered, crate::specs::Keycode::keycodes))]
+    #[inline(always)]
     fn try_from(byte: u8) -> Result<Keycode, NoKeycode> {
         let keycode = match byte {
             0x00 => Keycode::OverflowError,
@@ -283,6 +284,7 @@ impl TryFrom<u8> for Keycode {
 impl From<Keycode> for u8 {
     ghost from_gives = { λ keycode byte. byte ≡ number_of keycode };
 
+    #[inline(always)]
     fn from(keycode: Keycode) -> u8 {
         keycode as u8
     }

@@ -1,5 +1,4 @@
 -- `handler_words::handle_plain` meets its contract: the byte is followed, which changes no flag, and its event queued.
-use native.Mathlib.Omega.{arith}
 use Rattle.keyboard_scancodes.proofs.Plain.{plain_known}
 use Rattle.keyboard_record.proofs.Ready.{ready_says}
 use Rattle.keyboard_record.proofs.WellFormed.{WellFormed, call_is}
@@ -17,18 +16,10 @@ well c =
 pub state_in-state-requires : goal.state_in-state-requires
 state_in-state-requires c = ready_passes c.args.words.now c.args.side c.requires.ready
 
-pub overflow_add-state : goal.overflow_add-state
-overflow_add-state c =
-    let w = well (goal.at.overflow_add-state c).After-state_in-state in
-    record { fits = omega (arith, w.start_in, w.count_in) }
-
-pub key_word-requires : goal.key_word-requires
-key_word-requires c = plain_known _ c.requires.plain
-
-pub overflow_add-state-2 : goal.overflow_add-state-2
-overflow_add-state-2 c =
-    let w = well (goal.at.overflow_add-state-2 c).After-state_in-state in
-    record { fits = omega (arith, w.count_in) }
+pub put_key-requires : goal.put_key-requires
+put_key-requires c =
+    let w = well (goal.at.put_key-requires c).After-state_in-state in
+    (plain_known _ c.requires.plain, (w.start_in, w.count_in))
 
 pub returns : goal.returns
 returns c =
@@ -36,4 +27,4 @@ returns c =
     let t = c.state_in-state.ensures in
     rw c.byte_used.ensures
     (plain_handled a.side a.words.now a.script.now c.told-words c.requires (rw (c.keyboard_at.ensures, t) at c.followed.ensures) c.put_keyboard.ensures
-    (rw (c.keyboard_at.ensures, t) at c.key_word.ensures) (rw (c.with_side.ensures, t) at c.put_place.ensures))
+    (rw (c.keyboard_at.ensures, t) at c.put_key.ensures))

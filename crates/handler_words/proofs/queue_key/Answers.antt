@@ -18,11 +18,13 @@ returns-then-scan_code-gt-LAST_KEYCODE c =
 known : (c : Else-scan_code-gt-LAST_KEYCODE) → is_known c.args.scan_code ≡ true
 known c = le-leb (low_part c.args.scan_code) last_keycode c.if-scan_code-gt-LAST_KEYCODE.false
 
+pub put_key-requires : goal.put_key-requires
+put_key-requires c = (known (goal.at.put_key-requires c).Else-scan_code-gt-LAST_KEYCODE, c.requires.0)
+
 pub returns-in-Ok : goal.returns-in-Ok
 returns-in-Ok c =
     let a = c.args in
-    joins a.side a.left a.scan_code a.modifiers.bits (free_place a.left) a.words.now (known (goal.at.returns-in-Ok c).Else-scan_code-gt-LAST_KEYCODE) c.requires.1 (sym (ap said_room c.in-Ok.is) ∙ c.room_of.ensures) c.key_word.ensures
-    (rw c.with_side.ensures at c.put_place.ensures)
+    joins a.side a.left a.scan_code a.modifiers.bits (free_place a.left) a.words.now (known (goal.at.returns-in-Ok c).Else-scan_code-gt-LAST_KEYCODE) c.requires.1 (sym (ap said_room c.in-Ok.is) ∙ c.room_of.ensures) c.put_key.ensures
 
 pub returns-in-Err-OutsideProfile : goal.returns-in-Err-OutsideProfile
 returns-in-Err-OutsideProfile c =
