@@ -11,11 +11,11 @@ use Rattle.ps2_answers.specs.Refusals.{port_of}
 use Rattle.ps2_detect.specs.Detection.{second_bytes}
 use Rattle.ps2_mouse.specs.Mouse.{mouse_byte_waits}
 use Rattle.questions.specs.declared.Question.{Question}
-use Rattle.questions.specs.declared.Question.TheVariants.{Write, Seek}
+use Rattle.questions.specs.declared.Question.TheVariants.{Write, Seek, Attempt}
 use Rattle.questions.specs.declared.Sought.{Sought}
 use Rattle.questions.specs.declared.Sought.TheVariants.{InputFree, Response, FirstOfIdentity, SecondOfIdentity, ScancodeSet, PortPassed, MouseIdentity, Byte, Data, Status}
 use Rattle.questions.specs.declared.Going.{Going}
-use Rattle.questions.specs.declared.Going.TheVariants.{Writing, Seeking}
+use Rattle.questions.specs.declared.Going.TheVariants.{Writing, Seeking, Sending, Submitting}
 use Rattle.questions.specs.declared.Wait.{Wait}
 
 -- What a byte is worth to a wait: it is what the wait is for, or it is thrown away.
@@ -77,13 +77,37 @@ further_turns s further r = turned r (repeat further None (turn s))
 abbrev pub going_on : Wait → Exchange (Option ℕ)
 going_on w = cond w.at_data (bind (second w.sought) (further_turns w.sought w.further)) (bind (turn w.sought) (further_turns w.sought w.further))
 
+-- The limits, less the turn that a wait begins with: 255 status reads of a sending; 65,535 polls of a receiving.
+abbrev pub further_tries : ℕ
+further_tries = 254
+
+abbrev pub further_polls : ℕ
+further_polls = 65534
+
+-- "One attempt sends, then receives." Its reply is that of its receiving; where the byte can't be sent it is 4, which is no response.
+abbrev pub input_stayed_full : ℕ
+input_stayed_full = 4
+
+abbrev pub response_awaited : Exchange (Option ℕ)
+response_awaited = bind (turn Response) (further_turns Response further_polls)
+
+abbrev pub submitted : ℕ → Exchange (Option ℕ)
+submitted v = write p60 v response_awaited
+
+abbrev pub sent : ℕ → Option ℕ → Exchange (Option ℕ)
+sent v None = done (Some input_stayed_full)
+sent v (Some status) = submitted v
+
 abbrev pub going : Going → Exchange (Option ℕ)
 going (Writing p v) = write (port_of p) v (done None)
 going (Seeking w) = going_on w
+going (Sending v further) = bind (bind (turn InputFree) (further_turns InputFree further)) (sent v)
+going (Submitting v) = submitted v
 
 abbrev pub begun : Question → Going
 begun (Write p v) = Writing p v
 begun (Seek s further) = Seeking (record { sought = s; further = further; at_data = false })
+begun (Attempt v) = Sending v further_tries
 
 -- The whole question, and its reply.
 abbrev pub asked : Question → Exchange (Option ℕ)

@@ -1,5 +1,5 @@
-//! Questions to the ports, a byte at a time: a write, or a whole bounded wait, which has one reply
-//! however often it reads.
+//! Questions to the ports, a byte at a time: a write, a whole bounded wait, or one attempt of a
+//! command. Each has one reply, however often it reads.
 //!
 //! A place in a question is all that is kept of it. [`wanted_at`] tells what is asked of the ports
 //! there, and [`step`] what one byte makes of it: another place, or the question's reply.
@@ -15,8 +15,9 @@ ghost use Rattle.ps2_mouse.specs.Mouse.{mouse_byte_waits};
 ghost use Rattle.questions.specs.declared.Sought.TheVariants as AnySought;
 ghost use Rattle.questions.specs.declared.Sought.{Sought as ASought};
 ghost use Rattle.bits.specs.Bits.{bit};
-ghost use Rattle.ps2_layouts.specs.Status.{output_buffer_full};
-ghost use Rattle.questions.specs.Asked.{meets, first, second, turn, further_turns, going, going_on, begun, first_port};
+ghost use Rattle.ps2_layouts.specs.Status.{output_buffer_full, input_buffer_full};
+ghost use Rattle.questions.specs.Asked.{meets, first, second, turn, further_turns, going, going_on, begun, first_port, response_awaited, sent};
+ghost use Rattle.questions.specs.declared.Going.TheVariants as AGoing;
 ghost use Rattle.questions.specs.Steps.{worth, after, stepped, wants, a_read, requested};
 
 use ps2_answers::ReadPort;
@@ -48,18 +49,32 @@ pub enum Sought {
     Status,
 }
 
-/// A question to the ports: a write, or a wait with so many turns behind its first.
+/// The polls of a receiving behind the first: 65,535 in all.
+pub const FURTHER_POLLS: u32 = 65534;
+
+// The status reads of a sending, behind the first.
+const FURTHER_TRIES: u32 = 254;
+
+// The reply to an attempt where the input buffer stayed full. No response is this byte.
+const INPUT_STAYED_FULL: u8 = 4;
+
+/// A question to the ports: a write, a wait with so many turns behind its first, or one attempt of a
+/// command, which sends this byte to a device and polls for its response.
 #[derive(Clone, Copy)]
 pub enum Question {
     Write(ReadPort, u8),
     Seek(Sought, u32),
+    Attempt(u8),
 }
 
-/// A place in a question: the write is to be made, or a wait has come so far.
+/// A place in a question: the write is to be made, or a wait has come so far. An attempt waits until
+/// it can send its byte, with so many turns behind this one; sends it; and is then a wait.
 #[derive(Clone, Copy)]
 pub enum Going {
     Writing(ReadPort, u8),
     Seeking(Wait),
+    Sending(u8, u32),
+    Submitting(u8),
 }
 
 /// A place in a wait: its turn is at its first byte, or at the data behind its status, with so many
@@ -87,7 +102,8 @@ pub enum Worth {
 }
 
 /// What one byte makes of a place: another place, or the question's reply, which is the byte that a
-/// wait found; a write has none, and neither has a wait whose turns are over.
+/// wait found; a write has none, and neither has a wait whose turns are over. An attempt's reply is
+/// that of its wait for a response, or a 4, which is no response, if its byte could not be sent.
 #[derive(Clone, Copy)]
 pub enum Stepped {
     Goes(Going),
@@ -186,14 +202,21 @@ fn mouse_poll_byte(byte: u8) -> Worth
     }
 }
 
+// Whether the input buffer is full, by the status.
+fn is_full(status: u8) -> bool
+    ensures { result ≡ bit input_buffer_full status }
+{
+    ControllerToHostStatus::from(status).input_buffer_full()
+}
+
 // What the first byte of a turn comes to.
+#[inline(always)]
 fn first_byte(sought: Sought, byte: u8) -> Worth
     ensures { first sought byte ≡ worth sought byte result }
 {
-    let status = ControllerToHostStatus::from(byte);
     match sought {
         Sought::InputFree => {
-            if status.input_buffer_full() {
+            if is_full(byte) {
                 Worth::Again
             } else {
                 Worth::Found
@@ -218,6 +241,7 @@ fn first_byte(sought: Sought, byte: u8) -> Worth
 }
 
 // A turn that found nothing: the next, or none.
+#[inline(always)]
 fn next_turn(sought: Sought, further: u32) -> Stepped
     ensures { repeat further None (turn sought) ≡ stepped result }
 {
@@ -232,6 +256,7 @@ fn next_turn(sought: Sought, further: u32) -> Stepped
 }
 
 // The first byte of a wait's turn.
+#[inline(always)]
 fn step_first(sought: Sought, further: u32, byte: u8) -> Stepped
     ensures { after (bind (turn sought) (further_turns sought further)) byte ≡ stepped result }
 {
@@ -247,6 +272,7 @@ fn step_first(sought: Sought, further: u32, byte: u8) -> Stepped
 }
 
 // The data of a wait's turn.
+#[inline(always)]
 fn step_data(sought: Sought, further: u32, byte: u8) -> Stepped
     ensures { after (bind (second sought) (further_turns sought further)) byte ≡ stepped result }
 {
@@ -258,6 +284,7 @@ fn step_data(sought: Sought, further: u32, byte: u8) -> Stepped
 }
 
 // One byte of a wait.
+#[inline(always)]
 fn step_wait(wait: Wait, byte: u8) -> Stepped
     ensures { after (going_on wait) byte ≡ stepped result }
 {
@@ -268,14 +295,49 @@ fn step_wait(wait: Wait, byte: u8) -> Stepped
     }
 }
 
+// What is left of a sending after a status that let nothing through.
+fn next_try(value: u8, further: u32) -> Stepped
+    ensures { bind (repeat further None (turn AnySought.InputFree)) (sent value) ≡ stepped result }
+{
+    if further == 0 {
+        return Stepped::Reply(Some(INPUT_STAYED_FULL));
+    }
+    Stepped::Goes(Going::Sending(value, further - 1))
+}
+
+// One status of an attempt that waits until it can send its byte.
+fn step_sending(value: u8, further: u32, status: u8) -> Stepped
+    ensures { after (going (AGoing.Sending value further)) status ≡ stepped result }
+{
+    if is_full(status) {
+        next_try(value, further)
+    } else {
+        Stepped::Goes(Going::Submitting(value))
+    }
+}
+
+// The wait for the response to a byte that was sent.
+fn receiving() -> Going
+    ensures { going result ≡ response_awaited }
+{
+    Going::Seeking(Wait {
+        sought: Sought::Response,
+        further: FURTHER_POLLS,
+        at_data: false,
+    })
+}
+
 /// What the byte that was read makes of a place; or the write that was made, where the byte means
 /// nothing.
+#[inline(always)]
 pub fn step(at: Going, byte: u8) -> Stepped
     ensures { after (going at) byte ≡ stepped result }
 {
     match at {
         Going::Writing(_, _) => Stepped::Reply(None),
         Going::Seeking(wait) => step_wait(wait, byte),
+        Going::Sending(value, further) => step_sending(value, further, byte),
+        Going::Submitting(_) => Stepped::Goes(receiving()),
     }
 }
 
@@ -290,6 +352,7 @@ pub fn begin_question(question: Question) -> Going
             further,
             at_data: false,
         }),
+        Question::Attempt(value) => Going::Sending(value, FURTHER_TRIES),
     }
 }
 
@@ -312,6 +375,7 @@ fn first_read(sought: Sought) -> ReadPort
 }
 
 // What a wait asks of the ports.
+#[inline(always)]
 #[tactic(auto, unfolding(exchange::specs::Exchange::bind))]
 fn wanted_on(wait: Wait) -> ReadPort
     ensures { wants (going_on wait) ≡ a_read (port_of result) }
@@ -324,11 +388,15 @@ fn wanted_on(wait: Wait) -> ReadPort
 }
 
 /// What a place in a question asks of the ports.
+#[inline(always)]
+#[tactic(auto, unfolding(exchange::specs::Exchange::bind))]
 pub fn wanted_at(at: Going) -> Request
     ensures { wants (going at) ≡ requested result }
 {
     match at {
         Going::Writing(port, value) => Request::Write(port, value),
         Going::Seeking(wait) => Request::Read(wanted_on(wait)),
+        Going::Sending(_, _) => Request::Read(ReadPort::Status),
+        Going::Submitting(value) => Request::Write(ReadPort::Data, value),
     }
 }

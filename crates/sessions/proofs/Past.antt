@@ -8,9 +8,10 @@ use Rattle.exchange.specs.Exchange.{Exchange, done, read, write, bind}
 use Rattle.ps2_answers.specs.declared.Failure.{Failure}
 use Rattle.questions.specs.declared.Question.{Question}
 use Rattle.questions.specs.declared.Sought.{Sought}
+use Rattle.questions.specs.declared.Sought.TheVariants.{InputFree}
 use Rattle.questions.specs.declared.Going.{Going}
-use Rattle.questions.specs.declared.Going.TheVariants.{Writing, Seeking}
-use Rattle.questions.specs.Asked.{going, begun, turn, second, further_turns}
+use Rattle.questions.specs.declared.Going.TheVariants.{Writing, Seeking, Sending, Submitting}
+use Rattle.questions.specs.Asked.{going, begun, turn, second, further_turns, sent}
 use Rattle.questions.specs.Steps.{after, wants}
 use Rattle.talks.specs.declared.Stop.TheVariants.{Asks, Refused}
 use Rattle.sessions.specs.Memory.{reply_in}
@@ -74,6 +75,12 @@ unfolding bind
 not_end_on s k true r p = cc
 not_end_on s k false r p = cc
 
+not_end_sending : (v k : ℕ) (r : Option ℕ) → bind (bind (turn InputFree) (further_turns InputFree k)) (sent v) ≡ done r → ⊥
+unfolding bind
+not_end_sending v k r p = cc
+
 pub not_end : (g : Going) (r : Option ℕ) → going g ≡ done r → ⊥
 not_end (Writing p v) r q = cc
 not_end (Seeking w) r q = not_end_on w.sought w.further w.at_data r q
+not_end (Sending v k) r q = not_end_sending v k r q
+not_end (Submitting v) r q = cc

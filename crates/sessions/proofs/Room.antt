@@ -124,18 +124,13 @@ write_asks p v = next_asks (asks _) _ 1 0 1 (one_asks _) (λ r. tells_asks _ 0) 
 sought_asks : {B : Type 0} (s : Sought) (m : ℕ) (f : Failure) (g : ℕ → Result B Failure) → Asks 1 (rounds (next (command.seek s m f) (λ b. tells (g b))))
 sought_asks s m f g = next_asks (command.seek s m f) (λ b. tells (g b)) 1 0 1 (seek_asks s m f) (λ b. tells_asks (g b) 0) (omega arith)
 
-send_receive_asks : (v : HostToDevice) → Asks 3 (rounds (command.send_receive v))
-unfolding command.send_receive command.send command.receive
-send_receive_asks v =
-    next_asks (command.send v) (λ _. command.receive) 2 1 3 (next_asks (command.seek _ _ _) _ 1 1 2 (seek_asks _ _ _) (λ _. write_asks _ _) (omega arith)) (λ _. sought_asks _ _ _ _) (omega arith)
-
-attempt_asks : (v : HostToDevice) → Asks 3 (rounds (command.attempt v))
+attempt_asks : (v : HostToDevice) → Asks 1 (rounds (command.attempt v))
 unfolding command.attempt
-attempt_asks v = next_asks (command.send_receive v) _ 3 0 3 (send_receive_asks v) (λ r. tells_asks _ 0) (omega arith)
+attempt_asks v = next_asks (asks _) _ 1 0 1 (one_asks _) (λ r. tells_asks _ 0) (omega arith)
 
 command_asks : (v : HostToDevice) → Asks 12 (rounds (command.command v))
 unfolding command.command rounds
-command_asks v = attempts_asks 4 _ (rounds (command.attempt v)) 3 (attempt_asks v)
+command_asks v = weaker (rounds (command.command v)) 4 12 (omega arith) (attempts_asks 4 _ (rounds (command.attempt v)) 1 (attempt_asks v))
 
 by_asks : (port : DevicePort) (v : HostToDevice) → Asks 13 (rounds (command.command_by port v))
 unfolding command.command_by

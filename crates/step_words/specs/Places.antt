@@ -3,7 +3,7 @@ use Rattle.std.specs.Prelude.{Bool, true, false, cond, ℕ, eqb, ltb, List, Opti
 use Rattle.ps2_answers.specs.declared.ReadPort.{ReadPort}
 use Rattle.ps2_answers.specs.declared.ReadPort.TheVariants as Port
 use Rattle.questions.specs.declared.Going.{Going}
-use Rattle.questions.specs.declared.Going.TheVariants.{Writing, Seeking}
+use Rattle.questions.specs.declared.Going.TheVariants.{Writing, Seeking, Sending, Submitting}
 use Rattle.questions.specs.declared.Sought.{Sought}
 use Rattle.questions.specs.declared.Sought.TheVariants.{InputFree, Response, FirstOfIdentity, SecondOfIdentity, ScancodeSet, PortPassed, MouseIdentity, Byte, Data, Status}
 
@@ -39,7 +39,9 @@ seeking_in s f d = onward s (λ s. onward f (λ f. onward d (λ d. Some (Seeking
 abbrev pub going_in : ℕ → ℕ → ℕ → ℕ → Option Going
 going_in k a b c =
     cond (eqb k 1) (onward (port_in a) (λ p. onward (below 256 b) (λ v. Some (Writing p v))))
-    (seeking_in (sought_in k a) (below 4294967296 b) (flag_in c))
+    (cond (eqb k 12) (onward (below 256 a) (λ v. onward (below 4294967296 b) (λ f. Some (Sending v f))))
+    (cond (eqb k 13) (onward (below 256 a) (λ v. Some (Submitting v)))
+    (seeking_in (sought_in k a) (below 4294967296 b) (flag_in c))))
 
 -- The place in a session's first numbers. 0 is the kind of none.
 abbrev pub place_in : List ℕ → Option Going

@@ -1,7 +1,7 @@
 // A place in a question, in four numbers.
 ghost use Rattle.std.specs.Prelude.{◌≡◌, ◌≤◌, Some, length, get_or, take};
 ghost use Rattle.questions.specs.declared.Going.TheVariants.{Seeking};
-ghost use Rattle.step_words.specs.Places.{port_in, below, flag_in, sought_in, going_in, place_in};
+ghost use Rattle.step_words.specs.Places.{port_in, below, flag_in, sought_in, seeking_in, going_in, place_in};
 
 use ps2_answers::ReadPort;
 use questions::{Going, Sought, Wait};
@@ -47,6 +47,7 @@ fn flag_at(word: u64) -> Option<bool>
     }
 }
 
+#[inline(always)]
 fn sought_at(kind: u64, word: u64) -> Option<Sought>
     ensures { result ≡ sought_in kind word }
 {
@@ -73,13 +74,25 @@ fn writing_at(first: u64, second: u64) -> Option<Going>
     Some(Going::Writing(port, value))
 }
 
-/// The place that four numbers are.
-pub fn going_at(kind: u64, first: u64, second: u64, third: u64) -> Option<Going>
-    ensures { result ≡ going_in kind first second third }
+fn sending_at(first: u64, second: u64) -> Option<Going>
+    ensures { result ≡ going_in 12 first second 0 }
 {
-    if kind == 1 {
-        return writing_at(first, second);
-    }
+    let value = byte_at(first)?;
+    let further = turns_at(second)?;
+    Some(Going::Sending(value, further))
+}
+
+fn submitting_at(first: u64) -> Option<Going>
+    ensures { result ≡ going_in 13 first 0 0 }
+{
+    let value = byte_at(first)?;
+    Some(Going::Submitting(value))
+}
+
+#[inline(always)]
+fn seeking_at(kind: u64, first: u64, second: u64, third: u64) -> Option<Going>
+    ensures { result ≡ seeking_in (sought_in kind first) (below 4294967296 second) (flag_in third) }
+{
     let sought = sought_at(kind, first)?;
     let further = turns_at(second)?;
     let at_data = flag_at(third)?;
@@ -88,6 +101,19 @@ pub fn going_at(kind: u64, first: u64, second: u64, third: u64) -> Option<Going>
         further,
         at_data,
     }))
+}
+
+/// The place that four numbers are.
+#[inline(always)]
+pub fn going_at(kind: u64, first: u64, second: u64, third: u64) -> Option<Going>
+    ensures { result ≡ going_in kind first second third }
+{
+    match kind {
+        1 => writing_at(first, second),
+        12 => sending_at(first, second),
+        13 => submitting_at(first),
+        _ => seeking_at(kind, first, second, third),
+    }
 }
 
 /// What is waited for, in two numbers.
@@ -106,9 +132,11 @@ pub struct Four {
     pub third: u64,
 }
 
+#[inline(always)]
 fn sought_words(sought: Sought) -> Two
     ensures kind { sought_in result.kind result.first ≡ Some sought }
     ensures seeks { 2 ≤ result.kind }
+    ensures waits { result.kind ≤ 11 }
 {
     match sought {
         Sought::InputFree => Two { kind: 2, first: 0 },
@@ -142,6 +170,7 @@ fn flag_word(b: bool) -> u64
     if b { 1 } else { 0 }
 }
 
+#[inline(always)]
 fn wait_words(wait: Wait) -> Four
     ensures { going_in result.kind result.first result.second result.third ≡ Some (Seeking wait) }
 {
@@ -155,6 +184,7 @@ fn wait_words(wait: Wait) -> Four
 }
 
 // The numbers that a place is.
+#[inline(always)]
 fn going_words(going: Going) -> Four
     ensures { going_in result.kind result.first result.second result.third ≡ Some going }
 {
@@ -166,10 +196,23 @@ fn going_words(going: Going) -> Four
             third: 0,
         },
         Going::Seeking(wait) => wait_words(wait),
+        Going::Sending(value, further) => Four {
+            kind: 12,
+            first: value as u64,
+            second: further as u64,
+            third: 0,
+        },
+        Going::Submitting(value) => Four {
+            kind: 13,
+            first: value as u64,
+            second: 0,
+            third: 0,
+        },
     }
 }
 
 /// Puts a place where it stands in a session's first numbers, and leaves all others.
+#[inline(always)]
 pub(crate) fn put_place(fields: &mut [u64], going: Going)
     requires { length fields.old ≡ 12 }
     ensures place { place_in fields.new ≡ Some going }

@@ -32,11 +32,11 @@ use Rattle.ps2_init.specs.declared.PS2Controller.{PS2Controller}
 use Rattle.ps2_init.specs.Init as init
 use Rattle.ps2_init.specs.Init.{has_mouse, with_devices, read_last, or_passed}
 use Rattle.questions.specs.declared.Sought.TheVariants.{PortPassed}
-use Rattle.questions.specs.Asked.{meets}
+use Rattle.questions.specs.Asked.{meets, further_polls}
 use Rattle.talks.specs.declared.controller.ControllerLeft.{ControllerLeft}
 use Rattle.talks.specs.Talk.{tells, next, tree, answering, answer_of}
 use Rattle.talks.specs.Commands as command
-use Rattle.talks.specs.Commands.{seek, read_data, further_polls}
+use Rattle.talks.specs.Commands.{seek, read_data}
 use Rattle.talks.specs.Keyboard as keyboard
 use Rattle.talks.specs.Mouse as mouse
 use Rattle.talks.specs.Controller as talk

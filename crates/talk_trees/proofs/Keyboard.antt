@@ -30,9 +30,9 @@ use Rattle.preferences_application.specs.Application.{set_keyboard_repeat}
 use Rattle.keyboard_init.specs.KeyboardInit.{detection, keyboard_init}
 use Rattle.questions.specs.declared.Question.TheVariants.{Seek}
 use Rattle.questions.specs.declared.Sought.TheVariants as Sought
-use Rattle.questions.specs.Asked.{came, meets, asked}
+use Rattle.questions.specs.Asked.{came, meets, asked, further_polls}
 use Rattle.talks.specs.Talk.{tells, next, trying, tree as the_tree, answering, answer_of}
-use Rattle.talks.specs.Commands.{seek, read_data, self_test, further_polls}
+use Rattle.talks.specs.Commands.{seek, read_data, self_test}
 use Rattle.talks.specs.Keyboard as talk
 use Rattle.talk_trees.proofs.Trees.{answering_next, telling_tried, answering_failing, answering_tells, through, wait_through}
 use Rattle.talk_trees.proofs.Waits.{after_seek, answering_seek, answering_sought, polls_through, table_talk, table_through, answering_command, answering_pair, answering_self_test}

@@ -30,10 +30,10 @@ use Rattle.ps2_packet_reading.specs.Reading.{three_bytes, read_mouse_packet, rea
 use Rattle.ps2_mouse_identity.specs.Identity as tree_of
 use Rattle.ps2_mouse_identity.specs.Identity.{wheel_rates, button_rates}
 use Rattle.questions.specs.declared.Sought.TheVariants.{MouseIdentity, Status}
-use Rattle.questions.specs.Asked.{meets}
+use Rattle.questions.specs.Asked.{meets, further_polls}
 use Rattle.talks.specs.Talk.{Talk, tells, next, trying, tree as the_tree, answering, answer_of}
 use Rattle.talks.specs.declared.mouse.IdentityLeft.{IdentityLeft}
-use Rattle.talks.specs.Commands.{seek, read_data, self_test, further_polls}
+use Rattle.talks.specs.Commands.{seek, read_data, self_test}
 use Rattle.talks.specs.Mouse as talk
 use Rattle.talk_trees.proofs.Trees.{telling, answering_next, next_assoc, telling_tried, answering_failing, answering_tells}
 use Rattle.talk_trees.proofs.Waits.{after_seek, answering_seek, answering_sought, answering_data, polls_through, table_talk, table_through, answering_command_by, answering_pair, answering_self_test}

@@ -9,7 +9,7 @@ use Rattle.bits.specs.Bits.{bit}
 use Rattle.bits.specs.Table.{decode}
 use Rattle.bits.proofs.Table.{decode_map}
 use Rattle.exchange.specs.Exchange.{p60, p64, Exchange, done, read, write, bind}
-use Rattle.exchange.specs.Answer.{Answer, gives, refuses, and_then}
+use Rattle.exchange.specs.Answer.{Answer, gives, refuses, on_given, and_then}
 use Rattle.exchange.specs.Repeat.{Turn, found, again, repeat}
 use Rattle.exchange.proofs.Sequence.{bind_assoc}
 use Rattle.ps2_bytes.specs.Commands.{controller_byte}
@@ -25,7 +25,7 @@ use Rattle.ps2_answers.specs.declared.ReadPort.{ReadPort}
 use Rattle.ps2_answers.specs.declared.ReadPort.TheVariants as Port
 use Rattle.ps2_answers.specs.declared.Failure.{Failure}
 use Rattle.ps2_answers.specs.declared.Failure.TheVariants.{NoResponse, InputBufferFull}
-use Rattle.ps2_polling.specs.Polling.{send_try, polling_send, poll, data_turn, passed_turn, polling_receive, polling_send_receive}
+use Rattle.ps2_polling.specs.Polling.{send_try, polling_send, poll, data_turn, passed_turn, response_turn, polling_receive, polling_send_receive}
 use Rattle.ps2_command.specs.Command as Rule
 use Rattle.ps2_command.specs.Command.{settled, command_by}
 use Rattle.ps2_command.specs.Search.{listed_turn, self_test_within}
@@ -33,14 +33,14 @@ use Rattle.ps2_ports.specs.declared.DevicePort.{DevicePort}
 use Rattle.ps2_ports.specs.declared.DevicePort.TheVariants.{Port1, Port2}
 use Rattle.ps2_bytes.specs.declared.response.DeviceToHostResponse.{DeviceToHostResponse}
 use Rattle.ps2_bytes.specs.declared.response.DeviceToHostResponse.TheVariants.{KeyDetectionErrorOrInternalBufferOverrun1, SelfTestPassed, ResponseToEcho, Acknowledge, SelfTestFailed1, SelfTestFailed2, ResendCommand, KeyDetectionErrorOrInternalBufferOverrun2}
-use Rattle.questions.specs.declared.Question.TheVariants.{Seek}
+use Rattle.questions.specs.declared.Question.TheVariants.{Seek, Attempt}
 use Rattle.questions.specs.declared.Sought.{Sought}
 use Rattle.questions.specs.declared.Sought.TheVariants.{InputFree, Response, Byte, Data}
-use Rattle.questions.specs.Asked.{came, meets, second, turn, asked}
+use Rattle.questions.specs.Asked.{came, meets, second, turn, further_turns, further_tries, further_polls, response_awaited, sent, asked}
 use Rattle.talks.specs.Talk.{Talk, tells, next, on_ok, tree, answer_of, answering}
 use Rattle.talks.specs.Commands as talk
 use Rattle.talks.specs.Commands.{or_fails, seek}
-use Rattle.talk_trees.proofs.Trees.{answering_next, answering_attempting, turn_answer, through, wait_through}
+use Rattle.talk_trees.proofs.Trees.{answering_next, answering_attempting, turn_answer, through, repeat_through, wait_through}
 
 -- ---- what follows a wait
 
@@ -98,18 +98,16 @@ polls_through G met worth e true = ap (read p60) (fun_ext e)
 polls_through G met worth e false = refl
 
 -- a byte that a table knows is the answer that the table gives
-known_row : {A : Type 0} (x : Answer A) (b : ℕ) (row : ℕ × A) (v : Bool) (more : Answer A) (y : Turn (Answer A)) (z : Turn (Answer A))
-    → x ≡ cond v (gives row.1) more → (x ≡ more → y ≡ z) → cond v (found x) y ≡ cond v (found (gives row.1)) z
-known_row x b row true more y z p f = ap found p
-known_row x b row false more y z p f = f p
+module _ {A B : Type 0} (h : A → B) (o : B) where
+  known_row : (x : B) (a : A) (v : Bool) (more : B) (y z : Turn B) → x ≡ cond v (h a) more → (x ≡ more → y ≡ z) → cond v (found x) y ≡ cond v (found (h a)) z
+  known_row x a true more y z p f = ap found p
+  known_row x a false more y z p f = f p
 
-decode_known : {A : Type 0} (n : ℕ) (rows : List (ℕ × A)) (b : ℕ) (x : Answer A) → x ≡ decode gives (refuses n) rows b
-    → decode (λ _. found x) again rows b ≡ decode (λ a. found (gives a)) again rows b
-unfolding decode
-decode_known n [] b x p = refl
-decode_known n (row ∷ rows) b x p =
-    known_row x b row (eqb b row.0) (decode gives (refuses n) rows b) (decode (λ _. found x) again rows b) (decode (λ a. found (gives a)) again rows b) p
-    (λ q. decode_known n rows b x q)
+  decode_known : (rows : List (ℕ × A)) (b : ℕ) (x : B) → x ≡ decode h o rows b → decode (λ _. found x) again rows b ≡ decode (λ a. found (h a)) again rows b
+  unfolding decode
+  decode_known [] b x p = refl
+  decode_known (row ∷ rows) b x p =
+      known_row x row.1 (eqb b row.0) (decode h o rows b) (decode (λ _. found x) again rows b) (decode (λ a. found (h a)) again rows b) p (λ q. decode_known rows b x q)
 
 abbrev pub table_talk : {A : Type 0} → Failure → List (ℕ × A) → ℕ → Talk A
 table_talk f rows b = tells (decode Ok (Err f) rows b)
@@ -120,7 +118,7 @@ unfolding bind tree
 table_through f rows b =
     sym (decode_map (through (after_seek f (λ b. answering (table_talk f rows b)))) (λ _. came b) again rows b)
     ∙ decode_map done (λ _. found (answer_of (decode Ok (Err f) rows b))) again rows b
-    ∙ ap done (decode_known (number_of f) rows b (answer_of (decode Ok (Err f) rows b)) (sym (decode_map answer_of Ok (Err f) rows b)))
+    ∙ ap done (decode_known gives (refuses (number_of f)) rows b (answer_of (decode Ok (Err f) rows b)) (sym (decode_map answer_of Ok (Err f) rows b)))
 
 -- one byte
 byte_through : (f : Failure) (b : ℕ) (v : Bool)
@@ -137,30 +135,7 @@ pub answering_byte : (good m : ℕ) (f : Failure) → answering (next (seek (Byt
 unfolding bind
 answering_byte good m f = answering_sought (Byte good) m f (λ _. tells (Ok success)) (data_turn (passed_turn good)) (ap (read p60) (fun_ext (λ b. this_through f good b)))
 
--- ---- sending, receiving, the command rule
-
-free_turn : (value : HostToDevice) (status : ℕ) (full : Bool)
-    → bind (cond full (done again) (done (came status))) (through (after_seek InputBufferFull (λ _. answering (talk.write Port.Data (to_device value)))))
-    ≡ cond full (done again) (write p60 (to_device value) (done (found (gives success))))
-unfolding bind tree talk.write
-free_turn value status true = refl
-free_turn value status false = refl
-
-pub answering_send : (value : HostToDevice) → answering (talk.send value) ≡ polling_send value
-unfolding talk.send polling_send send_try bind
-answering_send value =
-    answering_sought InputFree talk.further_tries InputBufferFull (λ _. talk.write Port.Data (to_device value)) (send_try (to_device value))
-    (ap (read p64) (fun_ext (λ status. free_turn value status (bit input_buffer_full status))))
-
-pub answering_receive : answering talk.receive ≡ polling_receive
-unfolding talk.receive polling_receive poll bind
-answering_receive =
-    answering_sought Response talk.further_polls NoResponse (table_talk NoResponse responses) (poll (listed_turn responses))
-    (ap (read p64) (fun_ext (λ status. polls_through (after_seek NoResponse (λ b. answering (table_talk NoResponse responses b))) (meets Response) (listed_turn responses) (table_through NoResponse responses) (bit output_buffer_full status))))
-
-pub answering_send_receive : (value : HostToDevice) → answering (talk.send_receive value) ≡ polling_send_receive value
-unfolding talk.send_receive polling_send_receive
-answering_send_receive value = answering_next (talk.send value) (polling_send value) (λ _. talk.receive) (λ _. polling_receive) (answering_send value) (λ _. answering_receive)
+-- ---- an attempt, the command rule
 
 verdicts : (r : DeviceToHostResponse) → turn_answer (talk.verdict r) ≡ settled (gives r)
 verdicts KeyDetectionErrorOrInternalBufferOverrun1 = refl
@@ -172,19 +147,70 @@ verdicts SelfTestFailed2 = refl
 verdicts ResendCommand = refl
 verdicts KeyDetectionErrorOrInternalBufferOverrun2 = refl
 
-attempt_both : (r : Result DeviceToHostResponse Failure)
-    → bind (on_ok (λ response. tree (tells (talk.verdict response))) r) (λ r. done (turn_answer r)) ≡ bind (done (answer_of r)) (λ a. done (settled a))
-unfolding bind tree
-attempt_both (Ok r) = ap done (verdicts r)
-attempt_both (Err f) = refl
+-- what follows an attempt's reply, a sending and a receiving
+abbrev outcome : Option ℕ → Turn (Answer Success)
+outcome r = turn_answer (talk.attempt_told r)
+
+abbrev told_outcome : Option ℕ → Exchange (Turn (Answer Success))
+told_outcome r = done (outcome r)
+
+abbrev told_settled : Answer DeviceToHostResponse → Exchange (Turn (Answer Success))
+told_settled a = done (settled a)
+
+abbrev then_receives : Answer Success → Exchange (Turn (Answer Success))
+then_receives a = bind (on_given (λ _. polling_receive) a) told_settled
+
+abbrev then_replies : ℕ → Option ℕ → Exchange (Turn (Answer Success))
+then_replies v r = bind (sent v r) told_outcome
+
+-- the receiving
+response_both : (b : ℕ) → through told_outcome (meets Response b) ≡ through told_settled (response_turn b)
+unfolding bind
+response_both b =
+    sym (decode_map (through told_outcome) (λ _. came b) again responses b)
+    ∙ decode_map done (λ _. found (outcome (Some b))) again responses b
+    ∙ ap done (decode_known (λ r. turn_answer (talk.verdict r)) (found (refuses 4)) responses b (outcome (Some b)) (sym (decode_map turn_answer talk.verdict (Err InputBufferFull) responses b))
+    ∙ ap (λ h. decode (λ r. found (h r)) again responses b) (fun_ext verdicts))
+    ∙ sym (decode_map done (λ r. found (settled (gives r))) again responses b)
+    ∙ decode_map (through told_settled) (λ r. found (gives r)) again responses b
+
+poll_both : (full : Bool) → bind (cond full (second Response) (done again)) (through told_outcome) ≡ bind (cond full (data_turn response_turn) (done again)) (through told_settled)
+unfolding bind
+poll_both true = ap (read p60) (fun_ext response_both)
+poll_both false = refl
+
+received : bind response_awaited told_outcome ≡ bind polling_receive told_settled
+unfolding polling_receive poll bind
+received =
+    wait_through Response further_polls told_outcome (found (refuses 5)) (bind (poll response_turn) (through told_settled)) refl
+    (ap (read p64) (fun_ext (λ status. poll_both (bit output_buffer_full status))))
+    ∙ sym (repeat_through told_settled 65535 (refuses 5) (found (refuses 5)) (poll response_turn) (bind (poll response_turn) (through told_settled)) refl refl)
+
+-- the sending before it
+try_both : (v status : ℕ) (full : Bool)
+    → bind (cond full (done again) (done (came status))) (through (then_replies v)) ≡ bind (cond full (done again) (write p60 v (done (found (gives success))))) (through then_receives)
+unfolding bind
+try_both v status true = refl
+try_both v status false = ap (λ x. write p60 v (bind x (λ b. done (found b)))) received
+
+tries_both : (v : ℕ) → bind (turn InputFree) (through (then_replies v)) ≡ bind (send_try v) (through then_receives)
+unfolding send_try bind
+tries_both v = ap (read p64) (fun_ext (λ status. try_both v status (bit input_buffer_full status)))
+
+asked_attempt : (value : HostToDevice) → bind (asked (Attempt (to_device value))) told_outcome ≡ Rule.attempt value
+unfolding Rule.attempt polling_send_receive polling_send and_then bind decode
+asked_attempt value =
+    bind_assoc (bind (turn InputFree) (further_turns InputFree further_tries)) (sent (to_device value)) told_outcome
+    ∙ wait_through InputFree further_tries (then_replies (to_device value)) (found (refuses 4)) (bind (send_try (to_device value)) (through then_receives)) refl (tries_both (to_device value))
+    ∙ sym (repeat_through then_receives 255 (refuses 4) (found (refuses 4)) (send_try (to_device value)) (bind (send_try (to_device value)) (through then_receives)) refl refl)
+    ∙ sym (bind_assoc (polling_send value) (on_given (λ _. polling_receive)) told_settled)
 
 tree_attempt : (value : HostToDevice) → bind (tree (talk.attempt value)) (λ r. done (turn_answer r)) ≡ Rule.attempt value
-unfolding tree talk.attempt Rule.attempt
+unfolding tree talk.attempt bind
 tree_attempt value =
-    bind_assoc (tree (talk.send_receive value)) (λ r. on_ok (λ response. tree (tells (talk.verdict response))) r) (λ r. done (turn_answer r))
-    ∙ ap (bind (tree (talk.send_receive value))) (fun_ext attempt_both)
-    ∙ sym (bind_assoc (tree (talk.send_receive value)) (λ r. done (answer_of r)) (λ a. done (settled a)))
-    ∙ ap (λ y. bind y (λ a. done (settled a))) (answering_send_receive value)
+    ap (λ y. bind y (λ r. done (turn_answer r))) (bind_assoc (asked (Attempt (to_device value))) (λ r. done (Ok r)) (λ r. on_ok (λ r. tree (tells (talk.attempt_told r))) r))
+    ∙ bind_assoc (asked (Attempt (to_device value))) (λ r. bind (done (Ok r)) (λ r. on_ok (λ r. tree (tells (talk.attempt_told r))) r)) (λ r. done (turn_answer r))
+    ∙ asked_attempt value
 
 pub answering_command : (value : HostToDevice) → answering (talk.command value) ≡ Rule.command value
 unfolding talk.command Rule.command

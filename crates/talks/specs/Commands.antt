@@ -1,4 +1,5 @@
--- Sending, receiving, searching and the command rule, as talks.
+-- Writing, waiting, searching and the command rule, as talks.
+--
 use Rattle.std.specs.Prelude.{Bool, true, false, ℕ, Option, Some, None, Result, Ok, Err}
 use Rattle.bits.specs.Table.{decode}
 use Rattle.ps2_bytes.specs.Commands.{controller_byte}
@@ -17,9 +18,9 @@ use Rattle.ps2_answers.specs.declared.ReadPort.TheVariants as Port
 use Rattle.ps2_answers.specs.declared.Failure.{Failure}
 use Rattle.ps2_answers.specs.declared.Failure.TheVariants.{InputBufferFull, NoResponse, SelfTestFailed, NotAcknowledged, ResetFailed}
 use Rattle.ps2_command.specs.Command.{attempts}
-use Rattle.questions.specs.declared.Question.TheVariants.{Write, Seek}
+use Rattle.questions.specs.declared.Question.TheVariants.{Write, Seek, Attempt}
 use Rattle.questions.specs.declared.Sought.{Sought}
-use Rattle.questions.specs.declared.Sought.TheVariants.{InputFree, Response, Byte, Data, Status}
+use Rattle.questions.specs.declared.Sought.TheVariants.{Byte, Data, Status}
 use Rattle.talks.specs.declared.Stop.{Stop}
 use Rattle.talks.specs.Heard.{said}
 use Rattle.talks.specs.Talk.{Talk, tells, asks, next, attempting}
@@ -46,21 +47,6 @@ read_data = seek Data 0 NoResponse
 abbrev pub read_status : Talk ℕ
 read_status = seek Status 0 NoResponse
 
--- The limits, less the turn that a wait begins with: 255 status reads of a sending; 65,535 polls of a receiving.
-abbrev pub further_tries : ℕ
-further_tries = 254
-
-abbrev pub further_polls : ℕ
-further_polls = 65534
-
--- "Sending: was bit 1 of the status clear in one of 255 status reads? 4"
-unfoldable pub send : HostToDevice → Talk Success
-send value = next (seek InputFree further_tries InputBufferFull) (λ _. write Port.Data (to_device value))
-
--- "Receiving: did one of 65,535 polls bring 00, AA, EE, FA, FC, FD, FE or FF? 5"
-unfoldable pub receive : Talk DeviceToHostResponse
-receive = next (seek Response further_polls NoResponse) (λ b. tells (decode Ok (Err NoResponse) responses b))
-
 -- "FA and AA succeed, FC and FD give 6; FE, 00, EE and FF try again."
 abbrev pub verdict : DeviceToHostResponse → Result Bool Failure
 verdict Acknowledge = Ok true
@@ -72,12 +58,13 @@ verdict KeyDetectionErrorOrInternalBufferOverrun1 = Ok false
 verdict ResponseToEcho = Ok false
 verdict KeyDetectionErrorOrInternalBufferOverrun2 = Ok false
 
--- "One attempt sends, then receives."
-unfoldable pub send_receive : HostToDevice → Talk DeviceToHostResponse
-send_receive value = next (send value) (λ _. receive)
+-- What the reply to an attempt says. "Sending: was bit 1 of the status clear in one of 255 status reads? 4" "Receiving: did one of 65,535 polls bring 00, AA, EE, FA, FC, FD, FE or FF? 5"
+abbrev pub attempt_told : Option ℕ → Result Bool Failure
+attempt_told None = Err NoResponse
+attempt_told (Some b) = decode verdict (Err InputBufferFull) responses b
 
 unfoldable pub attempt : HostToDevice → Talk Bool
-attempt value = next (send_receive value) (λ response. tells (verdict response))
+attempt value = next (asks (Attempt (to_device value))) (λ r. tells (attempt_told r))
 
 -- "Did one of four attempts bring FA or AA? 7"
 unfoldable pub command : HostToDevice → Talk Success
@@ -97,8 +84,8 @@ unfoldable pub self_test : ℕ → Talk Success
 self_test further = next (seek (Byte 0xAA) further ResetFailed) (λ _. tells (Ok success))
 
 -- What the code's parts say.
-abbrev pub response_said : ℕ → Result DeviceToHostResponse Stop
-response_said b = said (decode Ok (Err NoResponse) responses b)
-
 abbrev pub verdict_said : DeviceToHostResponse → Result Bool Stop
 verdict_said r = said (verdict r)
+
+abbrev pub attempt_said : Option ℕ → Result Bool Stop
+attempt_said r = said (attempt_told r)

@@ -14,10 +14,11 @@ use Rattle.ps2_setup.specs.SetUp.{config, quieted, running}
 use Rattle.ps2_setup.specs.Answers.{enable_of, clock_of, interrupt_of}
 use Rattle.ps2_init.specs.declared.PS2Controller.{PS2Controller}
 use Rattle.ps2_init.specs.Init.{has_mouse, with_devices}
+use Rattle.questions.specs.Asked.{further_polls}
 use Rattle.questions.specs.declared.Sought.TheVariants.{PortPassed, Byte}
 use Rattle.talks.specs.declared.controller.ControllerLeft.{ControllerLeft}
 use Rattle.talks.specs.Talk.{Talk, tells, next, trying, worked}
-use Rattle.talks.specs.Commands.{write, write_command, seek, read_data, further_polls}
+use Rattle.talks.specs.Commands.{write, write_command, seek, read_data}
 use Rattle.talks.specs.Keyboard.{reset_keyboard}
 use Rattle.talks.specs.Mouse.{reset_mouse}
 

@@ -20,11 +20,12 @@ use Rattle.ps2_answers.specs.Refusals.{Success, success}
 use Rattle.ps2_answers.specs.declared.Failure.{Failure}
 use Rattle.ps2_answers.specs.declared.Failure.TheVariants.{NoSetOrIdentity, UnknownKeyboard, LedsNotSet, KeyboardNotDetected}
 use Rattle.ps2_detect.specs.Detection.{second_bytes}
+use Rattle.questions.specs.Asked.{further_polls}
 use Rattle.questions.specs.declared.Sought.TheVariants as Sought
 use Rattle.talks.specs.declared.Stop.{Stop}
 use Rattle.talks.specs.Talk.{Talk, tells, next, failing_as, trying}
 use Rattle.talks.specs.Heard.{said}
-use Rattle.talks.specs.Commands.{seek, read_status, command, command_pair, self_test, further_polls}
+use Rattle.talks.specs.Commands.{seek, read_status, command, command_pair, self_test}
 
 -- One of its commands.
 abbrev pub keyboard_command : HostToKeyboardCommand → Talk Success

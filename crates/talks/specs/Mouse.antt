@@ -20,12 +20,13 @@ use Rattle.ps2_mouse.specs.Mouse.{mouse_byte_waits}
 use Rattle.ps2_packet.specs.declared.SignedPacket.{SignedPacket}
 use Rattle.ps2_packet.specs.declared.MousePacket.TheVariants as Packet
 use Rattle.ps2_packet.specs.Packet.{generic, packet3, packet4, signed_packet}
+use Rattle.questions.specs.Asked.{further_polls}
 use Rattle.questions.specs.declared.Sought.TheVariants.{MouseIdentity}
 use Rattle.talks.specs.declared.Stop.{Stop}
 use Rattle.talks.specs.declared.mouse.IdentityLeft.{IdentityLeft}
 use Rattle.talks.specs.Talk.{Talk, tells, next, failing_as, trying}
 use Rattle.talks.specs.Heard.{said}
-use Rattle.talks.specs.Commands.{seek, read_data, read_status, command_by, command_pair, self_test, further_polls}
+use Rattle.talks.specs.Commands.{seek, read_data, read_status, command_by, command_pair, self_test}
 
 -- One of its commands.
 abbrev pub mouse_command : HostToMouseCommand → Talk Success

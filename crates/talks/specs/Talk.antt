@@ -8,9 +8,9 @@ use Rattle.ps2_answers.specs.declared.Failure.{Failure}
 use Rattle.questions.specs.declared.Question.{Question}
 use Rattle.questions.specs.Asked.{asked}
 
--- A talk tells what it comes to, or why it failed. It asks one question, a write or a whole wait. It goes on by what another told, whose failure
--- ends both. It replaces another's failure by its own, or forgives it, or says whether
--- there was none. It makes attempts until one is accepted, and fails after the last.
+-- A talk tells what it comes to, or why it failed. It asks one question: a write, a whole wait, or one attempt of a
+-- command. It goes on by what another told, whose failure ends both. It replaces another's failure by its own, or
+-- forgives it, or says whether there was none. It makes attempts until one is accepted, and fails after the last.
 pub data Talk : Type 0 → Type 1 where
   tells : {A : Type 0} → Result A Failure → Talk A
   asks : Question → Talk (Option ℕ)

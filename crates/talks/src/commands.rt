@@ -1,5 +1,5 @@
-// Sending, receiving, searching and the command rule.
-ghost use Rattle.std.specs.Prelude.{◌≡◌};
+// Writing, waiting, searching and the command rule.
+ghost use Rattle.std.specs.Prelude.{◌≡◌, Some};
 ghost use Rattle.ps2_bytes.specs.Commands.{controller_byte};
 ghost use Rattle.ps2_bytes.specs.declared.command.HostToControllerCommand.{HostToControllerCommand as ACommand};
 ghost use Rattle.bits.specs.Table.{decode};
@@ -13,12 +13,6 @@ use ps2_answers::{Failure, ReadPort};
 use ps2_bytes::{DeviceToHostResponse, HostToControllerCommand, HostToDevice};
 use ps2_ports::DevicePort;
 use questions::{Question, Sought};
-
-// The turns of a sending, of a poll for a byte and of the keyboard's self test, behind the first.
-const FURTHER_TRIES: u32 = 254;
-
-/// The polls of a receiving behind the first: 65,535 in all.
-pub const FURTHER_POLLS: u32 = 65534;
 
 // The attempts that a command has.
 const ATTEMPTS: u8 = 4;
@@ -74,46 +68,6 @@ pub fn read_status<P: Partner>(partner: &mut P) -> Result<u8, Stop>
     seek(partner, Sought::Status, 0, Failure::NoResponse)
 }
 
-/// Sends a byte to a device, once the input buffer is free.
-/// At most 255 reads of the status. Refused: input buffer full (4).
-#[tactic(auto, unfolding(crate::specs::Commands::send, crate::specs::Heard::heard))]
-pub fn polling_send<P: Partner>(partner: &mut P, value: HostToDevice) -> Result<(), Stop>
-    ensures { by result partner.new ≡ heard P.replies (talk.send value) partner.old }
-{
-    seek(
-        partner,
-        Sought::InputFree,
-        FURTHER_TRIES,
-        Failure::InputBufferFull,
-    )?;
-    write(partner, ReadPort::Data, u8::from(value))
-}
-
-// A byte as a response.
-fn response_of(byte: u8) -> Result<DeviceToHostResponse, Stop>
-    ensures { result ≡ talk.response_said byte }
-{
-    match DeviceToHostResponse::try_from(byte) {
-        Ok(response) => Ok(response),
-        Err(_) => Err(Stop::Refused(Failure::NoResponse)),
-    }
-}
-
-/// Receives a device's response.
-/// At most 65,535 polls. Refused: no response (5).
-#[tactic(auto, unfolding(crate::specs::Commands::receive, crate::specs::Heard::heard))]
-pub fn polling_receive<P: Partner>(partner: &mut P) -> Result<DeviceToHostResponse, Stop>
-    ensures { by result partner.new ≡ heard P.replies talk.receive partner.old }
-{
-    let byte = seek(
-        partner,
-        Sought::Response,
-        FURTHER_POLLS,
-        Failure::NoResponse,
-    )?;
-    response_of(byte)
-}
-
 // What a response says of the command: whether it is accepted, or else another attempt is to be
 // made; or why it failed.
 fn verdict(response: DeviceToHostResponse) -> Result<bool, Stop>
@@ -131,16 +85,25 @@ fn verdict(response: DeviceToHostResponse) -> Result<bool, Stop>
     }
 }
 
-/// Sends a byte to a device, and receives its response.
-#[tactic(auto, unfolding(crate::specs::Commands::send_receive, crate::specs::Heard::heard))]
-pub fn polling_send_receive<P: Partner>(
-    partner: &mut P,
-    value: HostToDevice,
-) -> Result<DeviceToHostResponse, Stop>
-    ensures { by result partner.new ≡ heard P.replies (talk.send_receive value) partner.old }
+// What the byte says that an attempt is replied to by: a response its verdict, another that the
+// command could not be sent.
+fn answered(byte: u8) -> Result<bool, Stop>
+    ensures { result ≡ talk.attempt_said (Some byte) }
 {
-    polling_send(partner, value)?;
-    polling_receive(partner)
+    match DeviceToHostResponse::try_from(byte) {
+        Ok(response) => verdict(response),
+        Err(_) => Err(Stop::Refused(Failure::InputBufferFull)),
+    }
+}
+
+// What the reply to an attempt says.
+fn outcome_of(reply: Option<u8>) -> Result<bool, Stop>
+    ensures { result ≡ talk.attempt_said reply }
+{
+    match reply {
+        Some(byte) => answered(byte),
+        None => Err(Stop::Refused(Failure::NoResponse)),
+    }
 }
 
 // One attempt of a command.
@@ -148,8 +111,8 @@ pub fn polling_send_receive<P: Partner>(
 fn attempt<P: Partner>(partner: &mut P, value: HostToDevice) -> Result<bool, Stop>
     ensures { by result partner.new ≡ heard P.replies (talk.attempt value) partner.old }
 {
-    let response = polling_send_receive(partner, value)?;
-    verdict(response)
+    let reply = partner.ask(Question::Attempt(u8::from(value)))?;
+    outcome_of(reply)
 }
 
 /// A command to the device of the first port, or to whichever the controller was told to send the

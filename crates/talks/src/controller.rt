@@ -6,7 +6,7 @@ ghost use Rattle.talks.specs.Controller.{controller_left as controller_left_rule
 ghost use Rattle.ps2_setup.specs.SetUp.{running as running_rule};
 ghost use Rattle.ps2_setup.specs.Answers.{enable_of, clock_of, interrupt_of};
 
-use crate::commands::{FURTHER_POLLS, read_data, seek, write, write_command};
+use crate::commands::{read_data, seek, write, write_command};
 use crate::keyboard::reset_keyboard;
 use crate::mouse::reset_mouse;
 use crate::{Partner, Stop, tried, worked};
@@ -16,7 +16,7 @@ use ps2_init::PS2Controller;
 use ps2_layouts::ControllerConfigurationByte;
 use ps2_ports::DevicePort;
 use ps2_setup::{WorkingPorts, quieted};
-use questions::Sought;
+use questions::{FURTHER_POLLS, Sought};
 
 /// An answer, with the controller's record as it is left.
 #[derive(Clone, Copy)]

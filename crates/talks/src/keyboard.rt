@@ -4,7 +4,7 @@ ghost use Rattle.talks.specs.Heard.{by, heard};
 ghost use Rattle.talks.specs.Keyboard as talk;
 ghost use Rattle.talks.specs.Keyboard.{set_said, second_said};
 
-use crate::commands::{FURTHER_POLLS, command, command_pair, read_status, seek, self_test};
+use crate::commands::{command, command_pair, read_status, seek, self_test};
 use crate::{Partner, Stop, failing_as, told, tried};
 use ps2_answers::Failure;
 use ps2_bytes::{
@@ -12,7 +12,7 @@ use ps2_bytes::{
 };
 use ps2_layouts::{ControllerToHostStatus, LEDState};
 use ps2_ports::DevicePort;
-use questions::Sought;
+use questions::{FURTHER_POLLS, Sought};
 
 // The data reads of a reset, behind the first.
 const FURTHER_RESET_READS: u32 = 262139;

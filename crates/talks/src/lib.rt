@@ -12,8 +12,8 @@ mod keyboard;
 mod mouse;
 
 pub use commands::{
-    command, command_by, command_pair, polling_receive, polling_send, polling_send_receive,
-    read_data, read_status, seek, self_test, write, write_command,
+    command, command_by, command_pair, read_data, read_status, seek, self_test, write,
+    write_command,
 };
 pub use controller::{ControllerLeft, initialize, read_config, write_config};
 pub use keyboard::{

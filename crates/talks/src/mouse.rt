@@ -4,9 +4,7 @@ ghost use Rattle.talks.specs.Heard.{by, heard};
 ghost use Rattle.talks.specs.Mouse as talk;
 ghost use Rattle.talks.specs.Mouse.{identity_said, read_or as read_or_rule};
 
-use crate::commands::{
-    FURTHER_POLLS, command_by, command_pair, read_data, read_status, seek, self_test,
-};
+use crate::commands::{command_by, command_pair, read_data, read_status, seek, self_test};
 use crate::{Partner, Stop, failing_as, tried};
 use ps2_answers::Failure;
 use ps2_bytes::{
@@ -16,7 +14,7 @@ use ps2_bytes::{
 use ps2_layouts::ControllerToHostStatus;
 use ps2_packet::{MousePacket, MousePacket3, MousePacket4, MousePacketGeneric, SignedPacket};
 use ps2_ports::DevicePort;
-use questions::Sought;
+use questions::{FURTHER_POLLS, Sought};
 
 // The data reads of a reset, behind the first.
 const FURTHER_RESET_READS: u32 = 196604;
