@@ -6,7 +6,9 @@ use Rattle.std.specs.Prelude.{Option, Some, None, Result, Ok, Err, get_or, take}
 use Rattle.exchange.specs.Exchange.{Exchange, done, bind}
 use Rattle.ps2_answers.specs.declared.Failure.{Failure}
 use Rattle.questions.specs.declared.Question.{Question}
+use Rattle.ps2_answers.specs.declared.ReadPort.{ReadPort}
 use Rattle.questions.specs.declared.Going.{Going}
+use Rattle.questions.specs.declared.Going.TheVariants.{Writing, Sending, Submitting}
 use Rattle.questions.specs.declared.Request.{Request}
 use Rattle.questions.specs.Asked.{going, begun}
 use Rattle.questions.specs.Steps.{after, wants, requested}
@@ -100,6 +102,24 @@ asked_left o n f p q g w h s b i j k l m =
 
 -- ---- one byte
 
+-- a place that is no wait: nothing that is read there is thrown away
+module _ (k : KeptBytes) (byte : ℕ) where
+  unthrown : (g g' : Going) → g ≡ g' → noting (wants (going g')) k byte ≡ k → k ≡ noting (wants (going g)) k byte
+  unthrown g g' e h = sym (ap (λ g. noting (wants (going g)) k byte) e ∙ h)
+
+  pub unthrown_writing : (g : Going) (p : ReadPort) (v : ℕ) → g ≡ Writing p v → k ≡ noting (wants (going g)) k byte
+  unthrown_writing g p v e = unthrown g (Writing p v) e refl
+
+  pub unthrown_sending : (g : Going) (v n : ℕ) → g ≡ Sending v n → k ≡ noting (wants (going g)) k byte
+  unfolding bind
+  unthrown_sending g v n e = unthrown g (Sending v n) e refl
+
+  pub unthrown_submitting : (g : Going) (v : ℕ) → g ≡ Submitting v → k ≡ noting (wants (going g)) k byte
+  unthrown_submitting g v e = unthrown g (Submitting v) e refl
+
+  pub thrown_seeking : (g : Going) (k' : KeptBytes) (r : Request) → wants (going g) ≡ requested r → k' ≡ noting (requested r) k byte → k' ≡ noting (wants (going g)) k byte
+  thrown_seeking g k' r e h = h ∙ ap (λ w. noting w k byte) (sym e)
+
 pub goes_on : (s : Session) (g : Going) (p : List ℕ) (b : ℕ) → after (going s.at) b ≡ going g → after (rest s p) b ≡ rest (record { operation = s.operation; count = s.count; at = g }) p
 goes_on s g p b e =
     let R : Option ℕ → Exchange (Result Ending Failure) = λ x. exchange_of (answered (past (rounds (talk_of s.operation)) (take s.count p)) x) in
@@ -121,8 +141,7 @@ more_known o l l' w r p q e =
     ∙ e
 
 -- the whole step, where the question goes on
-module _ (f c b p f' c' b' : List ℕ) (byte : ℕ) (s : Session) (w₀ : Request) (h : session_in f ≡ Some s) (a : wants (going s.at) ≡ requested w₀)
-    (k : kept_in c' b' ≡ noting (requested w₀) (kept_in c b) byte) where
+module _ (f c b p f' c' b' : List ℕ) (byte : ℕ) (s : Session) (h : session_in f ≡ Some s) (k : kept_in c' b' ≡ noting (wants (going s.at)) (kept_in c b) byte) where
   of_it : {x : Exchange (Kept KeptBytes Ending)} → after (keeping_onto (kept_in c b) (rest s p)) byte ≡ x → (z : Session) → session_in f ≡ Some z → after (keeping_onto (kept_in c b) (rest z p)) byte ≡ x
   of_it m z e = let q : s ≡ z = some_same (sym h ∙ e) in ap (λ s. after (keeping_onto (kept_in c b) (rest s p)) byte) (sym q) ∙ m
 
@@ -136,7 +155,7 @@ module _ (f c b p f' c' b' : List ℕ) (byte : ℕ) (s : Session) (w₀ : Reques
       record {
         malformed = λ z. cc;
         runs = λ z y x. cc;
-        steps = of_it (keeps (kept_in c b) (kept_in c' b') (rest s p) (said_rest (Says.Asks w) f' p) byte (rest_asks s p) (wants_rest s p ∙ a) k (goes_on s g p byte e ∙ u.0));
+        steps = of_it (keeps (kept_in c b) (kept_in c' b') (rest s p) (said_rest (Says.Asks w) f' p) byte (rest_asks s p) (wants_rest s p) k (goes_on s g p byte e ∙ u.0));
         says = u.1;
       }
 
@@ -148,6 +167,6 @@ module _ (f c b p f' c' b' : List ℕ) (byte : ℕ) (s : Session) (w₀ : Reques
       record {
         malformed = λ z. cc;
         runs = λ z y o. v o;
-        steps = of_it (keeps (kept_in c b) (kept_in c' b') (rest s p) (said_rest r f' p') byte (rest_asks s p) (wants_rest s p ∙ a) k (replies_to s x p byte e ∙ l));
+        steps = of_it (keeps (kept_in c b) (kept_in c' b') (rest s p) (said_rest r f' p') byte (rest_asks s p) (wants_rest s p) k (replies_to s x p byte e ∙ l));
         says = u;
       }

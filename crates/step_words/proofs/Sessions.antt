@@ -13,12 +13,16 @@ use Rattle.step_words.specs.Arguments.{operation_in}
 use Rattle.step_words.specs.Sessions.{room, counted_in, session_in}
 
 abbrev counted : Operation → ℕ → Option Going → Option Session
-counted o m g = onward g (λ g. cond (ltb m room) (Some (record { operation = o; count = m; at = g })) None)
+counted o m g = cond (ltb m room) (onward g (λ g. Some (record { operation = o; count = m; at = g }))) None
 
 -- without a place there is none
+neither : (v : Bool) → cond {A = Option Session} v None None ≡ None
+neither true = refl
+neither false = refl
+
 no_place_at : (o : Option Operation) (f : List ℕ) → place_in f ≡ None → counted_in o f ≡ None
 no_place_at None f p = refl
-no_place_at (Some o) f p = ap (counted o (get_or f 2 0)) p
+no_place_at (Some o) f p = ap (counted o (get_or f 2 0)) p ∙ neither (ltb (get_or f 2 0) room)
 
 pub no_place : (f : List ℕ) → place_in f ≡ None → session_in f ≡ None
 no_place f p = no_place_at (operation_in (get_or f 0 0) (get_or f 1 0)) f p
@@ -47,20 +51,19 @@ record PartsAt (o : Option Operation) (g : Option Going) (m : ℕ) (s : Session)
 pub some_same : {A : Type 0} {a b : A} → Some a ≡ Some b → a ≡ b
 some_same e = cc
 
-of_room : (o : Operation) (g : Going) (m : ℕ) (s : Session) (v : Bool) → ltb m 224 ≡ v → cond v (Some (record { operation = o; count = m; at = g })) None ≡ Some s → PartsAt (Some o) (Some g) m s
-of_room o g m s true h e =
+of_room : (o : Operation) (g : Option Going) (m : ℕ) (s : Session) (v : Bool) → ltb m 224 ≡ v → cond v (onward g (λ g. Some (record { operation = o; count = m; at = g }))) None ≡ Some s
+    → PartsAt (Some o) g m s
+of_room o (Some g) m s true h e =
     let p : record { operation = o; count = m; at = g } ≡ s = some_same e in
     let n : m ≡ s.count = ap (λ s. s.count) p in
     record { operation = ap (λ s. Some s.operation) p; place = ap (λ s. Some s.at) p; count = n; room = rw (sym n) (ltb-true m 224 h) }
-of_room o g m s false h e = cc
-
-of_place : (o : Operation) (g : Option Going) (m : ℕ) (s : Session) → counted o m g ≡ Some s → PartsAt (Some o) g m s
-of_place o None m s e = cc
-of_place o (Some g) m s e = of_room o g m s (ltb m 224) refl e
+of_room o (Some g) m s false h e = cc
+of_room o None m s true h e = cc
+of_room o None m s false h e = cc
 
 of_operation : (o : Option Operation) (f : List ℕ) (s : Session) → counted_in o f ≡ Some s → PartsAt o (place_in f) (get_or f 2 0) s
 of_operation None f s e = cc
-of_operation (Some o) f s e = of_place o (place_in f) (get_or f 2 0) s e
+of_operation (Some o) f s e = of_room o (place_in f) (get_or f 2 0) s (ltb (get_or f 2 0) 224) refl e
 
 pub parts : (f : List ℕ) (s : Session) → session_in f ≡ Some s → Parts f s
 parts f s e =

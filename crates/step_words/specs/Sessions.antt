@@ -22,7 +22,7 @@ room = 224
 
 -- The session that the first twelve numbers stand for, if it runs.
 abbrev pub counted_in : Option Operation → List ℕ → Option Session
-counted_in o f = onward o (λ o. onward (place_in f) (λ g. cond (ltb (get_or f 2 0) room) (Some (record { operation = o; count = get_or f 2 0; at = g })) None))
+counted_in o f = onward o (λ o. cond (ltb (get_or f 2 0) room) (onward (place_in f) (λ g. Some (record { operation = o; count = get_or f 2 0; at = g }))) None)
 
 abbrev pub session_in : List ℕ → Option Session
 session_in f = counted_in (operation_in (get_or f 0 0) (get_or f 1 0)) f

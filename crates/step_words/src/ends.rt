@@ -41,23 +41,23 @@ pub enum Advance {
     Ends(u32),
 }
 
-// The session that the numbers stand for, if it runs.
+// The session that the numbers stand for, if it runs. The place is read last, so that what is done
+// there follows at once.
 #[inline(always)]
 pub(crate) fn session_at(fields: &[u64]) -> Option<Session>
     requires { length fields.now ≡ 12 }
     ensures { result ≡ session_in fields.now }
 {
     let operation = operation_at(fields[0], fields[1])?;
-    let at = going_at(fields[3], fields[4], fields[5], fields[6])?;
-    if fields[2] < ROOM {
-        Some(Session {
-            operation,
-            count: fields[2] as usize,
-            at,
-        })
-    } else {
-        None
+    if fields[2] >= ROOM {
+        return None;
     }
+    let at = going_at(fields[3], fields[4], fields[5], fields[6])?;
+    Some(Session {
+        operation,
+        count: fields[2] as usize,
+        at,
+    })
 }
 
 // Writes what an operation came to.

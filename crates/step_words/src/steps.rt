@@ -4,7 +4,8 @@ ghost use Rattle.exchange.specs.Exchange.{bind, done};
 ghost use Rattle.ps2_kept.specs.Kept.{nothing_kept};
 ghost use Rattle.ps2_kept.specs.Thrown.{unlisted};
 ghost use Rattle.ps2_kept.specs.Added.{added};
-ghost use Rattle.questions.specs.Steps.{requested};
+ghost use Rattle.questions.specs.Asked.{going};
+ghost use Rattle.questions.specs.Steps.{requested, wants};
 ghost use Rattle.sessions.specs.Memory.{reply_in};
 ghost use Rattle.sessions.specs.Operations.{talk_of};
 ghost use Rattle.sessions.specs.Rounds.{rounds, past, answered, exchange_of};
@@ -17,7 +18,7 @@ use crate::ends::{Advance, Session, go_on, session_at};
 use crate::places::put_place;
 use ps2_answers::ReadPort;
 use ps2_bytes::DeviceToHostResponse;
-use questions::{Request, Stepped, step, wanted_at};
+use questions::{Going, Request, Stepped, step, wanted_at};
 use sessions::{Operation, replay};
 
 // A reply as it is remembered: the byte that was found, or a number that is no byte.
@@ -99,7 +100,26 @@ fn note(counts: &mut [u64], bytes: &mut [u64], request: Request, byte: u8)
     }
 }
 
-/// The byte that was read, or the write that was made.
+// The step itself, whatever was noted of the byte.
+#[inline(always)]
+fn advance(fields: &mut [u64], replies: &mut [u64], session: Session, byte: u8) -> Advance
+    requires fields { length fields.old ≡ 12 }
+    requires replies { length replies.old ≡ 224 }
+    requires session { session_in fields.old ≡ Some session }
+    ensures { (c b c' b' : List ℕ) → kept_in c' b' ≡ noting (wants (going session.at)) (kept_in c b) byte → StepIn fields.old c b replies.old byte result fields.new c' b' replies.new }
+{
+    match step(session.at, byte) {
+        Stepped::Goes(at) => {
+            put_place(fields, at);
+            Advance::Asks(wanted_at(at))
+        }
+        Stepped::Reply(reply) => replied(fields, replies, session, reply),
+    }
+}
+
+/// The byte that was read, or the write that was made. Only a wait reads data, of which a byte may
+/// be thrown away. Each kind of place has an arm of its own, so that the compiler makes its step
+/// where it has read it, and asks for the kind once.
 pub(crate) fn next_in(
     fields: &mut [u64],
     counts: &mut [u64],
@@ -116,14 +136,14 @@ pub(crate) fn next_in(
     let Some(session) = session_at(fields) else {
         return Advance::Malformed;
     };
-    let request = wanted_at(session.at);
-    note(counts, bytes, request, byte);
-    match step(session.at, byte) {
-        Stepped::Goes(at) => {
-            put_place(fields, at);
-            Advance::Asks(wanted_at(at))
+    match session.at {
+        Going::Writing(_, _) => advance(fields, replies, session, byte),
+        Going::Sending(_, _) => advance(fields, replies, session, byte),
+        Going::Submitting(_) => advance(fields, replies, session, byte),
+        Going::Seeking(_) => {
+            note(counts, bytes, wanted_at(session.at), byte);
+            advance(fields, replies, session, byte)
         }
-        Stepped::Reply(reply) => replied(fields, replies, session, reply),
     }
 }
 
