@@ -93,8 +93,10 @@ enum vd_operation {
     VD_MOUSE_SET_SAMPLING_RATE = 18,  /* of the rate */
     VD_MOUSE_SET_RESOLUTION = 19,     /* of the resolution, 0 to 3 */
     VD_MOUSE_WAITS = 20,              /* out: 0 or 1 */
-    VD_MOUSE_READ_PACKET = 21         /* of the identity; out: buttons, x, y and wheel as vd_packet has them, the last three signed:
+    VD_MOUSE_READ_PACKET = 21,        /* of the identity; out: buttons, x, y and wheel as vd_packet has them, the last three signed:
                                          x is (int32_t)words[VD_OUTCOME_AT + 1] */
+    VD_PREFERENCES_APPLY = 22         /* of six bytes, from the lowest: version, set, rate, resolution, lamps, repeat. 255 stands for a number
+                                         above it, since no field may be 255 */
 };
 
 /* What is to be done next: nothing, since the operation has ended, or a read or a write. */

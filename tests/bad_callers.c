@@ -473,7 +473,7 @@ static void port_operation(int which, size_t script_bytes, size_t log_bytes)
 
 /* ---- operations a byte at a time: slot 2 is the operation's numbers */
 
-enum { OPERATIONS = 21 };
+enum { OPERATIONS = 22 };
 
 /* The operation that goes on from call to call: its numbers, and what it asked for last. */
 static struct { uint64_t words[VD_STEP_WORDS]; vd_request wanted; int was_begun; } step;
@@ -489,6 +489,7 @@ static int is_argument(uint32_t operation, uint64_t n)
     case VD_KEYBOARD_SET_REPEAT: return n <= 255;
     case VD_MOUSE_SET_IDENTITY: return is_identity(n);
     case VD_MOUSE_READ_PACKET: return is_identity(n);
+    case VD_PREFERENCES_APPLY: return n >> 48 == 0 && ((n & 0xFF) == 1 || (n & 0xFF) == 2);
     case VD_MOUSE_COMMAND: return n <= 255 && is_mouse_command((uint32_t)n);
     case VD_MOUSE_SET_SAMPLING_RATE: return n <= 255 && is_rate((uint32_t)n);
     case VD_MOUSE_SET_RESOLUTION: return n <= 3;
@@ -538,7 +539,7 @@ static void step_goes_on(const uint64_t *words, vd_request wanted)
 
 static void step_begin(void)
 {
-    static const uint64_t likely[] = {0, 0, 1, 2, 3, 4, 7, 10, 100, 200, 0xED, 0xF2, 0xF4, 0xFF};
+    static const uint64_t likely[] = {0, 0, 1, 2, 3, 4, 7, 10, 100, 200, 0xED, 0xF2, 0xF4, 0xFF, 0x703640101, 0x240703640102};
     uint32_t operation = below(8) ? 1 + (uint32_t)below(OPERATIONS) : (uint32_t)number();
     uint64_t argument = below(8) ? likely[below(sizeof likely / sizeof *likely)] : number();
     size_t length, k;

@@ -138,19 +138,19 @@ fn byte_of(value: u32) -> u8
 }
 
 // The scancode set of a byte, and below the sampling rate and the resolution.
-fn set_of(byte: u8) -> ScancodeSet
+pub fn set_of(byte: u8) -> ScancodeSet
     ensures { result ≡ set_of byte }
 {
     ScancodeSet::try_from(byte).unwrap_or(ScancodeSet::Get)
 }
 
-fn rate_of(byte: u8) -> MouseSampleRate
+pub fn rate_of(byte: u8) -> MouseSampleRate
     ensures { result ≡ rate_of byte }
 {
     MouseSampleRate::try_from(byte).unwrap_or(MouseSampleRate::_100)
 }
 
-fn resolution_of(byte: u8) -> MouseResolution
+pub fn resolution_of(byte: u8) -> MouseResolution
     ensures { result ≡ resolution_of byte }
 {
     MouseResolution::try_from(byte).unwrap_or(MouseResolution::Count4PerMm)

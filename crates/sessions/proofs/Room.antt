@@ -18,6 +18,10 @@ use Rattle.ps2_bytes.specs.declared.response.MouseId.TheVariants.{Zero, Three, F
 use Rattle.ps2_bytes.specs.declared.writable.HostToDevice.{HostToDevice}
 use Rattle.ps2_layouts.specs.declared.configuration.ControllerConfigurationByte.{ControllerConfigurationByte}
 use Rattle.ps2_layouts.specs.declared.leds.LEDState.{LEDState}
+use Rattle.preferences.specs.declared.Fields.{Fields}
+use Rattle.preferences.specs.declared.Preferences.{Preferences}
+use Rattle.preferences.specs.declared.Preferences.TheVariants.{Version1, Version2}
+use Rattle.preferences.specs.Record.{within_values}
 use Rattle.ps2_ports.specs.declared.DevicePort.{DevicePort}
 use Rattle.ps2_ports.specs.declared.DevicePort.TheVariants.{Port1, Port2}
 use Rattle.ps2_setup.specs.declared.WorkingPorts.{WorkingPorts}
@@ -30,8 +34,9 @@ use Rattle.talks.specs.Commands as command
 use Rattle.talks.specs.Keyboard as keyboard
 use Rattle.talks.specs.Mouse as mouse
 use Rattle.talks.specs.Controller as controller
+use Rattle.talks.specs.Application as club
 use Rattle.sessions.specs.declared.Operation.{Operation}
-use Rattle.sessions.specs.declared.Operation.TheVariants.{InitializeController, InitializeKeyboard, ResetKeyboard, CommandKeyboard, SetLamps, SetScancodeSet, GetScancodeSet, DetectKeyboard, SetRepeat, KeyboardWaits, ReadScancode, ResetMouse, StartPackets, StopPackets, GetIdentity, SetIdentity, CommandMouse, SetSamplingRate, SetResolution, MouseWaits, ReadPacket}
+use Rattle.sessions.specs.declared.Operation.TheVariants.{InitializeController, InitializeKeyboard, ResetKeyboard, CommandKeyboard, SetLamps, SetScancodeSet, GetScancodeSet, DetectKeyboard, SetRepeat, KeyboardWaits, ReadScancode, ResetMouse, StartPackets, StopPackets, GetIdentity, SetIdentity, CommandMouse, SetSamplingRate, SetResolution, MouseWaits, ReadPacket, ApplyPreferences}
 use Rattle.sessions.specs.Memory.{reply_in}
 use Rattle.sessions.specs.Operations.{talk_of}
 use Rattle.sessions.specs.Rounds.{Rounds, over, round, joined, on_done, unless_accepted, attempt_rounds, rounds, past, shown}
@@ -340,6 +345,23 @@ initialize_asks : (v : Bool) (passed : PS2Controller) → Asks 49 (rounds (contr
 initialize_asks true passed = tells_asks _ 49
 initialize_asks false passed = next_asks (trying controller.set_up) _ 49 0 49 (trying_asks controller.set_up 49 set_up_asks) (λ _. tells_asks _ 0) (omega arith)
 
+-- ---- preferences
+
+four_asks : (four : Fields) → Asks 131 (rounds (club.apply_four four))
+unfolding club.apply_four
+four_asks four =
+    next_asks (keyboard.set_scancode_set _) _ 53 78 131 (set_set_asks _)
+    (λ _. next_asks (mouse.set_sampling_rate _) _ 26 52 78 (rate_asks _)
+    (λ _. next_asks (mouse.set_resolution _) (λ _. keyboard.set_port_led Port1 _) 26 26 52 (resolution_asks _) (λ _. led_asks Port1 _) (omega arith)) (omega arith)) (omega arith)
+
+within_asks : (p : Preferences) → Asks 157 (rounds (club.apply_within p))
+within_asks (Version1 four) = weaker (rounds (club.apply_four four)) 131 157 (omega arith) (four_asks four)
+within_asks (Version2 four again) = next_asks (club.apply_four four) (λ _. keyboard.set_keyboard_repeat again) 131 26 157 (four_asks four) (λ _. repeat_asks again) (omega arith)
+
+apply_asks : (v : Bool) (p : Preferences) → Asks 157 (rounds (club.apply_if v p))
+apply_asks true p = within_asks p
+apply_asks false p = tells_asks _ 157
+
 -- ---- all of them
 
 -- an operation, and what is handed back
@@ -347,7 +369,7 @@ told_asks : {A : Type 0} (t : Talk A) {B : Type 0} (w : A → Result B Failure) 
 told_asks t w n h b = next_asks t (λ a. tells (w a)) n 0 224 b (λ a. tells_asks (w a) 0) (omega arith)
 
 pub most_asked : (o : Operation) → Asks 224 (rounds (talk_of o))
-unfolding talk_of controller.initialize
+unfolding talk_of controller.initialize club.apply_preferences
 most_asked (InitializeController passed) = told_asks (controller.initialize_if passed.initialized passed) _ 49 (omega arith) (initialize_asks passed.initialized passed)
 most_asked InitializeKeyboard = told_asks keyboard.keyboard_init _ 91 (omega arith) keyboard_init_asks
 most_asked ResetKeyboard = told_asks keyboard.reset_keyboard _ 13 (omega arith) reset_keyboard_asks
@@ -369,3 +391,4 @@ most_asked (SetSamplingRate rate) = told_asks (mouse.set_sampling_rate rate) _ 2
 most_asked (SetResolution r) = told_asks (mouse.set_resolution r) _ 26 (omega arith) (resolution_asks r)
 most_asked MouseWaits = told_asks mouse.mouse_waits _ 1 (omega arith) mouse_waits_asks
 most_asked (ReadPacket id) = told_asks (mouse.read_packet id) _ 4 (omega arith) (packet_asks id)
+most_asked (ApplyPreferences p) = told_asks (club.apply_if (within_values p) p) _ 157 (omega arith) (apply_asks (within_values p) p)

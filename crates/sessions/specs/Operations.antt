@@ -20,8 +20,9 @@ use Rattle.talks.specs.Commands.{read_data}
 use Rattle.talks.specs.Keyboard as keyboard
 use Rattle.talks.specs.Mouse as mouse
 use Rattle.talks.specs.Controller.{initialize}
+use Rattle.talks.specs.Application.{apply_preferences}
 use Rattle.sessions.specs.declared.Operation.{Operation}
-use Rattle.sessions.specs.declared.Operation.TheVariants.{InitializeController, InitializeKeyboard, ResetKeyboard, CommandKeyboard, SetLamps, SetScancodeSet, GetScancodeSet, DetectKeyboard, SetRepeat, KeyboardWaits, ReadScancode, ResetMouse, StartPackets, StopPackets, GetIdentity, SetIdentity, CommandMouse, SetSamplingRate, SetResolution, MouseWaits, ReadPacket}
+use Rattle.sessions.specs.declared.Operation.TheVariants.{InitializeController, InitializeKeyboard, ResetKeyboard, CommandKeyboard, SetLamps, SetScancodeSet, GetScancodeSet, DetectKeyboard, SetRepeat, KeyboardWaits, ReadScancode, ResetMouse, StartPackets, StopPackets, GetIdentity, SetIdentity, CommandMouse, SetSamplingRate, SetResolution, MouseWaits, ReadPacket, ApplyPreferences}
 use Rattle.sessions.specs.declared.Ending.{Ending}
 
 -- The number of a refusal, 0 where there is none.
@@ -92,3 +93,4 @@ talk_of (SetSamplingRate rate) = telling_number no_value (mouse.set_sampling_rat
 talk_of (SetResolution resolution) = telling_number no_value (mouse.set_resolution resolution)
 talk_of MouseWaits = telling_number weigh mouse.mouse_waits
 talk_of (ReadPacket id) = next (mouse.read_packet id) (λ p. tells (Ok (packet_told p)))
+talk_of (ApplyPreferences p) = telling_number no_value (apply_preferences p)

@@ -9,6 +9,7 @@ ghost use Rattle.sessions.specs.Operations.{talk_of, value_told, one_number, ref
 ghost use Rattle.sessions.specs.Rounds.{rounds, past, shown};
 
 use port_words::{Value, packet_words};
+use preferences::Preferences;
 use ps2_answers::{Counted, Failure};
 use ps2_bytes::{
     HostToKeyboardCommand, HostToMouseCommand, MouseId, MouseResolution, MouseSampleRate,
@@ -20,11 +21,11 @@ use ps2_packet::SignedPacket;
 use ps2_ports::DevicePort;
 use questions::Question;
 use talks::{
-    ControllerLeft, IdentityLeft, Partner, Stop, disable_packet_streaming, enable_packet_streaming,
-    get_scancode_set, initialize, keyboard_command, keyboard_detect, keyboard_init, keyboard_waits,
-    mouse_command, mouse_id, mouse_waits, read_data, read_packet, reset_keyboard, reset_mouse,
-    set_keyboard_repeat, set_mouse_id, set_port_led, set_resolution, set_sampling_rate,
-    set_scancode_set,
+    ControllerLeft, IdentityLeft, Partner, Stop, apply_preferences, disable_packet_streaming,
+    enable_packet_streaming, get_scancode_set, initialize, keyboard_command, keyboard_detect,
+    keyboard_init, keyboard_waits, mouse_command, mouse_id, mouse_waits, read_data, read_packet,
+    reset_keyboard, reset_mouse, set_keyboard_repeat, set_mouse_id, set_port_led, set_resolution,
+    set_sampling_rate, set_scancode_set,
 };
 
 /// What can be run a byte at a time.
@@ -51,6 +52,7 @@ pub enum Operation {
     SetResolution(MouseResolution),
     MouseWaits,
     ReadPacket(MouseId),
+    ApplyPreferences(Preferences),
 }
 
 /// What an operation comes to: the refusal's number, 0 where there is none, and what it hands back.
@@ -244,6 +246,10 @@ pub fn run<P: Partner>(partner: &mut P, operation: Operation) -> Result<Ending, 
         Operation::ReadPacket(id) => {
             let packet = read_packet(partner, id)?;
             Ok(packet_ending(packet))
+        }
+        Operation::ApplyPreferences(preferences) => {
+            let done = apply_preferences(partner, preferences)?;
+            Ok(one(done))
         }
     }
 }

@@ -1,5 +1,6 @@
 -- The operation that two numbers stand for: which it is, and its argument.
-use Rattle.std.specs.Prelude.{Bool, true, false, cond, ℕ, eqb, ltb, Option, Some, None}
+use Rattle.std.specs.Prelude.{Bool, true, false, cond, ℕ, ◌^◌, eqb, ltb, Option, Some, None, get_or}
+use Rattle.std.specs.Int.{w64, to_le_bytes}
 use Rattle.bits.specs.Table.{decode}
 use Rattle.ps2_bytes.specs.Commands.{to_keyboard_commands, to_mouse_commands}
 use Rattle.ps2_bytes.specs.Data.{sample_rates, resolutions}
@@ -13,8 +14,11 @@ use Rattle.ps2_bytes.specs.declared.data.ScancodeSet.TheVariants.{Set1, Set2, Se
 use Rattle.ps2_bytes.specs.declared.response.MouseId.{MouseId}
 use Rattle.ps2_layouts.specs.declared.leds.LEDState.{LEDState}
 use Rattle.ps2_init.specs.declared.PS2Controller.{PS2Controller}
+use Rattle.preferences.specs.declared.Fields.{Fields}
+use Rattle.preferences.specs.declared.Preferences.{Preferences}
+use Rattle.preferences.specs.declared.Preferences.TheVariants.{Version1, Version2}
 use Rattle.sessions.specs.declared.Operation.{Operation}
-use Rattle.sessions.specs.declared.Operation.TheVariants.{InitializeController, InitializeKeyboard, ResetKeyboard, CommandKeyboard, SetLamps, SetScancodeSet, GetScancodeSet, DetectKeyboard, SetRepeat, KeyboardWaits, ReadScancode, ResetMouse, StartPackets, StopPackets, GetIdentity, SetIdentity, CommandMouse, SetSamplingRate, SetResolution, MouseWaits, ReadPacket}
+use Rattle.sessions.specs.declared.Operation.TheVariants.{InitializeController, InitializeKeyboard, ResetKeyboard, CommandKeyboard, SetLamps, SetScancodeSet, GetScancodeSet, DetectKeyboard, SetRepeat, KeyboardWaits, ReadScancode, ResetMouse, StartPackets, StopPackets, GetIdentity, SetIdentity, CommandMouse, SetSamplingRate, SetResolution, MouseWaits, ReadPacket, ApplyPreferences}
 use Rattle.step_words.specs.Places.{onward, below}
 
 -- No argument: 0.
@@ -57,6 +61,19 @@ rate_in a = decode Some None sample_rates a
 abbrev pub resolution_in : ℕ → Option MouseResolution
 resolution_in a = decode Some None resolutions a
 
+-- Preferences in six bytes, from the lowest: the version, and the fields in their order. Version 1 has no sixth, and it is not looked at.
+abbrev pub byte_in : ℕ → ℕ → ℕ
+byte_in k a = get_or (to_le_bytes w64 a) k 0
+
+abbrev pub fields_in : ℕ → Fields
+fields_in a = record { set = byte_in 1 a; rate = byte_in 2 a; resolution = byte_in 3 a; lamps = byte_in 4 a }
+
+abbrev pub record_in : ℕ → Option Preferences
+record_in a = cond (eqb (byte_in 0 a) 1) (Some (Version1 (fields_in a))) (cond (eqb (byte_in 0 a) 2) (Some (Version2 (fields_in a) (byte_in 5 a))) None)
+
+abbrev pub preferences_in : ℕ → Option Preferences
+preferences_in a = cond (ltb a (2 ^ 48)) (record_in a) None
+
 -- The operations of the keyboard and of the mouse, by their numbers.
 unfoldable pub keyboard_operation_in : ℕ → ℕ → Option Operation
 keyboard_operation_in n a =
@@ -87,4 +104,5 @@ unfoldable pub operation_in : ℕ → ℕ → Option Operation
 operation_in n a =
     cond (eqb n 1) (onward (controller_in a) (λ c. Some (InitializeController c)))
     (cond (eqb n 2) (plainly a InitializeKeyboard)
-    (cond (ltb n 12) (keyboard_operation_in n a) (mouse_operation_in n a)))
+    (cond (eqb n 22) (onward (preferences_in a) (λ p. Some (ApplyPreferences p)))
+    (cond (ltb n 12) (keyboard_operation_in n a) (mouse_operation_in n a))))

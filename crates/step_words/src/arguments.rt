@@ -1,8 +1,10 @@
 // The operation that two numbers stand for: which it is, and its argument.
 ghost use Rattle.std.specs.Prelude.{◌≡◌, ◌<◌};
-ghost use Rattle.step_words.specs.Arguments.{plainly, controller_in, controller_of, keyboard_command_in, mouse_command_in, lamps_in, set_in, identity_in, rate_in, resolution_in, keyboard_operation_in, mouse_operation_in, operation_in};
+ghost use Rattle.std.specs.Int.{w64, to_le_bytes};
+ghost use Rattle.step_words.specs.Arguments.{plainly, controller_in, controller_of, keyboard_command_in, mouse_command_in, lamps_in, set_in, identity_in, rate_in, resolution_in, fields_in, preferences_in, keyboard_operation_in, mouse_operation_in, operation_in};
 
 use crate::places::byte_at;
+use preferences::{Fields, Preferences};
 use ps2_bytes::{
     HostToKeyboardCommand, HostToMouseCommand, MouseId, MouseResolution, MouseSampleRate,
     ScancodeSet,
@@ -108,6 +110,27 @@ fn resolution_at(argument: u64) -> Option<MouseResolution>
     MouseResolution::try_from(byte).ok()
 }
 
+// Preferences in six bytes, from the lowest: the version, and the fields in their order.
+fn preferences_at(argument: u64) -> Option<Preferences>
+    ensures { result ≡ preferences_in argument }
+{
+    if argument >= 1 << 48 {
+        return None;
+    }
+    let [version, set, rate, resolution, lamps, repeat, _, _] = argument.to_le_bytes();
+    let fields = Fields {
+        set: u32::from(set),
+        rate: u32::from(rate),
+        resolution: u32::from(resolution),
+        lamps: u32::from(lamps),
+    };
+    match version {
+        1 => Some(Preferences::Version1(fields)),
+        2 => Some(Preferences::Version2(fields, u32::from(repeat))),
+        _ => None,
+    }
+}
+
 #[tactic(auto, unfolding(crate::specs::Arguments::keyboard_operation_in))]
 fn keyboard_operation_at(number: u64, argument: u64) -> Option<Operation>
     ensures { result ≡ keyboard_operation_in number argument }
@@ -156,6 +179,9 @@ pub fn operation_at(number: u64, argument: u64) -> Option<Operation>
     }
     if number == 2 {
         return plain(argument, Operation::InitializeKeyboard);
+    }
+    if number == 22 {
+        return Some(Operation::ApplyPreferences(preferences_at(argument)?));
     }
     if number < 12 {
         keyboard_operation_at(number, argument)

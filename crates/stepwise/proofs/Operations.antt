@@ -20,14 +20,16 @@ use Rattle.talks.specs.Commands.{read_data}
 use Rattle.talks.specs.Keyboard as keyboard
 use Rattle.talks.specs.Mouse as mouse
 use Rattle.talks.specs.Controller as controller
+use Rattle.talks.specs.Application.{apply_preferences}
 use Rattle.talk_trees.proofs.Trees.{telling}
 use Rattle.talk_trees.proofs.Keyboard.{answering_keyboard_command, answering_reset_keyboard, answering_keyboard_led, answering_get_set, answering_set_set, answering_repeat, answering_keyboard_waits, answering_read_data, answering_detect, answering_keyboard_init}
 use Rattle.talk_trees.proofs.Mouse.{answering_mouse_command, answering_reset_mouse, answering_rate, answering_resolution, answering_disable, answering_enable, answering_mouse_id, answering_mouse_waits, answering_packet, telling_set_mouse_id}
 use Rattle.talk_trees.proofs.Mouse as mouse_trees
 use Rattle.talk_trees.proofs.Controller.{telling_initialize}
 use Rattle.talk_trees.proofs.Controller as controller_trees
+use Rattle.talk_trees.proofs.Application.{answering_preferences}
 use Rattle.sessions.specs.declared.Operation.{Operation}
-use Rattle.sessions.specs.declared.Operation.TheVariants.{InitializeController, InitializeKeyboard, ResetKeyboard, CommandKeyboard, SetLamps, SetScancodeSet, GetScancodeSet, DetectKeyboard, SetRepeat, KeyboardWaits, ReadScancode, ResetMouse, StartPackets, StopPackets, GetIdentity, SetIdentity, CommandMouse, SetSamplingRate, SetResolution, MouseWaits, ReadPacket}
+use Rattle.sessions.specs.declared.Operation.TheVariants.{InitializeController, InitializeKeyboard, ResetKeyboard, CommandKeyboard, SetLamps, SetScancodeSet, GetScancodeSet, DetectKeyboard, SetRepeat, KeyboardWaits, ReadScancode, ResetMouse, StartPackets, StopPackets, GetIdentity, SetIdentity, CommandMouse, SetSamplingRate, SetResolution, MouseWaits, ReadPacket, ApplyPreferences}
 use Rattle.sessions.specs.declared.Ending.{Ending}
 use Rattle.sessions.specs.Operations.{refused_as, value_told, identity_told, controller_told, packet_told, telling_number, talk_of}
 use Rattle.sessions.proofs.Rounds.{exchange_rounds}
@@ -107,6 +109,7 @@ told (SetSamplingRate rate) = told_value no_value (mouse.set_sampling_rate rate)
 told (SetResolution resolution) = told_value no_value (mouse.set_resolution resolution) _ (answering_resolution resolution)
 told MouseWaits = told_value weigh mouse.mouse_waits _ answering_mouse_waits
 told (ReadPacket id) = told_left packet_told answer_of packet_numbers (mouse.read_packet id) _ packet_left (answering_packet id)
+told (ApplyPreferences p) = told_value no_value (apply_preferences p) _ (answering_preferences p)
 
 pub whole_operation : (o : Operation) → whole o ≡ operation o
 whole_operation o = ap (λ x. bind x (λ r. done (ended r))) (exchange_rounds (talk_of o)) ∙ told o

@@ -17,12 +17,12 @@ use Rattle.ps2_packet.specs.declared.SignedPacket.{SignedPacket}
 use Rattle.ps2_packet_reading.specs.Reading.{read_signed_packet}
 use Rattle.ps2_init.specs.declared.PS2Controller.{PS2Controller}
 use Rattle.ps2_init.specs.Init.{initialize}
-use Rattle.preferences_application.specs.Application.{set_keyboard_repeat}
+use Rattle.preferences_application.specs.Application.{set_keyboard_repeat, apply_preferences}
 use Rattle.keyboard_init.specs.KeyboardInit.{keyboard_init}
 use Rattle.port_words.specs.Told.{no_value, byte_value, type_number}
 use Rattle.port_words.specs.ToldPacket.{told_packet}
 use Rattle.sessions.specs.declared.Operation.{Operation}
-use Rattle.sessions.specs.declared.Operation.TheVariants.{InitializeController, InitializeKeyboard, ResetKeyboard, CommandKeyboard, SetLamps, SetScancodeSet, GetScancodeSet, DetectKeyboard, SetRepeat, KeyboardWaits, ReadScancode, ResetMouse, StartPackets, StopPackets, GetIdentity, SetIdentity, CommandMouse, SetSamplingRate, SetResolution, MouseWaits, ReadPacket}
+use Rattle.sessions.specs.declared.Operation.TheVariants.{InitializeController, InitializeKeyboard, ResetKeyboard, CommandKeyboard, SetLamps, SetScancodeSet, GetScancodeSet, DetectKeyboard, SetRepeat, KeyboardWaits, ReadScancode, ResetMouse, StartPackets, StopPackets, GetIdentity, SetIdentity, CommandMouse, SetSamplingRate, SetResolution, MouseWaits, ReadPacket, ApplyPreferences}
 use Rattle.sessions.specs.declared.Ending.{Ending}
 use Rattle.sessions.specs.Operations.{words_told}
 
@@ -75,3 +75,4 @@ operation (SetSamplingRate rate) = numbers no_value (set_sampling_rate rate)
 operation (SetResolution resolution) = numbers no_value (set_resolution resolution)
 operation MouseWaits = numbers weigh mouse_output_buffer_full
 operation (ReadPacket id) = bind (read_signed_packet id) (λ a. done (packet_numbers a))
+operation (ApplyPreferences p) = numbers no_value (apply_preferences p)

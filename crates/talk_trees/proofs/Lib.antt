@@ -4,3 +4,4 @@ pub mod Waits
 pub mod Keyboard
 pub mod Mouse
 pub mod Controller
+pub mod Application

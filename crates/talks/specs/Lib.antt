@@ -5,3 +5,4 @@ pub mod Commands
 pub mod Keyboard
 pub mod Mouse
 pub mod Controller
+pub mod Application

@@ -6,11 +6,13 @@ ghost use Rattle.questions.specs.declared.Question.{Question as AQuestion};
 ghost use Rattle.talks.specs.Talk.{asks};
 ghost use Rattle.talks.specs.Heard.{Replies, by, heard, fails_as, forgives, works, said};
 
+mod application;
 mod commands;
 mod controller;
 mod keyboard;
 mod mouse;
 
+pub use application::apply_preferences;
 pub use commands::{
     command, command_by, command_pair, read_data, read_status, seek, self_test, write,
     write_command,

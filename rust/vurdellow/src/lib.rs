@@ -54,7 +54,7 @@ pub use mouse::{Identity, Mouse, MouseCommand, Packet, Resolution, SamplingRate}
 pub use preferences::{Fields, Preferences};
 pub use refusal::{Counted, Counts, Done, Exchange, Outcome, Port, Refusal, Refused};
 pub use report::{LongReport, Mean, Report, REPORT_KEYS};
-pub use step::{Applying, Handling, IdentitySet, Request, Session, Steps, STEP_WORDS};
+pub use step::{Handling, IdentitySet, Request, Session, Steps, STEP_WORDS};
 
 /// The examples of docs/USING.md are tested with those here.
 #[cfg(doctest)]

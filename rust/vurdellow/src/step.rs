@@ -70,6 +70,7 @@ enum Operation {
     MouseSetResolution = 19,
     MouseWaits = 20,
     MouseReadPacket = 21,
+    PreferencesApply = 22,
 }
 
 /// What is to be done at the ports, or what the operation came to.
@@ -237,6 +238,18 @@ impl Session<Exchange<()>> {
     #[must_use]
     pub fn mouse_set_resolution(resolution: Resolution) -> Self {
         Session::plain(Operation::MouseSetResolution, resolution as u8)
+    }
+
+    /// Applies preferences field by field, until a device refuses one. Fields outside their values
+    /// are refused with 28 before anything is read or written.
+    #[must_use]
+    pub fn preferences_apply(preferences: Preferences) -> Self {
+        let raw::vd_preferences { version, set, rate, resolution, lamps, repeat } =
+            preferences.numbers();
+        let numbers = [version, set, rate, resolution, lamps, repeat];
+        // A byte for each; a number above 255 is outside the values, as 255 is of every field.
+        let argument = numbers.iter().rev().fold(0, |bytes: u64, &n| bytes << 8 | u64::from(n.min(255)));
+        Session::plain(Operation::PreferencesApply, argument)
     }
 }
 
@@ -498,78 +511,6 @@ impl Script {
     fn push(&mut self, byte: u8) {
         self.bytes[self.length] = byte;
         self.length += 1;
-    }
-}
-
-/// The application of preferences, begun: a session for each field, one after the other.
-#[derive(Clone, Debug)]
-pub struct Applying {
-    preferences: Preferences,
-    /// The field that is set now, in the order of [`Preferences::apply`], and its session: none
-    /// if a field is outside its values.
-    field: usize,
-    session: Option<Session<Exchange<()>>>,
-    /// What was read and written for the fields before it.
-    before: Counts,
-}
-
-impl Applying {
-    fn session(preferences: Preferences, field: usize) -> Option<Session<Exchange<()>>> {
-        let raw::vd_preferences { version, set, rate, resolution, lamps, repeat } =
-            preferences.numbers();
-        Some(match field {
-            0 => Session::plain(Operation::KeyboardSetScancodeSet, set),
-            1 => Session::plain(Operation::MouseSetSamplingRate, rate),
-            2 => Session::plain(Operation::MouseSetResolution, resolution),
-            3 => Session::plain(Operation::KeyboardSetLamps, lamps),
-            4 if version == 2 => Session::plain(Operation::KeyboardSetRepeat, repeat),
-            _ => return None,
-        })
-    }
-}
-
-impl Steps for Applying {
-    type Outcome = Exchange<()>;
-
-    fn wanted(&self) -> Request<Exchange<()>> {
-        let Some(session) = &self.session else {
-            return Request::Done(Err(Refused {
-                refusal: Refusal::OutsideValues,
-                done: Counts::default(),
-            }));
-        };
-        let used = self.before.used + session.course.counts.used;
-        let pairs = self.before.pairs + session.course.counts.pairs;
-        match session.wanted() {
-            Request::Read(port) => Request::Read(port),
-            Request::Write(port, value) => Request::Write(port, value),
-            Request::Done(Ok(_)) => Request::Done(Ok(Done { value: (), used, pairs })),
-            Request::Done(Err(Refused { refusal, .. })) => {
-                Request::Done(Err(Refused { refusal, done: Counts { used, pairs } }))
-            }
-        }
-    }
-
-    fn next(&mut self, byte: u8) {
-        let Some(session) = &mut self.session else { return };
-        session.next(byte);
-        if let Request::Done(Ok(Done { used, pairs, .. })) = session.wanted() {
-            if let Some(next) = Applying::session(self.preferences, self.field + 1) {
-                (self.before.used, self.before.pairs) =
-                    (self.before.used + used, self.before.pairs + pairs);
-                (self.field, *session) = (self.field + 1, next);
-            }
-        }
-    }
-}
-
-impl Preferences {
-    /// Begins to apply the preferences, a byte at a time.
-    #[must_use]
-    pub fn applying(self) -> Applying {
-        let is_outside = self.apply(&[], &mut []).refusal() == Some(Refusal::OutsideValues);
-        let session = if is_outside { None } else { Applying::session(self, 0) };
-        Applying { preferences: self, field: 0, session, before: Counts::default() }
     }
 }
 

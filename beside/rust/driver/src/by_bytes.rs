@@ -32,7 +32,15 @@ pub mod operation {
     pub const MOUSE_RESOLUTION: u32 = 19;
     pub const MOUSE_WAITS: u32 = 20;
     pub const MOUSE_READ_PACKET: u32 = 21;
-    pub const LAST: u32 = MOUSE_READ_PACKET;
+    pub const PREFERENCES_APPLY: u32 = 22;
+    pub const LAST: u32 = PREFERENCES_APPLY;
+}
+
+/// Preferences as an argument, a byte for each number. One above 255 is outside the values, as 255 is.
+pub fn argument_of(preferences: PreferencesWords) -> u64 {
+    let PreferencesWords { version, set, rate, resolution, lamps, repeat } = preferences;
+    let numbers = [version, set, rate, resolution, lamps, repeat];
+    numbers.iter().rev().fold(0, |bytes, &n| bytes << 8 | u64::from(n.min(255)))
 }
 
 /// The kinds of requests.

@@ -1,7 +1,7 @@
 //! A call made by the port's exports, those of the library and those for tests alone: its answer. What an answer says too much is an error.
 
 use crate::answer::{Answer, Done, Keyboard, Packet, Record, Value};
-use crate::by_bytes::operation as by;
+use crate::by_bytes::{argument_of, operation as by};
 use crate::call::{Call, Controller, Handler, KeyEvent, KeyboardOp, MouseOp, Op, Side, Step, MOST_CALLS};
 use crate::device::Rng;
 use crate::dispatch::{Dispatch, Dispatched, Made, Move};
@@ -301,6 +301,8 @@ impl Port {
                 if answer.refusal != 28 {
                     self.in_turn(words, script, answer, &log.bytes)?;
                 }
+                let told = (by::PREFERENCES_APPLY, argument_of(words));
+                self.alike_by_bytes(told, script, answer, &log.bytes, &[])?;
                 self.call_answer(answer, log, Value::Nothing, Record::Nothing)
             }
             Op::Salvage(salvage) => self.salvage(salvage, script, *room),

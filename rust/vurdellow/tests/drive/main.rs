@@ -188,7 +188,7 @@ fn plain(kind: usize, direct: &mut Direct, arguments: Arguments) -> (Result<(), 
                 ),
             };
             let preferences = repeat.map_or(Preferences::Version1(fields), |r| Preferences::Version2(fields, r.into()));
-            (expected, Box::new(preferences.applying()), Box::new(move |s, l| preferences.apply(s, l)))
+            (expected, Box::new(Session::preferences_apply(preferences)), Box::new(move |s, l| preferences.apply(s, l)))
         }
     }
 }
