@@ -137,7 +137,7 @@ fn byte_of(value: u32) -> u8
     value as u8
 }
 
-// The scancode set of a byte, and below the sampling rate and the resolution.
+/// The scancode set of a byte, and below the sampling rate and the resolution.
 pub fn set_of(byte: u8) -> ScancodeSet
     ensures { result ≡ set_of byte }
 {

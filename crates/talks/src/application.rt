@@ -16,6 +16,8 @@ use ps2_ports::DevicePort;
 
 /// Applies a record's fields in their order. Where one is outside its values nothing is read or
 /// written; after a refusal the fields before it stay applied.
+/// Refused: outside values (28); then 4 to 7, no set or identity (11), LEDs not set (14), rate or
+/// resolution not set (15).
 #[tactic(auto, unfolding(crate::specs::Application::apply_preferences, crate::specs::Heard::heard))]
 pub fn apply_preferences<P: Partner>(partner: &mut P, preferences: Preferences) -> Result<(), Stop>
     ensures { by result partner.new ≡ heard P.replies (talk.apply_preferences preferences) partner.old }
