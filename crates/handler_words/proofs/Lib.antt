@@ -10,3 +10,4 @@ pub mod Plain
 pub mod Taken
 pub mod Fresh
 pub mod Runs
+pub mod WholeRecords

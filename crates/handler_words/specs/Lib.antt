@@ -5,3 +5,4 @@ pub mod Arguments
 pub mod Calls
 pub mod Parts
 pub mod Runs
+pub mod Records

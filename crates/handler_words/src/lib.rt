@@ -21,6 +21,8 @@ ghost use Rattle.handler_words.specs.Arguments.{side_number, laid_with, table_at
 ghost use Rattle.handler_words.specs.Calls.{refusing, with_keyboard_at, with_sides, with_event, SideHandled, AtSide, WordsHandled, taken_numbers, with_queue_at, WordsTaken, WordsFresh};
 ghost use Rattle.handler_words.specs.Parts.{said_table, InTwo, Narrow, Placed, reread, Says, keyboard_passes, sides_pass, FromScript, KeyAlone, followed_by, byte_used, PlainKey, KeyQueued, KeyHandled};
 
+pub mod records;
+
 use argument_words::INVALID_ARGUMENT;
 use keyboard::{HandlerAnswer, HandlerRefusal, handle_state, leaves_as_passed, number_of};
 use keyboard_modifiers::KeyboardModifiers;

@@ -4,3 +4,4 @@ pub mod Polling
 pub mod Devices
 pub mod Calls
 pub mod Steps
+pub mod Records

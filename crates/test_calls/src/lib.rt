@@ -5,4 +5,5 @@
 mod arguments;
 mod devices;
 mod polling;
+mod records;
 mod rows;
