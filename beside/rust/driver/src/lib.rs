@@ -27,4 +27,5 @@ pub mod refused;
 pub mod report;
 pub mod salvage;
 pub mod sides;
+pub mod ways;
 pub mod words;

@@ -89,6 +89,10 @@ macro_rules! exports {
 /// there are two keyboards, the profile is the tournament's, and the side is the second.
 pub type InARow = fn(&[u8], &[u8], &mut [u8], usize, bool, bool, bool) -> usize;
 
+/// A handler call, and a taking, on a record that is lent as numbers.
+pub type Handling = fn(&mut [u64], u32, &[u8], &mut [u8]) -> HandledWords;
+pub type Taking = fn(&mut [u64]) -> TakenWords;
+
 exports! {
     /// The names of all exports of the library.
     NAMES:
@@ -158,6 +162,9 @@ exports! {
     vdt_mouse_data_rate mouse_data_rate(rate: u32, script: &[u8], log: &mut [u8],) -> KeptWords;
     vdt_mouse_data_resolution mouse_data_resolution(resolution: u32, script: &[u8], log: &mut [u8],) -> KeptWords;
     vdt_mouse_read_packet mouse_read_rust_packet(identity: u32, script: &[u8],) -> RustPacketWords;
+    vdt_handle_by_value handle_by_value(words: &mut [u64], side: u32, script: &[u8], log: &mut [u8],) -> HandledWords;
+    vdt_handle_in_place handle_in_place(words: &mut [u64], side: u32, script: &[u8], log: &mut [u8],) -> HandledWords;
+    vdt_take_by_value take_by_value(words: &mut [u64],) -> TakenWords;
     vdt_handler_calls_by_value handler_calls_by_value(script: &[u8], other: &[u8], log: &mut [u8], times: usize, two: bool, tournament: bool, second: bool,) -> usize;
     vdt_handler_calls_in_place handler_calls_in_place(script: &[u8], other: &[u8], log: &mut [u8], times: usize, two: bool, tournament: bool, second: bool,) -> usize;
     vdt_handler_calls_on_state handler_calls_on_state(script: &[u8], other: &[u8], log: &mut [u8], times: usize, two: bool, tournament: bool, second: bool,) -> usize;

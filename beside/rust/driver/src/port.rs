@@ -49,6 +49,11 @@ impl Lent {
         Lent { bytes: before.clone(), before }
     }
 
+    /// The same, as it was lent.
+    pub fn again(&self) -> Vec<u8> {
+        self.before.clone()
+    }
+
     /// What was written; all behind it must be as it was.
     pub fn written(self, count: usize) -> Result<Vec<u8>, String> {
         let Lent { mut bytes, before } = self;
@@ -597,6 +602,9 @@ impl Port {
         if let Some(wrong) = words::wrong_after_handling(&before, words, side, answer.refusal) {
             return Err(wrong);
         }
+        let number = side as u32 + 1;
+        let lent = (&before[..], log.again());
+        self.handled_alike(number, lent, script, (answer, words, &log.bytes))?;
         self.handled(answer, side, log)
     }
 
@@ -618,6 +626,7 @@ impl Port {
         if let Some(wrong) = words::wrong_after_taking(&before, words, side != 0) {
             return Err(wrong);
         }
+        self.taken_alike(&before, answer, words)?;
         let nothing = [side, keycode, action, flags] == [0; 4];
         let event = || {
             let bad = || format!("an event {answer:?}");

@@ -6,6 +6,7 @@ use crate::call::{KEYBOARD_COMMANDS, LAST_KEYCODE, MOUSE_COMMANDS, RATES, RELEAS
 use crate::device::{Rng, TELLING};
 use crate::library::{self as vd, *};
 use crate::port::{Lent, Port, Refusing};
+use crate::ways::{HANDLINGS, TAKINGS};
 use crate::words::{self, DISPATCHER_WORDS, HANDLER_WORDS};
 
 /// What is answered where an argument stands for nothing.
@@ -165,16 +166,17 @@ pub fn check(kind: usize, port: &mut Port) -> Result<(), String> {
             let length = length(rng, HANDLER_WORDS, is_side);
             let mut bench = Bench::new(rng, length);
             let side = if is_side { 1 + rng.below(2) as u32 } else { none_of(rng, &[1, 2]) };
-            let answer =
-                port.note("vd_handle", vd::handle(&mut bench.words, side, &bench.script, &mut bench.log.bytes));
+            let (name, handle) = rng.pick(&HANDLINGS);
+            let answer = port.note(name, handle(&mut bench.words, side, &bench.script, &mut bench.log.bytes));
             let refusal = if is_side { MALFORMED } else { INVALID_ARGUMENT };
-            bench.ended("vd_handle", answer, refusing(HandledWords::zero(), refusal))
+            bench.ended(name, answer, refusing(HandledWords::zero(), refusal))
         }
         17 => {
             let length = length(rng, HANDLER_WORDS, true);
             let mut bench = Bench::new(rng, length);
-            let answer = port.note("vd_take", vd::take(&mut bench.words));
-            bench.ended("vd_take", answer, refusing(TakenWords::zero(), MALFORMED))
+            let (name, take) = rng.pick(&TAKINGS);
+            let answer = port.note(name, take(&mut bench.words));
+            bench.ended(name, answer, refusing(TakenWords::zero(), MALFORMED))
         }
         18 => {
             let length = length(rng, DISPATCHER_WORDS, true);
@@ -198,11 +200,15 @@ pub fn check(kind: usize, port: &mut Port) -> Result<(), String> {
             match kind {
                 19 => {
                     let answer = port.note("vd_take", vd::take(&mut bench.words));
+                    port.taken_alike(&bench.before, answer, &bench.words)?;
                     bench.ended("vd_take", answer, refusing(TakenWords::zero(), MALFORMED))
                 }
                 20 => {
-                    let answer = vd::handle(&mut bench.words, 1 + rng.below(2) as u32, &bench.script, &mut bench.log.bytes);
+                    let (side, lent) = (1 + rng.below(2) as u32, bench.log.again());
+                    let answer = vd::handle(&mut bench.words, side, &bench.script, &mut bench.log.bytes);
                     let answer = port.note("vd_handle", answer);
+                    let came = (answer, &bench.words[..], &bench.log.bytes[..]);
+                    port.handled_alike(side, (&bench.before, lent), &bench.script, came)?;
                     bench.ended("vd_handle", answer, refusing(HandledWords::zero(), MALFORMED))
                 }
                 _ => {

@@ -225,6 +225,30 @@ pub fn malform_dispatcher(words: &mut [u64], rng: &mut Rng) {
     }
 }
 
+/// Whether some record has these numbers in its fields, well formed or not.
+pub fn fit(words: &[u64]) -> bool {
+    let keyboard = |at: usize| words[at + PREFIX] < 2 && words[at + FLAGS] < 0x10000 && words[at + WAITS] < 0x100;
+    keyboard(0)
+        && words[PROFILE] < 2
+        && match words[KEYBOARDS] {
+            1 => true,
+            2 => keyboard(OF_KEYBOARD),
+            _ => false,
+        }
+}
+
+/// The numbers of the record that numbers stand for: of a side that isn't at the table nothing is remembered, and a place has an event's number.
+pub fn as_stored(words: &[u64]) -> Vec<u64> {
+    let mut stored = words.to_vec();
+    if stored[KEYBOARDS] == 1 {
+        stored[OF_KEYBOARD..2 * OF_KEYBOARD].fill(0);
+    }
+    for place in &mut stored[PLACES..] {
+        *place = word_of(&event_of(*place, Side::First));
+    }
+    stored
+}
+
 /// What is wrong with the numbers that a handler call left: it writes a side's keyboard and, where it gives an event, one place, the
 /// count and a bit of the sides; nothing after 2, 3, 21 or 255.
 pub fn wrong_after_handling(before: &[u64], after: &[u64], side: Side, refusal: u32) -> Option<String> {
