@@ -1,5 +1,4 @@
 -- A record read out of its numbers, and stored as its numbers.
--- Assumes nothing.
 use mathlib.Core.Path.{◌≡◌, refl, sym, ap, ◌∙◌}
 use mathlib.Core.Bool.{Bool, true, false, cond, ◌&&◌, ◌||◌, true≢false, and-false}
 use mathlib.Core.Logic.{⊎_elim}

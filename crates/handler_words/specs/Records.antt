@@ -1,5 +1,4 @@
 -- Which numbers fit a record's fields, so that the record that they stand for can be read out of them.
--- Assumes nothing.
 use Rattle.std.specs.Prelude.{Bool, true, false, cond, ◌&&◌, ◌||◌, List, ◌≡◌, ℕ, ◌+◌, eqb, ltb, get_or, Option as Maybe, Some, None}
 use Rattle.keyboard_record.specs.declared.Table.{Table}
 use Rattle.handler_words.specs.Layout.{first_at, second_at, keyboards_at, profile_at}

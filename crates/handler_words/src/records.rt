@@ -127,7 +127,8 @@ fn read_second(words: &Words) -> Option<KeyboardState>
     }
 }
 
-// The record that a record's numbers stand for, where they fit its fields. It need not be well formed: a call on it answers 21 then.
+/// The record that a record's numbers stand for, where they fit its fields. It need not be well
+/// formed: a call on it answers 21 then.
 pub fn read_record(words: &Words) -> Option<KeyboardHandler>
     ensures { Reads (holds_record words.now) (record_of words.now) result }
 {
@@ -159,7 +160,7 @@ fn put_events(words: &mut Words, places: &[KeyEvent; QUEUE_LENGTH])
     }
 }
 
-// Stores a record: every number is written.
+/// Stores a record: every number is written.
 pub fn put_record(words: &mut Words, handler: &KeyboardHandler)
     ensures { words.new ≡ words_of handler.now }
 {
@@ -175,7 +176,7 @@ pub fn put_record(words: &mut Words, handler: &KeyboardHandler)
     put_events(words, &handler.places);
 }
 
-// What a handler call answers, as numbers.
+/// What a handler call answers, as numbers.
 pub fn handled_words(call: CallAnswer) -> HandledWords
     ensures { (handler : KeyboardHandler) → result ≡ numbers_of (said_in_place call handler) }
 {
@@ -189,7 +190,7 @@ pub fn handled_words(call: CallAnswer) -> HandledWords
     }
 }
 
-// What a taking answers, as numbers.
+/// What a taking answers, as numbers.
 pub fn taken_words(taken: TakenEvent) -> TakenWords
     ensures { result ≡ taken_numbers (said_taken taken) }
 {

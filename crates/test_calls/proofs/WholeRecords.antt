@@ -1,5 +1,4 @@
 -- A handler call and a taking on the record that lent numbers stand for.
--- Assumes nothing.
 use mathlib.Core.Path.{◌≡◌, refl, ap, ◌∙◌}
 use mathlib.Core.Bool.{true, false}
 use mathlib.Core.List.{List}

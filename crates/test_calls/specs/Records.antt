@@ -1,8 +1,7 @@
 -- A handler call, and a taking, on the record that 144 lent numbers stand for: the record is read out of them, and the one that is left is stored.
--- Assumes nothing.
 use Rattle.std.specs.Prelude.{cond, List, ◌≡◌, ℕ, length}
 use Rattle.std.proofs.Math.Option.{Option, none, some}
-use Rattle.argument_words.specs.Arguments.{means_nothing}
+use Rattle.argument_words.specs.Arguments.{invalid_argument}
 use Rattle.keyboard_sides.specs.declared.Side.{Side}
 use Rattle.keyboard_record.specs.declared.KeyboardHandler.{KeyboardHandler}
 use Rattle.keyboard_record.specs.Taking.{taken}
@@ -27,7 +26,7 @@ pub record RecordHandled (side : Side) (ws script log : List ℕ) (answer : Hand
 
 -- With any numbers: a side that stands for nothing is asked first, then a length of 144.
 abbrev pub HandlesRecord : Option Side → List ℕ → List ℕ → List ℕ → HandledWords → List ℕ → List ℕ → Type 0
-HandlesRecord none ws script log answer ws' log' = Untouched (refusing means_nothing) ws log answer ws' log'
+HandlesRecord none ws script log answer ws' log' = Untouched (refusing invalid_argument) ws log answer ws' log'
 HandlesRecord (some side) ws script log answer ws' log' =
     (length ws ≡ words_length → RecordHandled side ws script log answer ws' log') × ((length ws ≡ words_length → ⊥) → Untouched (refusing 21) ws log answer ws' log')
 

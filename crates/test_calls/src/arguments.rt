@@ -15,7 +15,7 @@ pub fn set_of(number: u32) -> Option<ScancodeSet>
     ScancodeSet::try_from(byte).ok()
 }
 
-// The side of a number.
+/// The side of a number.
 pub fn side_in(number: u32) -> Option<Side>
     ensures { said_found result ≡ side_at number }
 {

@@ -7,7 +7,7 @@ ghost use Rattle.handler_words.specs.Arguments.{side_at};
 ghost use Rattle.test_calls.specs.Records.{HandlesRecord, TakesRecord};
 
 use crate::arguments::side_in;
-use argument_words::MEANS_NOTHING;
+use argument_words::INVALID_ARGUMENT;
 use handler_words::records::{handled_words, put_record, read_record, taken_words};
 use handler_words::{HandledWords, TakenWords, refusing_words};
 use keyboard::{CallAnswer, handle, handle_in_place};
@@ -46,7 +46,7 @@ pub extern "C" fn vdt_handle_by_value(
     ensures { HandlesRecord (side_at side) words.old script.now log.old result words.new log.new }
 {
     let Some(side) = side_in(side) else {
-        return refusing_words(MEANS_NOTHING);
+        return refusing_words(INVALID_ARGUMENT);
     };
     let Some(words) = words.as_mut_array() else {
         return refusing_words(21);
@@ -70,7 +70,7 @@ pub extern "C" fn vdt_handle_in_place(
     ensures { HandlesRecord (side_at side) words.old script.now log.old result words.new log.new }
 {
     let Some(side) = side_in(side) else {
-        return refusing_words(MEANS_NOTHING);
+        return refusing_words(INVALID_ARGUMENT);
     };
     let Some(words) = words.as_mut_array() else {
         return refusing_words(21);

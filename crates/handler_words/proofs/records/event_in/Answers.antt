@@ -1,5 +1,4 @@
 -- `handler_words::records::event_in` meets its contract.
--- Assumes nothing.
 use mathlib.Core.Path.{refl}
 use Rattle.handler_words.specs.Words.{event_at}
 use Rattle.handler_words.proofs.records.event_in.Goals as goal

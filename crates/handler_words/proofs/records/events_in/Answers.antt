@@ -1,5 +1,4 @@
 -- `handler_words::records::events_in` meets its contract.
--- Assumes nothing.
 use native.Mathlib.Omega.{arith}
 use Rattle.handler_words.proofs.WholeRecords.{one_more_read, all_read}
 use Rattle.handler_words.proofs.records.events_in.Goals as goal

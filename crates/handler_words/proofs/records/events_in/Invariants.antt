@@ -1,5 +1,4 @@
 -- `handler_words::records::events_in` meets its contract.
--- Assumes nothing.
 use Rattle.handler_words.proofs.WholeRecords.{Read}
 use Rattle.handler_words.proofs.records.events_in.Given as goal
 

@@ -1,5 +1,4 @@
 -- `handler_words::records::fits_table` meets its contract.
--- Assumes nothing.
 use mathlib.Core.Path.{refl}
 use borrow.Author.Tests.{lt-ltb, le-ltb, eq-eqb, ne_eqb}
 use Rattle.handler_words.specs.Records.{holds_table}

@@ -1,5 +1,4 @@
 -- `handler_words::records::keycode_of` meets its contract.
--- Assumes nothing.
 use mathlib.Core.Path.{refl}
 use Rattle.handler_words.proofs.Events.{found_in}
 use Rattle.handler_words.proofs.WholeRecords.{empty_in}

@@ -1,5 +1,4 @@
 -- `handler_words::records::put_events` meets its contract.
--- Assumes nothing.
 use native.Mathlib.Omega.{arith}
 use Rattle.handler_words.proofs.WholeRecords.{one_more_stored, all_stored}
 use Rattle.handler_words.proofs.records.put_events.Goals as goal

@@ -1,5 +1,4 @@
 -- `handler_words::records::put_events` meets its contract.
--- Assumes nothing.
 use Rattle.handler_words.proofs.WholeRecords.{Stored}
 use Rattle.handler_words.proofs.records.put_events.Given as goal
 

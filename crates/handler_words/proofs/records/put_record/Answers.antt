@@ -1,5 +1,4 @@
 -- `handler_words::records::put_record` meets its contract.
--- Assumes nothing.
 use mathlib.Core.Path.{◌∙◌}
 use mathlib.Core.List.{map}
 use Rattle.handler_words.specs.Words.{word_of}

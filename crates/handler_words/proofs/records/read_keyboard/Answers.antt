@@ -1,5 +1,4 @@
 -- `handler_words::records::read_keyboard` meets its contract.
--- Assumes nothing.
 use mathlib.Core.Path.{refl}
 use native.Mathlib.Omega.{arith}
 use Rattle.handler_words.specs.Words.{keyboard_in}

@@ -1,5 +1,4 @@
 -- `handler_words::records::read_record` meets its contract.
--- Assumes nothing.
 use Rattle.handler_words.proofs.WholeRecords.{first_unfit, table_unfit, second_unfit, record_read}
 use Rattle.handler_words.proofs.records.read_record.Goals as goal
 

@@ -1,5 +1,4 @@
 -- `handler_words::records::read_second` meets its contract.
--- Assumes nothing.
 use mathlib.Core.Path.{refl}
 use native.Mathlib.Omega.{arith}
 use lib.ListN.{get_or}

@@ -1,5 +1,4 @@
 -- `test_calls::records::vdt_handle_by_value` meets its contract.
--- Assumes nothing.
 use Rattle.test_calls.proofs.WholeRecords.{at_side, handles_unfit, handles_fit}
 use Rattle.test_calls.proofs.records.vdt_handle_by_value.Goals as goal
 

@@ -1,5 +1,4 @@
 -- `test_calls::records::vdt_handle_in_place` meets its contract.
--- Assumes nothing.
 use Rattle.test_calls.proofs.WholeRecords.{at_side, handles_unfit, handles_fit}
 use Rattle.test_calls.proofs.records.vdt_handle_in_place.Goals as goal
 

@@ -1,5 +1,4 @@
 -- `test_calls::records::vdt_take_by_value` meets its contract.
--- Assumes nothing.
 use Rattle.test_calls.proofs.WholeRecords.{takes_unfit}
 use Rattle.test_calls.proofs.records.vdt_take_by_value.Goals as goal
 
