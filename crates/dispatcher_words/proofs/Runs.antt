@@ -19,7 +19,7 @@ use Rattle.keyboard_record.specs.Record.{fresh}
 use Rattle.keyboard_record.specs.Taking.{taken}
 use Rattle.keyboard.specs.Handler.{effects}
 use Rattle.keyboard.specs.KeyboardLamps.{keyboard_lamps}
-use Rattle.keyboard_history.specs.Past.{Past, nothing, ◌▸◌}
+use Rattle.theorem_history.specs.Past.{Past, nothing, ◌▸◌}
 use Rattle.handler_words.specs.Layout.{words_length}
 use Rattle.handler_words.specs.Words.{state_of, record_of, words_of}
 use Rattle.handler_words.specs.Calls.{words_left, taken_numbers}
@@ -29,8 +29,8 @@ use Rattle.dispatcher.specs.declared.Source.{Source}
 use Rattle.dispatcher.specs.Sources.{Scripts, scripts, bytes_of}
 use Rattle.dispatcher.specs.Step.{Stepped, with_handler, new_dispatcher, step_of}
 use Rattle.dispatcher.specs.Runs.{Move, stepping, taking, service_of}
-use Rattle.dispatcher_history.specs.Through.{dispatched}
-use Rattle.dispatcher_history.proofs.Through.{keyboard_history_through}
+use Rattle.theorem_dispatcher.specs.Through.{dispatched}
+use Rattle.theorem_dispatcher.proofs.Through.{keyboard_history_through}
 use Rattle.dispatcher_words.specs.Layout.{place_at, dispatcher_length}
 use Rattle.dispatcher_words.specs.Words.{source_number, handler_in, names_all, dispatcher_of, words_of_dispatcher}
 use Rattle.dispatcher_words.specs.Steps.{step_numbers, with_turn, with_call, words_stepped}

@@ -6,7 +6,7 @@ use Rattle.argument_words.specs.Arguments.{identity_at}
 use Rattle.keyboard_record.specs.declared.Table.{Table}
 use Rattle.keyboard_record.specs.Taking.{taken}
 use Rattle.keyboard.specs.KeyboardLamps.{keyboard_lamps}
-use Rattle.keyboard_history.specs.Past.{Past, nothing, ◌▸◌}
+use Rattle.theorem_history.specs.Past.{Past, nothing, ◌▸◌}
 use Rattle.handler_words.specs.declared.TakenWords.{TakenWords}
 use Rattle.handler_words.specs.Layout.{words_length}
 use Rattle.handler_words.specs.Arguments.{table_at}
@@ -15,7 +15,7 @@ use Rattle.dispatcher.specs.declared.Dispatcher.{Dispatcher}
 use Rattle.dispatcher.specs.Sources.{scripts}
 use Rattle.dispatcher.specs.Step.{step_of}
 use Rattle.dispatcher.specs.Runs.{Move, stepping, taking}
-use Rattle.dispatcher_history.specs.Through.{dispatched, HistoryThrough}
+use Rattle.theorem_dispatcher.specs.Through.{dispatched, HistoryThrough}
 use Rattle.dispatcher_words.specs.declared.StepWords.{StepWords}
 use Rattle.dispatcher_words.specs.Layout.{dispatcher_length}
 use Rattle.dispatcher_words.specs.Words.{handler_in, names_all, dispatcher_of}

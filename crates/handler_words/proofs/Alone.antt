@@ -38,7 +38,7 @@ use Rattle.keyboard.specs.Outcomes.{key_effects_of}
 use Rattle.keyboard.proofs.Outcomes.{call_back, no_lamps, key_byte}
 use Rattle.keyboard.proofs.Effects.{formed_call}
 use Rattle.keyboard.proofs.Refused.{malformed_effects, malformed_log}
-use Rattle.keyboard_history.proofs.Meaning.{keycode_number}
+use Rattle.theorem_history.proofs.Meaning.{keycode_number}
 use Rattle.handler_words.specs.declared.HandledWords.{HandledWords}
 use Rattle.handler_words.specs.Layout.{keyboard_from, words_length}
 use Rattle.handler_words.specs.Words.{action_number, word_of, keyboard_in, state_of}

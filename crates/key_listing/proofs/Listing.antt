@@ -26,11 +26,11 @@ use Rattle.keyboard.specs.Scancode.{Took, took, takes}
 use Rattle.keyboard_scancodes.specs.declared.Profile.{Profile}
 use Rattle.keyboard_scancodes.specs.Events.{event_of}
 use Rattle.keyboard_scancodes.specs.Waiting.{waiting_bytes}
-use Rattle.keyboard_history.specs.Past.{Past, nothing, ◌▸◌}
-use Rattle.keyboard_history.specs.Said.{flags_said}
+use Rattle.theorem_history.specs.Past.{Past, nothing, ◌▸◌}
+use Rattle.theorem_history.specs.Said.{flags_said}
 use Rattle.keyboard_record.specs.Taking.{taken}
-use Rattle.keyboard_history.proofs.AsKeyboard.{as_bytes, as_then}
-use Rattle.keyboard_history.proofs.Row.{sided}
+use Rattle.theorem_history.proofs.AsKeyboard.{as_bytes, as_then}
+use Rattle.theorem_history.proofs.Row.{sided}
 use Rattle.key_listing.specs.Text.{ascii, digits, decimal}
 use Rattle.key_listing.specs.Lines.{action_text, character_text, event_line, taken_line, refusal_line}
 use Rattle.key_listing.specs.Listing.{script_limit, table, free_log, at_first, call_on, record_after, bytes_left, calls_text, listing}

@@ -40,13 +40,13 @@ use Rattle.keyboard.proofs.Queued.{Queued, is_unknown, is_met, is_queued, queued
 use Rattle.keyboard.proofs.Ways.{scanned as Ways·scanned, waits_after, lacking, at_silent, at_key}
 use Rattle.keyboard.proofs.Calls.{call_end, CallCourse, malformed, formed, call_course}
 use Rattle.keyboard.proofs.Counted.{answer_end}
-use Rattle.keyboard_history.specs.Past.{Past, nothing, ◌▸◌}
-use Rattle.keyboard_history.specs.Said.{flags_said, event_given}
-use Rattle.keyboard_history.specs.Counted.{count, scancode_after}
-use Rattle.keyboard_history.specs.Row.{less_met, given_to, event_of_call, first, rest}
-use Rattle.keyboard_history.proofs.AsKeyboard.{AsKeyboard, scanned_said}
-use Rattle.keyboard_history.proofs.AsSaid.{As, as_fresh, as_admits, as_taken, as_handled, own_keyboard, other_keyboard}
-use Rattle.keyboard_history.proofs.Row.{sided, given_none, given_one}
+use Rattle.theorem_history.specs.Past.{Past, nothing, ◌▸◌}
+use Rattle.theorem_history.specs.Said.{flags_said, event_given}
+use Rattle.theorem_history.specs.Counted.{count, scancode_after}
+use Rattle.theorem_history.specs.Row.{less_met, given_to, event_of_call, first, rest}
+use Rattle.theorem_history.proofs.AsKeyboard.{AsKeyboard, scanned_said}
+use Rattle.theorem_history.proofs.AsSaid.{As, as_fresh, as_admits, as_taken, as_handled, own_keyboard, other_keyboard}
+use Rattle.theorem_history.proofs.Row.{sided, given_none, given_one}
 use Rattle.key_listing.specs.Listing.{table, free_log, at_first, call_on, record_after}
 use Rattle.key_listing.specs.Listed.{waits_then, cut_short}
 use Rattle.key_listing.proofs.Used.{same_took}

@@ -13,9 +13,9 @@ use Rattle.keyboard_sides.specs.declared.Side.{Side}
 use Rattle.keyboard.specs.Rules.{rules_at}
 use Rattle.keyboard.specs.KeyboardLamps.{keyboard_lamps}
 use Rattle.keyboard.specs.Scancode.{Took, takes, ran_out}
-use Rattle.keyboard_history.specs.Past.{Past, ◌▸◌}
-use Rattle.keyboard_history.specs.Said.{flags_said}
-use Rattle.keyboard_history.specs.Counted.{waiting_after}
+use Rattle.theorem_history.specs.Past.{Past, ◌▸◌}
+use Rattle.theorem_history.specs.Said.{flags_said}
+use Rattle.theorem_history.specs.Counted.{waiting_after}
 use Rattle.key_listing.specs.Lines.{event_line, refusal_line}
 use Rattle.key_listing.specs.Listing.{table, free_log}
 

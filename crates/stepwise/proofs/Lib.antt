@@ -1,4 +1,0 @@
--- A session makes its operation's path.
-pub mod Operations
-pub mod Paths
-pub mod Stepwise

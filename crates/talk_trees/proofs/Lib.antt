@@ -1,7 +1,0 @@
--- Each operation's talk is the tree of its definition.
-pub mod Trees
-pub mod Waits
-pub mod Keyboard
-pub mod Mouse
-pub mod Controller
-pub mod Application

@@ -1,1 +1,0 @@
--- Each operation's talk is the tree of its definition: proofs/ says which.

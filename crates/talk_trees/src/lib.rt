@@ -1,2 +1,0 @@
-// Each operation's talk is the tree of its definition. No code.
-#![tactic(auto)]
