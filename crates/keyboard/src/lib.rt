@@ -28,11 +28,8 @@ use keyboard_sides::Side;
 use keycodes_ascii::{KEY_RELEASED_OFFSET, KeyAction, KeyEvent, Keycode};
 use ps2_answers::{Answer, Counted, Lack, ReadPort, Refusal};
 use ps2_kept::{KEPT_LIMIT, KeptBytes, none_kept};
-use ps2_keyboard::{read_scancode, set_port_led_at_once, set_port_led_onto};
+use ps2_keyboard::{read_scancode, set_port_led_acknowledged, set_port_led_onto};
 use ps2_ports::DevicePort;
-
-// The script bytes of a lamp exchange in which both bytes are acknowledged at once: for each two status reads and FA.
-const AT_ONCE: usize = 6;
 
 /// How a handler call ends that isn't done: for lack of a byte or room, or refused with unknown
 /// scancode (19), queue full (20), malformed record (21), side full (31) or outside profile (33).
@@ -264,8 +261,10 @@ fn lock_pressed(
     ensures { PlaysOn keyboard.old kept (λ waiting. on_key (port_rules Profile.Any port) waiting scan_code modifiers.bits) script.now log.old (said_key_effect result keyboard.new) log.new }
 {
     let lamps = leds(modifiers);
-    if let Some(pairs) = set_port_led_at_once(script, log, port, lamps) {
-        return after_lamps(keyboard, kept, scan_code, modifiers, false, AT_ONCE, pairs);
+    if let Some(done) = set_port_led_acknowledged(script, log, port, lamps) {
+        return after_lamps(
+            keyboard, kept, scan_code, modifiers, false, done.used, done.pairs,
+        );
     }
     let lit = set_port_led_onto(script, log, port, lamps, kept);
     match lit.answer {

@@ -7,5 +7,5 @@ pub mod Reset
 pub mod Runs
 pub mod Attempts
 pub mod Replaced
-pub mod AtOnce
+pub mod Accepted
 pub mod Worked

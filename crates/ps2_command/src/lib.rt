@@ -1,7 +1,7 @@
 // The command rule: a byte is sent to a device up to four times, until its response settles the matter. And what a reset waits for.
 #![tactic(auto)]
 
-ghost use Rattle.std.specs.Prelude.{Some, None, ◌≡◌, ◌/◌, ◌<◌, ◌≤◌, ◌++◌, length, drop};
+ghost use Rattle.std.specs.Prelude.{ℕ, Some, None, ◌≡◌, ◌/◌, ◌<◌, ◌≤◌, ◌++◌, length, drop};
 ghost use Rattle.exchange.specs.Exchange.{told_end, played, play};
 ghost use Rattle.exchange.specs.Answer.{and_then, renumbered};
 ghost use Rattle.exchange.specs.Keeping.{kept_end};
@@ -11,7 +11,8 @@ ghost use Rattle.ps2_kept.specs.Kept.{keeping_thrown};
 ghost use Rattle.ps2_kept.specs.Added.{keeping_onto};
 ghost use Rattle.ps2_kept.specs.Promises.{told_kept, PlaysKeptTold};
 ghost use Rattle.ps2_command.specs.Command.{command as command_rule, command_to_port2, command_by, attempt as attempt_rule, accepted, said_verdict, verdict as verdict_rule};
-ghost use Rattle.ps2_command.specs.AtOnce.{at_once, TwoWritten, TwoAtOnce};
+ghost use Rattle.ps2_polling.specs.Polling.{poll_limit};
+ghost use Rattle.ps2_command.specs.Answering.{heard_within, acknowledged, TwoWritten, TwoAcknowledged};
 ghost use Rattle.ps2_command.specs.Replaced.{replaced_by};
 ghost use Rattle.ps2_command.specs.Search.{self_test_within};
 
@@ -19,7 +20,7 @@ use ps2_answers::{Answer, Counted, Failure, Refusal};
 use ps2_bytes::{DeviceToHostResponse, HostToControllerCommand, HostToDevice};
 use ps2_kept::{Handed, KeptBytes, none_kept};
 use ps2_layouts::ControllerToHostStatus;
-use ps2_polling::{Waiting, polling_send_receive, read_test_result};
+use ps2_polling::{POLL_LIMIT, Waiting, polling_send_receive, read_test_result};
 use ps2_ports::{DevicePort, PS2_COMMAND_AND_STATUS_PORT, PS2_DATA_PORT, write_command};
 
 // The attempts that a command has.
@@ -156,14 +157,36 @@ pub fn command_pair_onto(
     }
 }
 
-// Whether a script begins with a device's acknowledgement at once: the first status lets a byte be sent, and the first poll brings FA.
-fn acknowledges_at_once(script: &[u8]) -> bool
-    ensures { result ≡ at_once script.now }
+// The bytes of polls that find nothing, and of the one after them that brings FA. `None` where it brings another byte, or none of
+// them brings one.
+fn heard(script: &[u8]) -> Option<usize>
+    ensures is { result ≡ heard_within poll_limit script.now }
+    ensures within { (used : ℕ) → result ≡ Some used → used ≤ length script.now }
 {
-    script.len() >= 3
-        && !ControllerToHostStatus::from(script[0]).input_buffer_full()
-        && ControllerToHostStatus::from(script[1]).output_buffer_full()
-        && script[2] == ACKNOWLEDGE
+    let polls = script.len().saturating_sub(1).min(POLL_LIMIT as usize);
+    for silent in 0..polls {
+        if ControllerToHostStatus::from(script[silent]).output_buffer_full() {
+            return if script[silent + 1] == ACKNOWLEDGE {
+                Some(silent + 2)
+            } else {
+                None
+            };
+        }
+    }
+    None
+}
+
+// The script bytes of a command that a device acknowledges before it sends any other byte, where the first status lets it be sent.
+// `None` for any other.
+fn acknowledged(script: &[u8]) -> Option<usize>
+    ensures is { result ≡ acknowledged script.now }
+    ensures within { (used : ℕ) → result ≡ Some used → used ≤ length script.now }
+{
+    let (&sent, polls) = script.split_first()?;
+    if ControllerToHostStatus::from(sent).input_buffer_full() {
+        return None;
+    }
+    Some(1 + heard(polls)?)
 }
 
 // Puts these pairs at the start of the log where it has room for all of them, and tells how many they are.
@@ -194,25 +217,26 @@ fn two_to(port: DevicePort, log: &mut [u8], first: u8, second: u8) -> Option<usi
     }
 }
 
-/// Two commands to a device that acknowledges both at once, and so throws nothing away: the pairs
-/// that they write. For any other device, and for a log without room, nothing is done, and the
-/// answer is `None`.
-pub fn command_pair_at_once(
+/// Two commands to a device that acknowledges both before it sends any other byte, so that nothing
+/// is thrown away: the bytes used and the pairs written. For any other device, and for a log without
+/// room, nothing is done, and the answer is `None`.
+pub fn command_pair_acknowledged(
     script: &[u8],
     log: &mut [u8],
     port: DevicePort,
     first: HostToDevice,
     second: HostToDevice,
-) -> Option<usize>
-    ensures { TwoAtOnce port (and_then (command_by port first) (λ _. command_by port second)) script.now log.old result log.new }
+) -> Option<Counted<()>>
+    ensures { TwoAcknowledged port (and_then (command_by port first) (λ _. command_by port second)) script.now log.old result log.new }
 {
-    if !acknowledges_at_once(script) {
-        return None;
-    }
-    if !acknowledges_at_once(&script[3..]) {
-        return None;
-    }
-    two_to(port, log, u8::from(first), u8::from(second))
+    let once = acknowledged(script)?;
+    let twice = acknowledged(&script[once..])?;
+    let pairs = two_to(port, log, u8::from(first), u8::from(second))?;
+    Some(Counted {
+        value: (),
+        used: once + twice,
+        pairs,
+    })
 }
 
 /// A command to the device of either port, with no byte kept before it.

@@ -7,14 +7,14 @@ ghost use Rattle.ps2_answers.specs.Answers.{told, ReadsTold};
 ghost use Rattle.ps2_kept.specs.Kept.{keeping_thrown};
 ghost use Rattle.ps2_kept.specs.Added.{keeping_onto};
 ghost use Rattle.ps2_kept.specs.Promises.{PlaysKeptTold};
-ghost use Rattle.ps2_command.specs.AtOnce.{TwoAtOnce};
+ghost use Rattle.ps2_command.specs.Answering.{TwoAcknowledged};
 ghost use Rattle.ps2_keyboard.specs.Keyboard.{command_to_keyboard, reset_keyboard, set_keyboard_led, set_port_led, command_scancode_set, get_scancode_set, set_scancode_set, read_scancode, keyboard_output_buffer_full};
 ghost use Rattle.ps2_keyboard.specs.Parts.{set_search};
 
 use ps2_answers::{Answer, Counted, Failure, Refusal};
 use ps2_bytes::{HostToDevice, HostToKeyboardCommand, HostToKeyboardCommandOrData, ScancodeSet};
 use ps2_command::{
-    Commanded, command_by, command_pair, command_pair_at_once, command_pair_onto, failing_as,
+    Commanded, command_by, command_pair, command_pair_acknowledged, command_pair_onto, failing_as,
     read_self_test_result,
 };
 use ps2_kept::{KeptBytes, none_kept};
@@ -62,6 +62,12 @@ pub fn reset_keyboard(script: &[u8], log: &mut [u8]) -> Answer<()>
 pub fn set_keyboard_led(script: &[u8], log: &mut [u8], value: LEDState) -> Commanded
     ensures { PlaysKeptTold (keeping_thrown (set_keyboard_led value)) script.now log.old result.answer log.new result.kept }
 {
+    if let Some(done) = set_port_led_acknowledged(script, log, DevicePort::Port1, value) {
+        return Commanded {
+            answer: Ok(done),
+            kept: none_kept(),
+        };
+    }
     set_port_led_onto(script, log, DevicePort::Port1, value, none_kept())
 }
 
@@ -91,17 +97,18 @@ pub fn set_port_led_onto(
     }
 }
 
-/// The same where the keyboard acknowledges both bytes at once: the pairs written, and `None` where
-/// it doesn't, or where the log has no room, and nothing is done.
-pub fn set_port_led_at_once(
+/// The same where the keyboard acknowledges both bytes before it sends any other: the bytes used and
+/// the pairs written. Where it doesn't, or the log has no room, nothing is done, and the answer is
+/// `None`.
+pub fn set_port_led_acknowledged(
     script: &[u8],
     log: &mut [u8],
     port: DevicePort,
     value: LEDState,
-) -> Option<usize>
-    ensures { TwoAtOnce port (set_port_led port value) script.now log.old result log.new }
+) -> Option<Counted<()>>
+    ensures { TwoAcknowledged port (set_port_led port value) script.now log.old result log.new }
 {
-    command_pair_at_once(
+    command_pair_acknowledged(
         script,
         log,
         port,

@@ -9,7 +9,7 @@ use Rattle.keyboard.proofs.Outcomes.{gives_back, lamps_answer, lamps_lack}
 use Rattle.keyboard.proofs.lock_pressed.Goals as goal
 use Rattle.keyboard.proofs.lock_pressed.Goals.{After-set_port_led_onto-lit}
 
--- both bytes were acknowledged at once
+-- both bytes were acknowledged before any other came
 pub returns-in-Some : goal.returns-in-Some
 returns-in-Some c =
     let a = c.args in
@@ -17,15 +17,15 @@ returns-in-Some c =
       at = λ rest is few.
           gives_back a.keyboard.now _ _ _
           (lamps_answer (port_rules Profile.Any a.port) a.keyboard.now a.scan_code a.modifiers.bits rest _ _ c.requires c.leds-lamps.ensures
-          (lamps_within a.port _) (omega (arith, few)) is (c.set_port_led_at_once.ensures.plays _ c.in-Some.is a.kept)
+          (lamps_within a.port _) (omega (arith, few)) is (c.set_port_led_acknowledged.ensures.plays _ c.in-Some.is a.kept)
           refl)
           c.after_lamps.ensures;
     }
 
 -- otherwise the log is as it was
 module _ (c : After-set_port_led_onto-lit) where
-  unlit : c.set_port_led_at_once.new.log ≡ c.args.log.now
-  unlit = c.set_port_led_at_once.ensures.undone c.in_default.is
+  unlit : c.set_port_led_acknowledged.new.log ≡ c.args.log.now
+  unlit = c.set_port_led_acknowledged.ensures.undone c.in_default.is
 
 pub returns-in-Ok : goal.returns-in-Ok
 returns-in-Ok c =
