@@ -102,6 +102,12 @@ opened (x ∷ []) i m h = absurd (omega (arith, h))
 opened (x ∷ y ∷ s) zero m h = refl
 opened (x ∷ y ∷ s) (suc i) m h = opened (y ∷ s) i m (omega (arith, h))
 
+-- the first one brings FA
+pub first_heard : (s : List ℕ) → 2 ≤ length s → bit output_buffer_full (get_or s 0 0) ≡ true → eqb (get_or s 1 0) 0xFA ≡ true → heard_within poll_limit s ≡ Some 2
+first_heard s h q e =
+    let z : poll_limit ≡ suc 65534 = omega arith in
+    ap (λ n. heard_within n s) z ∙ (opened s 0 65534 (omega (arith, h)) ∙ rw (q, e))
+
 -- none is left, or no byte for one
 none_left : (n : ℕ) (l : List ℕ) → n ≤ 0 → heard_within n l ≡ None
 unfolding heard_within

@@ -1,7 +1,7 @@
 // The command rule: a byte is sent to a device up to four times, until its response settles the matter. And what a reset waits for.
 #![tactic(auto)]
 
-ghost use Rattle.std.specs.Prelude.{ℕ, Some, None, ◌≡◌, ◌/◌, ◌<◌, ◌≤◌, ◌++◌, length, drop};
+ghost use Rattle.std.specs.Prelude.{ℕ, true, Some, None, ◌≡◌, ◌/◌, ◌<◌, ◌≤◌, ◌++◌, length, drop};
 ghost use Rattle.exchange.specs.Exchange.{told_end, played, play};
 ghost use Rattle.exchange.specs.Answer.{and_then, renumbered};
 ghost use Rattle.exchange.specs.Keeping.{kept_end};
@@ -176,6 +176,20 @@ fn heard(script: &[u8]) -> Option<usize>
     None
 }
 
+// Whether the first poll brings FA, as it mostly does.
+fn heard_at_first(script: &[u8]) -> bool
+    ensures is { result ≡ true → heard_within poll_limit script.now ≡ Some 2 }
+    ensures long { result ≡ true → 2 ≤ length script.now }
+{
+    if script.len() < 2 {
+        return false;
+    }
+    if ControllerToHostStatus::from(script[0]).output_buffer_full() {
+        return script[1] == ACKNOWLEDGE;
+    }
+    false
+}
+
 // The script bytes of a command that a device acknowledges before it sends any other byte, where the first status lets it be sent.
 // `None` for any other.
 fn acknowledged(script: &[u8]) -> Option<usize>
@@ -185,6 +199,9 @@ fn acknowledged(script: &[u8]) -> Option<usize>
     let (&sent, polls) = script.split_first()?;
     if ControllerToHostStatus::from(sent).input_buffer_full() {
         return None;
+    }
+    if heard_at_first(polls) {
+        return Some(3);
     }
     Some(1 + heard(polls)?)
 }
