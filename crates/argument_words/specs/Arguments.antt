@@ -6,7 +6,8 @@ use Rattle.bits.specs.Table.{decode}
 use Rattle.ps2_bytes.specs.Responses.{mouse_ids}
 use Rattle.ps2_bytes.specs.declared.response.MouseId.{MouseId}
 
--- What is answered where an argument stands for nothing: a number that no refusal of an operation has.
+-- What is answered where an argument stands for nothing: a
+-- number that no refusal of an operation has.
 abbrev pub invalid_argument : ℕ
 invalid_argument = 255
 

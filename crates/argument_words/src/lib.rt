@@ -1,4 +1,5 @@
-// Numbers that are passed for what a program in another language has no type for: what each stands for, if anything.
+// Numbers that are passed for what a program in another
+// language has no type for: what each stands for, if anything.
 #![tactic(auto, unfolding(bits::specs::Table::decode))]
 
 ghost use Rattle.std.specs.Prelude.{◌≡◌};

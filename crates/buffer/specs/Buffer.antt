@@ -1,7 +1,8 @@
 -- A text that is put into a buffer, as much of it as there is room for.
 use Rattle.std.specs.Prelude.{cond, List, [], ◌∷◌, ◌++◌, ◌≡◌, ℕ, ◌+◌, ltb, length, set, take, drop}
 
--- A text was put at the start of a buffer: as many of its bytes as there was room for, which are counted; behind them the buffer is as it was.
+-- A text was put at the start of a buffer: as many of its bytes as there was room for, which are
+-- counted; behind them the buffer is as it was.
 pub record Holds (text buffer : List ℕ) (count : ℕ) (after : List ℕ) : Type 0 where
   pub counted : count ≡ length (take (length buffer) text)
   pub bytes : after ≡ take (length buffer) text ++ drop count buffer

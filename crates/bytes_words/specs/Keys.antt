@@ -19,7 +19,8 @@ flags_at n = cond (ltb n flags_limit) (Some (record { bits = n })) None
 
 -- A press is 0, a release 1.
 abbrev pub action_at : ℕ → Option KeyAction
-action_at n = cond (eqb n 0) (Some KeyAction.Pressed) (cond (eqb n 1) (Some KeyAction.Released) None)
+action_at n =
+    cond (eqb n 0) (Some KeyAction.Pressed) (cond (eqb n 1) (Some KeyAction.Released) None)
 
 -- ---- answers
 

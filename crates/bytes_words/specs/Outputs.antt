@@ -20,7 +20,8 @@ abbrev pub converted_words : convert.Outcome → ConvertedWords
 converted_words o = record { refusal = number_answered o.end; used = o.used; written = o.count }
 
 -- A stream converted into an output: the answer, and every byte of the output.
-pub record StreamConverted (stream out : List ℕ) (answer : ConvertedWords) (out' : List ℕ) : Type 0 where
+pub record StreamConverted (stream out : List ℕ) (answer : ConvertedWords) (out' : List ℕ)
+    : Type 0 where
   pub answered : answer ≡ converted_words (converted stream out)
   pub output : out' ≡ (converted stream out).output
 
@@ -38,18 +39,28 @@ pub record TextTyped (text out : List ℕ) (answer : WrittenWords) (out' : List 
 
 abbrev pub salvaged_words : salvage.Outcome → SalvagedWords
 salvaged_words o =
-    record { refusal = answer_number o.answer; used = o.used; packet_bytes = length o.packets; dropped = length o.positions }
+    record {
+      refusal = answer_number o.answer;
+      used = o.used;
+      packet_bytes = length o.packets;
+      dropped = length o.positions;
+    }
 
 abbrev pub no_identity : SalvagedWords
 no_identity = record { refusal = invalid_argument; used = 0; packet_bytes = 0; dropped = 0 }
 
--- A recording salvaged into two outputs; where the identity stands for nothing they stay as they were.
-pub record PassMade (o : salvage.Outcome) (packets positions : List ℕ) (answer : SalvagedWords) (packets' positions' : List ℕ) : Type 0 where
+-- A recording salvaged into two outputs; where the identity
+-- stands for nothing they stay as they were.
+pub record PassMade (o : salvage.Outcome) (packets positions : List ℕ) (answer : SalvagedWords)
+    (packets' positions' : List ℕ) : Type 0 where
   pub answered : answer ≡ salvaged_words o
   pub packets_left : packets' ≡ over o.packets packets
   pub positions_left : positions' ≡ over o.positions positions
 
-abbrev pub RecordingSalvaged : Option MouseId → (bytes packets positions : List ℕ) → SalvagedWords → (packets' positions' : List ℕ) → Type 0
+abbrev pub RecordingSalvaged : Option MouseId → (bytes packets positions : List ℕ) → SalvagedWords
+    → (packets' positions' : List ℕ) → Type 0
 RecordingSalvaged (some id) bytes packets positions answer packets' positions' =
-    PassMade (salvaged id (length packets) (length positions) bytes) packets positions answer packets' positions'
-RecordingSalvaged none bytes packets positions answer packets' positions' = (answer ≡ no_identity) × (packets' ≡ packets) × (positions' ≡ positions)
+    PassMade (salvaged id (length packets) (length positions) bytes) packets positions answer
+    packets' positions'
+RecordingSalvaged none bytes packets positions answer packets' positions' =
+    (answer ≡ no_identity) × (packets' ≡ packets) × (positions' ≡ positions)

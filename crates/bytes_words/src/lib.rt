@@ -1,4 +1,5 @@
-// The operations on bytes as a program in another language calls them: numbers in, answers as numbers, outputs lent and written where they lie.
+// The operations on bytes as a program in another language calls them: numbers in, answers as
+// numbers, outputs lent and written where they lie.
 #![tactic(auto)]
 
 ghost use Rattle.std.specs.Prelude.{◌≡◌};
@@ -157,7 +158,8 @@ pub fn salvage(
     packets: &mut [u8],
     positions: &mut [u64],
 ) -> SalvagedWords
-    ensures { RecordingSalvaged (identity_at identity) bytes.now packets.old positions.old result packets.new positions.new }
+    ensures { RecordingSalvaged (identity_at identity) bytes.now packets.old positions.old result
+        packets.new positions.new }
 {
     match identity_of(identity) {
         Some(id) => {

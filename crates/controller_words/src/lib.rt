@@ -1,4 +1,5 @@
-// The controller's initialisation by numbers: its record and the answer are numbers that cross to C.
+// The controller's initialisation by numbers: its record
+// and the answer are numbers that cross to C.
 #![tactic(auto)]
 
 ghost use Rattle.std.specs.Prelude.{not, ◌≡◌, eqb};
@@ -70,11 +71,12 @@ impl From<PS2Controller> for ControllerWords {
     }
 }
 
-// The answer of an initialisation that began with these numbers. Where it is refused, they come back
-// as they were lent.
+// The answer of an initialisation that began with these numbers.
+// Where it is refused, they come back as they were lent.
 #[tactic(auto, using(crate::proofs::Controller::refused_left))]
 fn initialized_words(initialized: Initialized, passed: ControllerWords) -> InitializedWords
-    ensures { result ≡ told_init passed (said_init initialized.answer initialized.controller) (used_of initialized.answer) (pairs_of initialized.answer) }
+    ensures { result ≡ told_init passed (said_init initialized.answer initialized.controller)
+        (used_of initialized.answer) (pairs_of initialized.answer) }
 {
     let told = answer_words(initialized.answer);
     InitializedWords {
@@ -96,7 +98,8 @@ pub fn controller_init(
     script: &[u8],
     log: &mut [u8],
 ) -> InitializedWords
-    ensures { Tells (told_init controller) (initialize (controller_of controller)) script.now log.old result log.new }
+    ensures { Tells (told_init controller) (initialize (controller_of controller)) script.now
+        log.old result log.new }
 {
     initialized_words(
         init(PS2Controller::from(controller), script, log),

@@ -1,4 +1,5 @@
-// A dispatcher: each step serves one of three sources, two keyboards and a mouse on a controller of its own, with one handler call or one packet.
+// A dispatcher: each step serves one of three sources, two keyboards and a mouse on a controller of
+// its own, with one handler call or one packet.
 #![tactic(auto)]
 
 ghost use Rattle.std.specs.Prelude.{List, ◌≡◌, ℕ, ◌≤◌, length};
@@ -215,9 +216,11 @@ impl Dispatcher {
         Dispatcher { handler, ..self }
     }
 
-    // A source was served, up to this place in its script: its turn is over, whatever the call answered.
+    // A source was served, up to this place in its script:
+    // its turn is over, whatever the call answered.
     fn end_turn(&mut self, source: Source, place: usize)
-        ensures { self.new ≡ turn_over source (with_place source place self.old.places) self.old.handler self.old }
+        ensures { self.new ≡ turn_over source (with_place source place self.old.places)
+            self.old.handler self.old }
     {
         self.last = Some(source);
         self.places = self.places.with_place(source, place);
@@ -225,7 +228,8 @@ impl Dispatcher {
 
     // A side's turn: one handler call on its unused bytes. A refused call uses the turn too.
     fn serve_keyboard(&mut self, side: Side, script: &[u8], log: &mut [u8]) -> StepAnswer
-        ensures { said_step_in_place result self.new log.new ≡ serve_keyboard keyboard_lamps side self.old script.now log.old }
+        ensures { said_step_in_place result self.new log.new
+            ≡ serve_keyboard keyboard_lamps side self.old script.now log.old }
     {
         let source = Source::Keyboard(side);
         let place = self.places.at(source);
@@ -245,7 +249,8 @@ impl Dispatcher {
 
     // The mouse's turn: one packet of its unread bytes.
     fn serve_mouse(&mut self, script: &[u8]) -> StepAnswer
-        ensures { (log : List ℕ) → said_step_in_place result self.new log ≡ serve_mouse self.old script.now log }
+        ensures { (log : List ℕ) → said_step_in_place result self.new log
+            ≡ serve_mouse self.old script.now log }
     {
         let place = self.places.mouse;
         let read = read_signed_packet(self.mouse.id, &script[start(place, script)..]);
@@ -260,7 +265,8 @@ impl Dispatcher {
 
     /// Which sources wait.
     pub fn waits(&self, first: &[u8], second: &[u8], mouse: &[u8]) -> Waits
-        ensures { (source : Source) → wait_in result source ≡ waits_now self.now (scripts first.now second.now mouse.now) source }
+        ensures { (source : Source) → wait_in result source
+            ≡ waits_now self.now (scripts first.now second.now mouse.now) source }
     {
         Waits {
             first: keyboard_waits(
@@ -286,7 +292,8 @@ impl Dispatcher {
         mouse: &[u8],
         log: &mut [u8],
     ) -> StepAnswer
-        ensures { said_step_in_place result self.new log.new ≡ step_of keyboard_lamps self.old (scripts first.now second.now mouse.now) log.old }
+        ensures { said_step_in_place result self.new log.new
+            ≡ step_of keyboard_lamps self.old (scripts first.now second.now mouse.now) log.old }
     {
         match self.waits(first, second, mouse).serves(self.last) {
             Some(Source::Keyboard(Side::First)) => self.serve_keyboard(Side::First, first, log),
@@ -302,7 +309,8 @@ impl Dispatcher {
 
     /// The same by value.
     pub fn step(mut self, first: &[u8], second: &[u8], mouse: &[u8], log: &mut [u8]) -> Dispatched
-        ensures { said_step result log.new ≡ step_of keyboard_lamps self (scripts first.now second.now mouse.now) log.old }
+        ensures { said_step result log.new
+            ≡ step_of keyboard_lamps self (scripts first.now second.now mouse.now) log.old }
     {
         let done = self.step_in_place(first, second, mouse, log);
         Dispatched {

@@ -11,7 +11,8 @@ use Rattle.dispatcher.specs.Step.{new_dispatcher}
 use Rattle.dispatcher_words.specs.Layout.{dispatcher_length}
 use Rattle.dispatcher_words.specs.Words.{dispatcher_of, words_of_dispatcher}
 
--- The dispatcher that has served nobody, with a fresh record for a table and a mouse of an identity; none where either argument stands for nothing.
+-- The dispatcher that has served nobody, with a fresh record for a table and a mouse of an
+-- identity; none where either argument stands for nothing.
 abbrev pub fresh_at : Option MouseId → Option Table → Option Dispatcher
 fresh_at none table = none
 fresh_at (some id) none = none
@@ -21,7 +22,10 @@ fresh_at (some id) (some table) = some (new_dispatcher (fresh table) (record { i
 abbrev pub AtFresh : Option Dispatcher → List ℕ → ℕ → List ℕ → Type 0
 AtFresh none ws answer ws' = (answer ≡ invalid_argument) × (ws' ≡ ws)
 AtFresh (some d) ws answer ws' =
-    (length ws ≡ dispatcher_length → (answer ≡ 0) × (ws' ≡ words_of_dispatcher d) × (dispatcher_of ws' ≡ d)) × ((length ws ≡ dispatcher_length → ⊥) → (answer ≡ 21) × (ws' ≡ ws))
+    (length ws ≡ dispatcher_length
+    → (answer ≡ 0) × (ws' ≡ words_of_dispatcher d) × (dispatcher_of ws' ≡ d))
+    × ((length ws ≡ dispatcher_length → ⊥) → (answer ≡ 21) × (ws' ≡ ws))
 
-pub record MadeFresh (ws : List ℕ) (keyboards profile identity answer : ℕ) (ws' : List ℕ) : Type 0 where
+pub record MadeFresh (ws : List ℕ) (keyboards profile identity answer : ℕ) (ws' : List ℕ)
+    : Type 0 where
   pub is : AtFresh (fresh_at (identity_at identity) (table_at keyboards profile)) ws answer ws'

@@ -4,7 +4,8 @@ use Rattle.handler_words.specs.Layout.{words_length}
 use Rattle.keyboard_sides.specs.declared.Side.{Side}
 use Rattle.dispatcher.specs.declared.Source.{Source}
 
--- The handler's record comes first, so that a taking from the queue is one from these numbers. Then the mouse's identity.
+-- The handler's record comes first, so that a taking from the
+-- queue is one from these numbers. Then the mouse's identity.
 abbrev pub mouse_at : ℕ
 mouse_at = words_length
 

@@ -11,7 +11,8 @@ use Rattle.dispatcher_words.specs.declared.StepWords.{StepWords}
 use Rattle.dispatcher_words.specs.Words.{place_in, dispatcher_of}
 use Rattle.dispatcher_words.specs.Steps.{with_turn, with_call, Made}
 
--- What stands behind the handler's record where nobody was served yet: the mouse's identity, and the starts of the scripts.
+-- What stands behind the handler's record where nobody was served yet: the mouse's identity, and
+-- the starts of the scripts.
 abbrev pub unserved : MouseId → List ℕ
 unserved id = mouse_id_byte id ∷ 0 ∷ 0 ∷ 0 ∷ 0 ∷ []
 
@@ -20,7 +21,8 @@ abbrev pub SideServed : Side → List ℕ → List ℕ → List ℕ → StepWord
 SideServed side ws script log answer ws' log' =
     let source = Source.Keyboard side in
     let x = serve_keyboard keyboard_lamps side (dispatcher_of ws) script log in
-    Made x (with_turn source (place_of source x.state.places) (with_call side (unused (place_in source ws) script) log ws)) answer ws' log'
+    Made x (with_turn source (place_of source x.state.places)
+    (with_call side (unused (place_in source ws) script) log ws)) answer ws' log'
 
 -- The mouse's turn.
 abbrev pub MouseServed : List ℕ → List ℕ → List ℕ → StepWords → List ℕ → List ℕ → Type 0

@@ -22,25 +22,38 @@ use Rattle.dispatcher_words.specs.Words.{handler_in, names_all, dispatcher_of}
 use Rattle.dispatcher_words.specs.Steps.{step_numbers, StepMade}
 use Rattle.dispatcher_words.specs.Fresh.{MadeFresh}
 
--- From fresh numbers for a table and a mouse's identity, these steps and takings leave these numbers, as the calls' promises have it. A taking is one from the handler's numbers, which are lent by themselves.
+-- From fresh numbers for a table and a mouse's identity, these steps and
+-- takings leave these numbers, as the calls' promises have it. A taking
+-- is one from the handler's numbers, which are lent by themselves.
 pub data Ran (table : Table) (id : MouseId) : Past Move → List ℕ → Type 0 where
-  begun : {ws ws' : List ℕ} {answer : ℕ} (keyboards profile identity : ℕ) → table_at keyboards profile ≡ some table → identity_at identity ≡ some id → length ws ≡ dispatcher_length
+  begun : {ws ws' : List ℕ} {answer : ℕ} (keyboards profile identity : ℕ)
+      → table_at keyboards profile ≡ some table → identity_at identity ≡ some id → length ws
+      ≡ dispatcher_length
       → MadeFresh ws keyboards profile identity answer ws' → Ran table id nothing ws'
-  steps : {moves : Past Move} {ws ws' log' : List ℕ} {answer : StepWords} {first second third log : List ℕ} → Ran table id moves ws
-      → StepMade ws first second third log answer ws' log' → Ran table id (moves ▸ stepping (scripts first second third) log) ws'
-  takes : {moves : Past Move} {ws us : List ℕ} {answer : TakenWords} → Ran table id moves ws → WordsTaken (handler_in ws) answer us
+  steps : {moves : Past Move} {ws ws' log' : List ℕ} {answer : StepWords}
+      {first second third log : List ℕ} → Ran table id moves ws
+      → StepMade ws first second third log answer ws' log'
+      → Ran table id (moves ▸ stepping (scripts first second third) log) ws'
+  takes : {moves : Past Move} {ws us : List ℕ} {answer : TakenWords} → Ran table id moves ws
+      → WordsTaken (handler_in ws) answer us
       → Ran table id (moves ▸ taking) (us ++ drop words_length ws)
 
 -- The dispatcher after these steps and takings by value.
 abbrev pub by_value : Table → MouseId → Past Move → Dispatcher
 by_value table id moves = dispatched table keyboard_lamps (record { id = id }) moves
 
--- What holds after them: the numbers stand for the dispatcher after this list of steps and takings, through which the history rule holds, and the answer of the next step or taking is the by-value one's on it.
-pub record AsDispatched (table : Table) (id : MouseId) (moves : Past Move) (ws : List ℕ) : Type 0 where
+-- What holds after them: the numbers stand for the dispatcher after this
+-- list of steps and takings, through which the history rule holds, and
+-- the answer of the next step or taking is the by-value one's on it.
+pub record AsDispatched (table : Table) (id : MouseId) (moves : Past Move) (ws : List ℕ)
+    : Type 0 where
   pub long : length ws ≡ dispatcher_length
   pub named : names_all ws ≡ true
   pub stands : dispatcher_of ws ≡ by_value table id moves
   pub follows : HistoryThrough table keyboard_lamps (record { id = id }) moves
-  pub answers : (first second third log : List ℕ) (answer : StepWords) (ws' log' : List ℕ) → StepMade ws first second third log answer ws' log'
-      → answer ≡ step_numbers (step_of keyboard_lamps (by_value table id moves) (scripts first second third) log).answer
-  pub takings : (answer : TakenWords) (us : List ℕ) → WordsTaken (handler_in ws) answer us → answer ≡ taken_numbers (taken (by_value table id moves).handler).answer
+  pub answers : (first second third log : List ℕ) (answer : StepWords) (ws' log' : List ℕ)
+      → StepMade ws first second third log answer ws' log'
+      → answer ≡ step_numbers (step_of keyboard_lamps (by_value table id moves)
+      (scripts first second third) log).answer
+  pub takings : (answer : TakenWords) (us : List ℕ) → WordsTaken (handler_in ws) answer us → answer
+      ≡ taken_numbers (taken (by_value table id moves).handler).answer

@@ -1,4 +1,5 @@
--- The dispatcher as 149 numbers of 64 bits: the state that they stand for, and the numbers of a state.
+-- The dispatcher as 149 numbers of 64 bits: the state that
+-- they stand for, and the numbers of a state.
 use Rattle.std.specs.Prelude.{Bool, cond, ◌&&◌, ◌||◌, List, [], ◌∷◌, ◌++◌, ◌≡◌, ℕ, eqb, ltb, length, get_or, take, Option, Some, None}
 use Rattle.ps2_bytes.specs.Responses.{mouse_id_byte}
 use Rattle.ps2_bytes.specs.declared.response.MouseId.{MouseId}
@@ -34,7 +35,8 @@ last_number (Some source) = source_number source
 
 -- ---- the state that the numbers stand for
 
--- Whether the numbers that name something name what a dispatcher can hold: the mouse's identity, and who was served last. Those of the handler's record are asked by its calls.
+-- Whether the numbers that name something name what a dispatcher can hold: the mouse's identity,
+-- and who was served last. Those of the handler's record are asked by its calls.
 unfoldable pub names_all : List ℕ → Bool
 names_all ws =
     let identity = get_or ws mouse_at 0 in
@@ -52,7 +54,11 @@ dispatcher_of ws =
     record {
       handler = record_of (handler_in ws);
       mouse = record { id = identity_of (get_or ws mouse_at 0) };
-      places = record { first = place_in (Source.Keyboard Side.First) ws; second = place_in (Source.Keyboard Side.Second) ws; mouse = place_in Source.Mouse ws };
+      places = record {
+        first = place_in (Source.Keyboard Side.First) ws;
+        second = place_in (Source.Keyboard Side.Second) ws;
+        mouse = place_in Source.Mouse ws;
+      };
       last = last_of (get_or ws last_at 0);
     }
 
@@ -60,7 +66,8 @@ dispatcher_of ws =
 
 abbrev pub words_of_dispatcher : Dispatcher → List ℕ
 words_of_dispatcher d =
-    words_of d.handler ++ (mouse_id_byte d.mouse.id ∷ d.places.first ∷ d.places.second ∷ d.places.mouse ∷ last_number d.last ∷ [])
+    words_of d.handler ++ (mouse_id_byte d.mouse.id ∷ d.places.first ∷ d.places.second
+    ∷ d.places.mouse ∷ last_number d.last ∷ [])
 
 -- A state whose handler's record fits the numbers, with its 128 places.
 pub record DispatcherFits (d : Dispatcher) : Type 0 where

@@ -1,4 +1,5 @@
-// A dispatcher's state lent as numbers, and changed where it lies: a step copies no place of the queue and writes only what changes.
+// A dispatcher's state lent as numbers, and changed where it lies: a step copies no place of the
+// queue and writes only what changes.
 #![tactic(auto)]
 
 ghost use Rattle.std.specs.Prelude.{List, ◌++◌, ◌≡◌, ℕ, ◌%◌, ◌<◌};
@@ -28,7 +29,8 @@ const FIRST_WAITING_AT: usize = 2;
 
 const SECOND_WAITING_AT: usize = 7;
 
-// Behind that record: the mouse's identity, the places in the three scripts, and who was served last.
+// Behind that record: the mouse's identity, the places in
+// the three scripts, and who was served last.
 const MOUSE_AT: usize = HANDLER_WORDS;
 
 const FIRST_PLACE_AT: usize = HANDLER_WORDS + 1;
@@ -70,7 +72,8 @@ pub fn dispatcher_fresh(words: &mut [u64], keyboards: u32, profile: u32, identit
         return INVALID_ARGUMENT;
     };
     let Some(lent) = words.as_mut_array::<DISPATCHER_WORDS>() else {
-        // a record of no numbers is refused as this one is: the table is asked, and then 21 answered
+        // a record of no numbers is refused as this one is:
+        // the table is asked, and then 21 answered
         return fresh_words(&mut [], keyboards, profile);
     };
     let answer = fresh_words(&mut lent[..HANDLER_WORDS], keyboards, profile);
@@ -152,7 +155,8 @@ fn second_waiting(words: &[u64; DISPATCHER_WORDS]) -> usize
 
 // Which sources wait.
 fn waits_in(words: &[u64; DISPATCHER_WORDS], first: &[u8], second: &[u8], mouse: &[u8]) -> Waits
-    ensures { (source : Source) → wait_in result source ≡ waits_now (dispatcher_of words.now) (scripts first.now second.now mouse.now) source }
+    ensures { (source : Source) → wait_in result source
+        ≡ waits_now (dispatcher_of words.now) (scripts first.now second.now mouse.now) source }
 {
     let one = place_in(words, Source::Keyboard(Side::First));
     let two = place_in(words, Source::Keyboard(Side::Second));
@@ -173,7 +177,8 @@ fn put_turn(words: &mut [u64; DISPATCHER_WORDS], source: Source, place: usize)
     words[LAST_AT] = u64::from(source_number(source));
 }
 
-// A side's turn: one handler call on its unused bytes, on the handler's numbers. A refused call uses the turn too.
+// A side's turn: one handler call on its unused bytes, on
+// the handler's numbers. A refused call uses the turn too.
 fn serve_keyboard(
     words: &mut [u64; DISPATCHER_WORDS],
     side: Side,
@@ -217,7 +222,8 @@ fn serve_mouse(words: &mut [u64; DISPATCHER_WORDS], script: &[u8]) -> StepWords
 
 // The script of a side.
 fn side_script<'a>(side: Side, first: &'a [u8], second: &'a [u8]) -> &'a [u8]
-    ensures { (mouse : List ℕ) → result.now ≡ script_of (Source.Keyboard side) (scripts first.now second.now mouse) }
+    ensures { (mouse : List ℕ) → result.now
+        ≡ script_of (Source.Keyboard side) (scripts first.now second.now mouse) }
 {
     match side {
         Side::First => first,

@@ -2,12 +2,14 @@
 use Rattle.std.specs.Prelude.{ℕ}
 use Rattle.exchange.specs.Exchange.{Exchange, done, bind, Lack, no_script, no_log, End, yields, lacks}
 
--- An operation either gives a value or refuses, by the number of the question that was answered "no".
+-- An operation either gives a value or refuses, by the
+-- number of the question that was answered "no".
 pub data Answer (A : Type 0) : Type 0 where
   gives : A → Answer A
   refuses : ℕ → Answer A
 
--- The number of a lack: 2 where a read found the script used up, 3 where a write found no room. No operation makes these numbers; only the play does.
+-- The number of a lack: 2 where a read found the script used up, 3 where a write found no room. No
+-- operation makes these numbers; only the play does.
 abbrev pub lack_number : Lack → ℕ
 lack_number (no_script p) = 2
 lack_number no_log = 3
@@ -31,10 +33,12 @@ abbrev pub on_given : {A B : Type 0} → (A → Exchange (Answer B)) → Answer 
 on_given next (gives a) = next a
 on_given next (refuses n) = done (refuses n)
 
-unfoldable pub and_then : {A B : Type 0} → Exchange (Answer A) → (A → Exchange (Answer B)) → Exchange (Answer B)
+unfoldable pub and_then : {A B : Type 0} → Exchange (Answer A) → (A → Exchange (Answer B))
+    → Exchange (Answer B)
 and_then t next = bind t (on_given next)
 
--- An operation whose refusals, whichever they are, are all the number n. A used-up script and a full log are no refusals of the operation, so they stay.
+-- An operation whose refusals, whichever they are, are all the number n. A used-up script and a
+-- full log are no refusals of the operation, so they stay.
 abbrev pub renumbered : {A : Type 0} → ℕ → Answer A → Answer A
 renumbered n (gives a) = gives a
 renumbered n (refuses m) = refuses n

@@ -18,7 +18,8 @@ RefusesWith ns (refuses n) = T (among n ns)
 abbrev pub Refuses : {A : Type 0} → List ℕ → Exchange (Answer A) → Type 0
 Refuses ns t = Only (RefusesWith ns) t
 
--- Whether an operation gives what it is for; its refusal is forgiven. A used-up script and a full log are no refusals of the operation, so they are not.
+-- Whether an operation gives what it is for; its refusal is forgiven. A used-up script and a full
+-- log are no refusals of the operation, so they are not.
 abbrev pub given : {A : Type 0} → Answer A → Bool
 given (gives a) = true
 given (refuses n) = false

@@ -25,7 +25,8 @@ repeat (suc n) otherwise turn = bind turn (λ r. turned r (repeat n otherwise tu
 pub data Silent {A : Type 0} (turn : Exchange (Turn A)) : ℕ → List ℕ → List ℕ → Type 0 where
   over : {script log : List ℕ} → Silent turn zero script log
   silent : {n : ℕ} {script log : List ℕ} → (play turn script log).end ≡ yields again
-      → Silent turn n (drop (play turn script log).used script) (drop (2 * (play turn script log).pairs) (play turn script log).log)
+      → Silent turn n (drop (play turn script log).used script)
+      (drop (2 * (play turn script log).pairs) (play turn script log).log)
       → Silent turn (suc n) script log
 
 -- A list n times over.

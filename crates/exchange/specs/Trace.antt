@@ -10,8 +10,10 @@ pub data Access : Type 0 where
 -- The operation t makes these accesses, one after another, and comes to what is left of it.
 pub data Makes {A : Type 0} : Exchange A → List Access → Exchange A → Type 0 where
   nothing : {t : Exchange A} → Makes t [] t
-  by_read : {p : Port} {b : ℕ} {f : ℕ → Exchange A} {more : List Access} {rest : Exchange A} → Makes (f b) more rest → Makes (read p f) (brought p b ∷ more) rest
-  by_write : {p : Port} {v : ℕ} {t : Exchange A} {more : List Access} {rest : Exchange A} → Makes t more rest → Makes (write p v t) (wrote p v ∷ more) rest
+  by_read : {p : Port} {b : ℕ} {f : ℕ → Exchange A} {more : List Access} {rest : Exchange A}
+      → Makes (f b) more rest → Makes (read p f) (brought p b ∷ more) rest
+  by_write : {p : Port} {v : ℕ} {t : Exchange A} {more : List Access} {rest : Exchange A}
+      → Makes t more rest → Makes (write p v t) (wrote p v ∷ more) rest
 
 -- The bytes that were read, in order.
 abbrev pub bytes : List Access → List ℕ
@@ -40,13 +42,17 @@ accesses (write p v t) script [] = []
 accesses (write p v t) script (x ∷ []) = []
 accesses (write p v t) script (x ∷ y ∷ log) = wrote p v ∷ accesses t script log
 
--- Why a play ends where this is left of the operation, of the script and of the log: it is done; a read finds no byte; a write finds fewer than two.
+-- Why a play ends where this is left of the operation, of the script and of the log: it is done; a
+-- read finds no byte; a write finds fewer than two.
 pub data Ends {A : Type 0} : Exchange A → List ℕ → List ℕ → End A → Type 0 where
   is_done : {a : A} {script log : List ℕ} → Ends (done a) script log (yields a)
-  no_byte : {p : Port} {f : ℕ → Exchange A} {log : List ℕ} → Ends (read p f) [] log (lacks (no_script p))
-  no_pair : {p : Port} {v : ℕ} {t : Exchange A} {script log : List ℕ} → length log ≤ 1 → Ends (write p v t) script log (lacks no_log)
+  no_byte : {p : Port} {f : ℕ → Exchange A} {log : List ℕ}
+      → Ends (read p f) [] log (lacks (no_script p))
+  no_pair : {p : Port} {v : ℕ} {t : Exchange A} {script log : List ℕ} → length log ≤ 1
+      → Ends (write p v t) script log (lacks no_log)
 
--- The play counts each of its reads and writes: the bytes used are the script's first and are those read; the pairs written are at the log's start, and every other byte of it is as it was.
+-- The play counts each of its reads and writes: the bytes used are the script's first and are those
+-- read; the pairs written are at the log's start, and every other byte of it is as it was.
 pub record Counts {A : Type 0} (t : Exchange A) (script log : List ℕ) (o : Played A) : Type 0 where
   pub rest : Exchange A
   pub makes : Makes t (accesses t script log) rest

@@ -33,7 +33,8 @@ pub record InTwo (bytes : List ℕ) (low high : ℕ) : Type 0 where
   pub low_found : bytes_in 8 low ≡ bytes_from bytes 0 8
   pub high_found : bytes_in 8 high ≡ bytes_from bytes 8 8
 
--- A keyboard of the code: its numbers have their widths, so that they are found again in the record's.
+-- A keyboard of the code: its numbers have their widths, so
+-- that they are found again in the record's.
 pub record Narrow (k : KeyboardState) : Type 0 where
   pub flags_in : k.modifiers.bits < flags_limit
   pub count_in : k.waiting.count < byte_limit
@@ -56,7 +57,8 @@ pub record Says (P : Type 0) (answer : Bool) : Type 0 where
 
 -- ---- what 21 asks of the numbers themselves
 
--- Whether the numbers of a side's keyboard pass it: a prefix that is off or on, and what the record is asked.
+-- Whether the numbers of a side's keyboard pass it: a
+-- prefix that is off or on, and what the record is asked.
 abbrev pub keyboard_passes : ℕ → List ℕ → Bool
 keyboard_passes at ws = ltb (get_or ws at 0) 2 && keyboard_formed (keyboard_in ws at)
 
@@ -64,7 +66,8 @@ keyboard_passes at ws = ltb (get_or ws at 0) 2 && keyboard_formed (keyboard_in w
 unfoldable pub sides_pass : List ℕ → Bool
 sides_pass ws =
     let keyboards = get_or ws keyboards_at 0 in
-    (keyboard_passes first_at ws && ltb (get_or ws profile_at 0) 2) && (eqb keyboards 1 || (eqb keyboards 2 && keyboard_passes second_at ws))
+    (keyboard_passes first_at ws && ltb (get_or ws profile_at 0) 2)
+    && (eqb keyboards 1 || (eqb keyboards 2 && keyboard_passes second_at ws))
 
 -- ---- the quick ways
 
@@ -93,7 +96,8 @@ pub record PlainKey (side : Side) (ws script : List ℕ) : Type 0 where
   pub plain : is_plain (get_or script 0 0) ≡ true
   pub ready : is_ready side (state_of ws) ≡ true
 
--- What an event comes to that is queued, or is not: the number answered, which is none of those that leave the record as it was, and the numbers left.
+-- What an event comes to that is queued, or is not: the number answered, which is none of those
+-- that leave the record as it was, and the numbers left.
 pub record KeyQueued (o : Outcome) (place : ℕ) (ws : List ℕ) (n : ℕ) (ws' : List ℕ) : Type 0 where
   pub answers : n ≡ number_answered o.answer
   pub moves : eqb n 2 || (eqb n 3 || eqb n 21) ≡ false
@@ -101,5 +105,6 @@ pub record KeyQueued (o : Outcome) (place : ℕ) (ws : List ℕ) (n : ℕ) (ws' 
   pub reads : reread o.event ≡ o.event
 
 -- What such a call comes to with any log, which it leaves as it is.
-pub record KeyHandled (side : Side) (ws script : List ℕ) (answer : HandledWords) (ws' : List ℕ) : Type 0 where
+pub record KeyHandled (side : Side) (ws script : List ℕ) (answer : HandledWords) (ws' : List ℕ)
+    : Type 0 where
   pub with_any : (log : List ℕ) → SideHandled side ws script log answer ws' log

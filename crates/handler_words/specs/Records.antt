@@ -1,4 +1,5 @@
--- Which numbers fit a record's fields, so that the record that they stand for can be read out of them.
+-- Which numbers fit a record's fields, so that the record
+-- that they stand for can be read out of them.
 use Rattle.std.specs.Prelude.{Bool, true, false, cond, ◌&&◌, ◌||◌, List, ◌≡◌, ℕ, ◌+◌, eqb, ltb, get_or, Option as Maybe, Some, None}
 use Rattle.keyboard_record.specs.declared.Table.{Table}
 use Rattle.handler_words.specs.Layout.{first_at, second_at, keyboards_at, profile_at}
@@ -6,14 +7,19 @@ use Rattle.handler_words.specs.Words.{byte_limit, flags_limit, keyboards_of, pro
 
 -- Those of a keyboard: a prefix that is off or on, flags of 16 bits, and a count of 8.
 unfoldable pub holds_keyboard : ℕ → List ℕ → Bool
-holds_keyboard at ws = ltb (get_or ws at 0) 2 && (ltb (get_or ws (at + 1) 0) flags_limit && ltb (get_or ws (at + 2) 0) byte_limit)
+holds_keyboard at ws = ltb (get_or ws at 0) 2
+    && (ltb (get_or ws (at + 1) 0) flags_limit && ltb (get_or ws (at + 2) 0) byte_limit)
 
 -- Those of the table: one keyboard or two, without a profile or with it.
 unfoldable pub holds_table : List ℕ → Bool
-holds_table ws = ltb (get_or ws profile_at 0) 2 && (eqb (get_or ws keyboards_at 0) 1 || eqb (get_or ws keyboards_at 0) 2)
+holds_table ws = ltb (get_or ws profile_at 0) 2
+    && (eqb (get_or ws keyboards_at 0) 1 || eqb (get_or ws keyboards_at 0) 2)
 
 abbrev pub table_in : List ℕ → Table
-table_in ws = record { keyboards = keyboards_of (get_or ws keyboards_at 0); profile = profile_of (get_or ws profile_at 0) }
+table_in ws = record {
+  keyboards = keyboards_of (get_or ws keyboards_at 0);
+  profile = profile_of (get_or ws profile_at 0);
+}
 
 -- Those of the second side, if it is at the table.
 unfoldable pub holds_second : List ℕ → Bool

@@ -1,4 +1,5 @@
-// The keyboard handler's record lent as numbers, and changed where it lies: a call reads the state's numbers and writes those that change, and of the places one at most.
+// The keyboard handler's record lent as numbers, and changed where it lies: a call reads the
+// state's numbers and writes those that change, and of the places one at most.
 #![tactic(auto)]
 
 ghost use Rattle.std.specs.Prelude.{true, ◌≡◌, ◌++◌, set, ◌+◌, ◌*◌, ◌/◌, ◌%◌, ◌<◌, ◌≤◌};
@@ -37,7 +38,8 @@ use ps2_kept::KEPT_LIMIT;
 
 // C lends the record as 144 numbers; these are places among them.
 
-// Where the numbers of either keyboard begin: the prefix, the flags, how many bytes wait, and the 16 waiting bytes in two numbers.
+// Where the numbers of either keyboard begin: the prefix, the flags, how many bytes wait, and the
+// 16 waiting bytes in two numbers.
 const FIRST_AT: usize = 0;
 
 const SECOND_AT: usize = 5;
@@ -123,7 +125,8 @@ fn keyboards_of(word: u64) -> Keyboards
     }
 }
 
-// The profile that a record's number says, which is 0, none, or 1, the tournament's, where it passes.
+// The profile that a record's number says, which is 0,
+// none, or 1, the tournament's, where it passes.
 fn profile_of(word: u64) -> Profile
     ensures { result ≡ profile_of word }
 {
@@ -143,7 +146,8 @@ fn keyboard_at(side: Side) -> usize
     }
 }
 
-// Whether 21 lets the numbers of a side's keyboard pass: a prefix of 0 or 1, no flag above bit 10, and no more than 16 bytes that wait.
+// Whether 21 lets the numbers of a side's keyboard pass: a prefix of 0 or 1, no flag above bit 10,
+// and no more than 16 bytes that wait.
 fn keyboard_passes(words: &Words, side: Side) -> bool
     ensures { result ≡ keyboard_passes (keyboard_from side) words.now }
 {
@@ -151,7 +155,8 @@ fn keyboard_passes(words: &Words, side: Side) -> bool
     words[at] < 2 && words[at + 1] < u64::from(FLAG_LIMIT) && words[at + 2] <= KEPT_LIMIT as u64
 }
 
-// Whether 21 lets those of the table pass, and of every side at it; those of a side that isn't at it are unasked.
+// Whether 21 lets those of the table pass, and of every
+// side at it; those of a side that isn't at it are unasked.
 // It is asked of the numbers, whichever of their 64 bits are set, before they are read as a state.
 fn sides_pass(words: &Words) -> bool
     ensures { result ≡ sides_pass words.now }
@@ -233,7 +238,8 @@ fn event_word(event: KeyEvent) -> u64
 
 // Stores what is remembered of a side's keyboard.
 fn put_keyboard(words: &mut Words, side: Side, keyboard: KeyboardState)
-    ensures { (words.new ≡ with_keyboard_at (keyboard_from side) keyboard words.old) × Narrow keyboard }
+    ensures { (words.new ≡ with_keyboard_at (keyboard_from side) keyboard words.old)
+        × Narrow keyboard }
 {
     let at = keyboard_at(side);
     let (low, high) = waiting_words(&keyboard.waiting.bytes);
@@ -256,7 +262,8 @@ fn put_row(words: &mut Words, count: usize, sides: Sides)
 // Stores the number of an event in a place, with the count and the sides that it makes.
 fn put_place(words: &mut Words, place: usize, word: u64, waiting: usize, sides: Sides)
     requires { place < 128 }
-    ensures { words.new ≡ with_sides sides (set (set words.old (places_from + place) word) count_at waiting) }
+    ensures { words.new ≡ with_sides sides
+        (set (set words.old (places_from + place) word) count_at waiting) }
 {
     words[PLACES_FROM + place] = word;
     put_row(words, waiting, sides);
@@ -265,7 +272,8 @@ fn put_place(words: &mut Words, place: usize, word: u64, waiting: usize, sides: 
 // Stores an event in a place, with the count and the sides that it makes.
 fn put_event(words: &mut Words, place: usize, left: HandlerState, event: KeyEvent)
     requires { place < 128 }
-    ensures { (words.new ≡ with_event place left (some event) words.old) × (event_at (word_of event) ≡ event) }
+    ensures { (words.new ≡ with_event place left (some event) words.old)
+        × (event_at (word_of event) ≡ event) }
 {
     put_place(words, place, event_word(event), left.count, left.sides);
 }
@@ -279,7 +287,8 @@ fn put_new(
     event: Option<KeyEvent>,
 )
     requires { Placed start count event }
-    ensures { (words.new ≡ with_event ((start + count) % 128) left (said_event event) words.old) × (reread (said_event event) ≡ said_event event) }
+    ensures { (words.new ≡ with_event ((start + count) % 128) left (said_event event) words.old)
+        × (reread (said_event event) ≡ said_event event) }
 {
     if let Some(new) = event {
         let place = (start + count) % QUEUE_LENGTH;
@@ -307,7 +316,8 @@ fn port_lacked(answer: HandlerAnswer) -> u32
 // The number of a place that holds the event of a key's byte, by the byte itself.
 fn key_word(scan_code: u8, modifiers: KeyboardModifiers) -> u64
     requires { is_known scan_code ≡ true }
-    ensures { (result ≡ word_of (event_of scan_code modifiers.bits)) × (event_at result ≡ event_of scan_code modifiers.bits) }
+    ensures { (result ≡ word_of (event_of scan_code modifiers.bits))
+        × (event_at result ≡ event_of scan_code modifiers.bits) }
 {
     let byte = u64::from(scan_code);
     byte % 128 + 256 * (byte / 128) + 65536 * u64::from(modifiers.bits)
@@ -323,7 +333,10 @@ fn put_key(
     modifiers: KeyboardModifiers,
 )
     requires { (is_known scan_code ≡ true) × ((left.start < 128) × (left.count ≤ 128)) }
-    ensures { (words.new ≡ with_event (free_place left) (one_more side left) (some (event_of scan_code modifiers.bits)) words.old) × (reread (some (event_of scan_code modifiers.bits)) ≡ some (event_of scan_code modifiers.bits)) }
+    ensures { (words.new ≡ with_event (free_place left) (one_more side left)
+        (some (event_of scan_code modifiers.bits)) words.old)
+        × (reread (some (event_of scan_code modifiers.bits))
+        ≡ some (event_of scan_code modifiers.bits)) }
 {
     put_place(
         words,
@@ -334,7 +347,8 @@ fn put_key(
     );
 }
 
-// Queues the event of a key's byte where it has one and there is room, at a table without the profile, and answers 19, 31, 20 or 0.
+// Queues the event of a key's byte where it has one and there is room, at a table without the
+// profile, and answers 19, 31, 20 or 0.
 fn queue_key(
     words: &mut Words,
     left: HandlerState,
@@ -343,7 +357,8 @@ fn queue_key(
     modifiers: KeyboardModifiers,
 ) -> u32
     requires { ((left.start < 128) × (left.count ≤ 128)) × (left.table.profile ≡ Profile.Any) }
-    ensures { KeyQueued (queued side left (key_event scan_code modifiers.bits) (gives success) 0) (free_place left) words.old result words.new }
+    ensures { KeyQueued (queued side left (key_event scan_code modifiers.bits) (gives success) 0)
+        (free_place left) words.old result words.new }
 {
     if LAST_KEYCODE < scan_code % 128 {
         return 19;
@@ -366,7 +381,8 @@ fn is_from_script(words: &Words, side: Side, script: &[u8]) -> bool
     !script.is_empty() && words[PROFILE_AT] == 0 && words[keyboard_at(side) + 2] == 0
 }
 
-// A keyboard with these flags, without prefix or waiting bytes: as it is just after a key's byte where none waits.
+// A keyboard with these flags, without prefix or waiting
+// bytes: as it is just after a key's byte where none waits.
 fn followed(modifiers: KeyboardModifiers) -> KeyboardState
     ensures { result ≡ followed_by modifiers.bits }
 {
@@ -404,7 +420,8 @@ fn byte_used(refusal: u32) -> HandledWords
     }
 }
 
-// A call in which none waits, and the script's first byte is a key's and asks for no lamp exchange, at a table without the profile. It is followed, and its event is queued where there is room.
+// A call in which none waits, and the script's first byte is a key's and asks for no lamp exchange,
+// at a table without the profile. It is followed, and its event is queued where there is room.
 fn handle_key(words: &mut Words, side: Side, script: &[u8]) -> HandledWords
     requires { KeyAlone side words.old script.now × (sides_pass words.old ≡ true) }
     ensures { KeyHandled side words.old script.now result words.new }
@@ -422,7 +439,8 @@ fn handle_key(words: &mut Words, side: Side, script: &[u8]) -> HandledWords
     byte_used(queue_key(words, left, side, scan_code, modifiers))
 }
 
-// Whether a call takes the script's first byte, which is a key's and not a lock's whose lamps would be set.
+// Whether a call takes the script's first byte, which is a
+// key's and not a lock's whose lamps would be set.
 fn is_key_alone(words: &Words, side: Side, script: &[u8]) -> bool
     ensures { Says (KeyAlone side words.now script.now) result }
 {
@@ -461,7 +479,8 @@ fn handle_side(words: &mut Words, side: Side, script: &[u8], log: &mut [u8]) -> 
     handled
 }
 
-// What most calls are: the script's first byte is taken, it is of a key that has no flag, and the record is ready for its event, which is queued.
+// What most calls are: the script's first byte is taken, it is of a key that has no flag, and the
+// record is ready for its event, which is queued.
 // Speed: a plain key takes 6.5 ns so, as in `handle_key`, and by a call on the state alone 33
 // (docs/PERFORMANCE.md).
 fn handle_plain(words: &mut Words, side: Side, script: &[u8]) -> HandledWords
@@ -483,7 +502,8 @@ fn is_ready(words: &Words, side: Side) -> bool
     sides_pass(words) && state_in(words).is_ready(side)
 }
 
-// Whether a call takes the script's first byte, which is of a key that has no flag, and its event has room.
+// Whether a call takes the script's first byte, which is of
+// a key that has no flag, and its event has room.
 fn is_plain_key(words: &Words, side: Side, script: &[u8]) -> bool
     ensures { Says (PlainKey side words.now script.now) result }
 {
@@ -556,7 +576,8 @@ fn side_number(side: Side) -> u32
     }
 }
 
-// The keycode of the event that a place's number stands for: its lowest byte, where that is a keycode's.
+// The keycode of the event that a place's number stands
+// for: its lowest byte, where that is a keycode's.
 fn keycode_in(word: u64) -> u32
     ensures { result ≡ number_of (event_at word).keycode }
 {

@@ -1,4 +1,5 @@
-// The record that 144 numbers stand for, read out of them, and a record stored as its numbers. The library calls neither: a handler call changes the numbers where they lie.
+// The record that 144 numbers stand for, read out of them, and a record stored as its numbers. The
+// library calls neither: a handler call changes the numbers where they lie.
 ghost use Rattle.std.specs.Prelude.{◌≡◌, List, ℕ, ◌++◌, map, take, drop};
 ghost use Rattle.keyboard.specs.Outcomes.{said_in_place};
 ghost use Rattle.keyboard_record.specs.declared.KeyboardHandler.{KeyboardHandler};
@@ -37,7 +38,8 @@ fn count_in(word: u64) -> Option<u8>
 
 // What is remembered of a side's keyboard, where its numbers fit the fields.
 fn read_keyboard(words: &Words, side: Side) -> Option<KeyboardState>
-    ensures { Reads (holds_keyboard (keyboard_from side) words.now) (keyboard_in words.now (keyboard_from side)) result }
+    ensures { Reads (holds_keyboard (keyboard_from side) words.now)
+        (keyboard_in words.now (keyboard_from side)) result }
 {
     let at = keyboard_at(side);
     if words[at] > 1 {
@@ -117,7 +119,8 @@ fn read_table(words: &Words) -> Option<Table>
     })
 }
 
-// What is remembered of the second side's keyboard, where its numbers fit: nothing, if it isn't at the table.
+// What is remembered of the second side's keyboard, where
+// its numbers fit: nothing, if it isn't at the table.
 fn read_second(words: &Words) -> Option<KeyboardState>
     ensures { Reads (holds_second words.now) (second_in words.now) result }
 {

@@ -21,18 +21,22 @@ abbrev pub character_text : prelude.Option ℕ → List ℕ
 character_text (Some c) = decimal c
 character_text None = ascii "-"
 
--- An event: "keycode (two capital hex digits), P or R, flags (three capital hex digits), ASCII in decimal or -".
+-- An event: "keycode (two capital hex digits), P or R,
+-- flags (three capital hex digits), ASCII in decimal or -".
 unfoldable pub event_line : KeyEvent → List ℕ
 event_line e =
-    digits 16 2 (number_of e.keycode) ++ ascii " " ++ action_text e.action ++ ascii " " ++ digits 16 3 e.modifiers.bits ++ ascii " "
+    digits 16 2 (number_of e.keycode) ++ ascii " " ++ action_text e.action ++ ascii " "
+    ++ digits 16 3 e.modifiers.bits ++ ascii " "
     ++ character_text (character_of e.keycode e.modifiers) ++ ascii "\n"
 
--- What a taking prints: the event taken, if there was one. Its side is not printed: there is one keyboard.
+-- What a taking prints: the event taken, if there was one.
+-- Its side is not printed: there is one keyboard.
 abbrev pub taken_line : Answer (Option (Sided KeyEvent)) → List ℕ
 taken_line (gives (some e)) = event_line e.one
 taken_line (gives none) = []
 taken_line (refuses n) = []
 
--- What a handler call's answer prints: its number, where it is refused; 0 is none. A failed lamp exchange is no refusal of the call.
+-- What a handler call's answer prints: its number, where it is refused; 0 is none. A failed lamp
+-- exchange is no refusal of the call.
 unfoldable pub refusal_line : ℕ → List ℕ
 refusal_line number = cond (eqb number 0) [] (ascii "refused " ++ decimal number ++ ascii "\n")

@@ -33,7 +33,8 @@ call_on h script = handled keyboard_lamps Side.First h script free_log
 
 -- What one call prints: its refusal, if it is refused, and the event that is taken "at once".
 unfoldable pub call_text : KeyboardHandler → List ℕ → List ℕ
-call_text h script = refusal_line (number_ended (call_on h script).end) ++ taken_line (taken (call_on h script).handler).answer
+call_text h script = refusal_line (number_ended (call_on h script).end)
+    ++ taken_line (taken (call_on h script).handler).answer
 
 -- The record after a call and its taking.
 unfoldable pub record_after : KeyboardHandler → List ℕ → KeyboardHandler
@@ -43,15 +44,19 @@ record_after h script = (taken (call_on h script).handler).now
 abbrev pub bytes_left : KeyboardHandler → List ℕ → ℕ
 bytes_left h script = length script + h.state.first.waiting.count
 
--- What at most n calls print, each made on the record and on the script that the last one left, "until the script is used"; the program "goes on until none waits". After 2, 3 or 21, where a call leaves its record as it was, no call follows.
+-- What at most n calls print, each made on the record and on the script that the last one left,
+-- "until the script is used"; the program "goes on until none waits". After 2, 3 or 21, where a
+-- call leaves its record as it was, no call follows.
 unfoldable pub calls_text : ℕ → KeyboardHandler → List ℕ → List ℕ
 calls_text zero h script = []
 calls_text (suc n) h script =
     cond (eqb (bytes_left h script) 0) []
     (call_text h script
-    ++ cond (ends2_3_21 (call_on h script).end) [] (calls_text n (record_after h script) (drop (call_on h script).used script)))
+    ++ cond (ends2_3_21 (call_on h script).end) []
+    (calls_text n (record_after h script) (drop (call_on h script).used script)))
 
--- What is printed from a record on. Every call that another follows takes a byte, and those that come to wait were the script's, so there are no more calls than bytes.
+-- What is printed from a record on. Every call that another follows takes a byte, and those that
+-- come to wait were the script's, so there are no more calls than bytes.
 abbrev pub listing_from : KeyboardHandler → List ℕ → List ℕ
 listing_from h script = calls_text (bytes_left h script) h script
 

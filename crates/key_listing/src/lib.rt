@@ -1,4 +1,5 @@
-// The listing of key events that the program tablekeys prints: the handler of the one keyboard is called on a script until it is used and no byte waits, and each event is taken at once.
+// The listing of key events that the program tablekeys prints: the handler of the one keyboard is
+// called on a script until it is used and no byte waits, and each event is taken at once.
 #![tactic(auto)]
 
 ghost use Rattle.std.specs.Prelude.{◌≡◌, [], ◌∷◌, ◌<◌, Some, None, cond};
@@ -56,9 +57,11 @@ fn bytes_left(handler: &KeyboardHandler, script: &[u8]) -> usize
     script.len() + usize::from(handler.state.first.waiting.count)
 }
 
-// One handler call on what is left of the script, and the taking after it; what they print is put into `out`. Answers how many bytes the call used, if another is to follow.
+// One handler call on what is left of the script, and the taking after it; what they print is put
+// into `out`. Answers how many bytes the call used, if another is to follow.
 fn call_once(handler: &mut KeyboardHandler, script: &[u8], out: &mut Writer<'_>) -> Option<usize>
-    ensures used { result ≡ cond (ends2_3_21 (call_on handler.old script.now).end) None (Some (call_on handler.old script.now).used) }
+    ensures used { result ≡ cond (ends2_3_21 (call_on handler.old script.now).end) None
+        (Some (call_on handler.old script.now).used) }
     ensures left { handler.new ≡ record_after handler.old script.now }
     ensures puts { Puts (call_text handler.old script.now) out.old out.new }
 {

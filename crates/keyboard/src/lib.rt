@@ -46,7 +46,8 @@ pub enum HandlerRefusal {
 /// How a handler call ends.
 pub type HandlerAnswer = Result<(), HandlerRefusal>;
 
-// The byte that a call takes, or that there is none; the script bytes used for it; and the bytes that still wait.
+// The byte that a call takes, or that there is none; the
+// script bytes used for it; and the bytes that still wait.
 #[derive(Clone, Copy)]
 struct TakenByte {
     kept: KeptBytes,
@@ -151,12 +152,15 @@ fn event_of(keycode: Keycode, scan_code: u8, modifiers: KeyboardModifiers) -> Ke
     }
 }
 
-// Takes the oldest byte that waits: each byte behind it moves up by one place. How many wait is asked here and below, and said by no type: a caller's record may have any number there, and 21 is its answer.
+// Takes the oldest byte that waits: each byte behind it moves up by one
+// place. How many wait is asked here and below, and said by no type: a
+// caller's record may have any number there, and 21 is its answer.
 // A loop, for speed: by one `copy_from_slice` the press of a lock took 80 ns in place of 41,
 // although none waited.
 fn take_oldest(waiting: WaitingBytes) -> (u8, KeptBytes)
     requires { (waiting.count ≤ kept_limit) × (waiting.count ≢ 0) }
-    ensures { (result.0 ≡ get_or waiting.bytes 0 0) × (result.1 ≡ kept_of (bytes_from waiting.bytes 1 (waiting.count - 1))) }
+    ensures { (result.0 ≡ get_or waiting.bytes 0 0)
+        × (result.1 ≡ kept_of (bytes_from waiting.bytes 1 (waiting.count - 1))) }
 {
     let bytes = waiting.bytes;
     let count = waiting.count;
@@ -174,10 +178,12 @@ fn take_oldest(waiting: WaitingBytes) -> (u8, KeptBytes)
     (oldest, kept)
 }
 
-// The byte that a call takes: the oldest that waits; where none waits, one is read without asking the status.
+// The byte that a call takes: the oldest that waits; where
+// none waits, one is read without asking the status.
 fn take_byte(waiting: WaitingBytes, script: &[u8]) -> TakenByte
     requires { waiting.count ≤ kept_limit }
-    ensures { Takes (waiting_bytes waiting) script.now (ended result.answer) (used_of result.answer) result.kept }
+    ensures { Takes (waiting_bytes waiting) script.now (ended result.answer) (used_of result.answer)
+        result.kept }
 {
     if waiting.count != 0 {
         let (oldest, kept) = take_oldest(waiting);
@@ -192,7 +198,8 @@ fn take_byte(waiting: WaitingBytes, script: &[u8]) -> TakenByte
     }
 }
 
-// A call that gives no event and whose lamp exchange, if it had one, is not shown: its answer, with the script bytes used and the pairs written.
+// A call that gives no event and whose lamp exchange, if it had one, is not shown: its answer, with
+// the script bytes used and the pairs written.
 fn without_event(answer: HandlerAnswer, used: usize, pairs: usize) -> Effect
     ensures { result ≡ without_event answer used pairs }
 {
@@ -208,7 +215,8 @@ fn without_event(answer: HandlerAnswer, used: usize, pairs: usize) -> Effect
     }
 }
 
-// What follows a scancode's lamp exchange, which used and wrote this much, with the bytes that come to wait.
+// What follows a scancode's lamp exchange, which used and
+// wrote this much, with the bytes that come to wait.
 fn after_lamps(
     keyboard: &mut KeyboardState,
     kept: KeptBytes,
@@ -218,7 +226,9 @@ fn after_lamps(
     used: usize,
     pairs: usize,
 ) -> Effect
-    ensures { said_key_effect result keyboard.new ≡ key_effects_of (after_lamps scan_code modifiers.bits kept (said_lamps lamps_failed)) used pairs }
+    ensures { said_key_effect result keyboard.new
+        ≡ key_effects_of (after_lamps scan_code modifiers.bits kept (said_lamps lamps_failed)) used
+        pairs }
 {
     *keyboard = KeyboardState {
         prefix: false,
@@ -247,7 +257,9 @@ fn after_lamps(
     }
 }
 
-// The press of a lock that is followed, with the flags just after it: the lamps are set, and its event is given whether they could be or not. What the lamp exchange throws away waits behind the bytes that wait already.
+// The press of a lock that is followed, with the flags just after it: the
+// lamps are set, and its event is given whether they could be or not. What
+// the lamp exchange throws away waits behind the bytes that wait already.
 fn lock_pressed(
     port: DevicePort,
     keyboard: &mut KeyboardState,
@@ -258,7 +270,9 @@ fn lock_pressed(
     log: &mut [u8],
 ) -> Effect
     requires { presses_followed Profile.Any scan_code ≡ true }
-    ensures { PlaysOn keyboard.old kept (λ waiting. on_key (port_rules Profile.Any port) waiting scan_code modifiers.bits) script.now log.old (said_key_effect result keyboard.new) log.new }
+    ensures { PlaysOn keyboard.old kept
+        (λ waiting. on_key (port_rules Profile.Any port) waiting scan_code modifiers.bits)
+        script.now log.old (said_key_effect result keyboard.new) log.new }
 {
     let lamps = leds(modifiers);
     if let Some(done) = set_port_led_acknowledged(script, log, port, lamps) {
@@ -299,7 +313,9 @@ fn on_byte(
     script: &[u8],
     log: &mut [u8],
 ) -> Effect
-    ensures { PlaysOn keyboard.old kept (λ waiting. on_byte (port_rules profile port) keyboard.old waiting scan_code) script.now log.old (said_key_effect result keyboard.new) log.new }
+    ensures { PlaysOn keyboard.old kept
+        (λ waiting. on_byte (port_rules profile port) keyboard.old waiting scan_code) script.now
+        log.old (said_key_effect result keyboard.new) log.new }
 {
     if is_silent(scan_code) {
         keyboard.prefix = is_prefix(scan_code);
@@ -322,7 +338,10 @@ fn key_call(
     log: &mut [u8],
 ) -> Effect
     requires { keyboard.old.waiting.count ≤ kept_limit }
-    ensures { (said_key_effect result keyboard.new ≡ key_effects (port_rules profile port) keyboard.old script.now log.old) × (log.new ≡ (play (key_call (port_rules profile port) keyboard.old) script.now log.old).log) }
+    ensures { (said_key_effect result keyboard.new
+        ≡ key_effects (port_rules profile port) keyboard.old script.now log.old)
+        × (log.new ≡ (play (key_call (port_rules profile port) keyboard.old) script.now
+        log.old).log) }
 {
     let taken = take_byte(keyboard.waiting, script);
     match taken.answer {
@@ -364,7 +383,9 @@ fn port_of(side: Side) -> DevicePort
 /// A handler call for a side but for the places: 21 is asked, then one scancode of its keyboard is
 /// taken and followed, and its event is queued where there is room.
 pub fn handle_state(state: &mut HandlerState, side: Side, script: &[u8], log: &mut [u8]) -> Effect
-    ensures { (said_effect result state.new ≡ effects keyboard_lamps side state.old script.now log.old) × (log.new ≡ log_left keyboard_lamps side state.old script.now log.old) }
+    ensures { (said_effect result state.new
+        ≡ effects keyboard_lamps side state.old script.now log.old)
+        × (log.new ≡ log_left keyboard_lamps side state.old script.now log.old) }
 {
     if !state.call_formed(side) {
         return without_event(Err(HandlerRefusal::MalformedRecord), 0, 0);
@@ -407,7 +428,9 @@ pub fn handle_in_place(
     script: &[u8],
     log: &mut [u8],
 ) -> CallAnswer
-    ensures { (said_in_place result handler.new ≡ handled keyboard_lamps side handler.old script.now log.old) × (log.new ≡ log_left keyboard_lamps side handler.old.state script.now log.old) }
+    ensures { (said_in_place result handler.new
+        ≡ handled keyboard_lamps side handler.old script.now log.old)
+        × (log.new ≡ log_left keyboard_lamps side handler.old.state script.now log.old) }
 {
     let start = handler.state.start;
     let count = handler.state.count;
@@ -421,7 +444,8 @@ pub fn handle_in_place(
 
 /// The same by value.
 pub fn handle(mut handler: KeyboardHandler, side: Side, script: &[u8], log: &mut [u8]) -> Handled
-    ensures { (said_handled result ≡ handled keyboard_lamps side handler script.now log.old) × (log.new ≡ log_left keyboard_lamps side handler.state script.now log.old) }
+    ensures { (said_handled result ≡ handled keyboard_lamps side handler script.now log.old)
+        × (log.new ≡ log_left keyboard_lamps side handler.state script.now log.old) }
 {
     let call = handle_in_place(&mut handler, side, script, log);
     Handled {

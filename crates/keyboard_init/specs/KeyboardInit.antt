@@ -11,6 +11,7 @@ use Rattle.ps2_detect.specs.Detection.{keyboard_detect}
 unfoldable pub detection : Exchange (Answer KeyboardType)
 detection = refusing_as 18 keyboard_detect
 
--- "`keyboard_detect`, then `set_keyboard_scancode_set` with set 1." At a table with two keyboards "initialisation still speaks to the first only".
+-- "`keyboard_detect`, then `set_keyboard_scancode_set` with set 1." At a table with two keyboards
+-- "initialisation still speaks to the first only".
 unfoldable pub keyboard_init : Exchange (Answer Success)
 keyboard_init = and_then detection (λ _. set_scancode_set Set1)

@@ -1,4 +1,5 @@
-// Keyboard initialisation: the keyboard's type is detected and its scancode set chosen, and the handler starts from a fresh record.
+// Keyboard initialisation: the keyboard's type is detected and its scancode set chosen, and the
+// handler starts from a fresh record.
 #![tactic(auto)]
 
 ghost use Rattle.std.specs.Prelude.{◌≡◌};
@@ -25,7 +26,8 @@ pub struct KeyboardInitialized {
 /// profile.
 /// Refused: 2 to 7, no set or identity (11), keyboard not detected (18).
 pub fn keyboard_init(table: Table, script: &[u8], log: &mut [u8]) -> KeyboardInitialized
-    ensures { (told result.answer log.new ≡ play keyboard_init script.now log.old) × (result.handler ≡ fresh table) }
+    ensures { (told result.answer log.new ≡ play keyboard_init script.now log.old)
+        × (result.handler ≡ fresh table) }
 {
     KeyboardInitialized {
         answer: set_up(script, log),

@@ -1,4 +1,5 @@
-// The keyboard handler's record, its queue of events, and the taking from it: Theseus's `keyboard`, at a table with one keyboard or two.
+// The keyboard handler's record, its queue of events, and the taking from it: Theseus's `keyboard`,
+// at a table with one keyboard or two.
 #![tactic(auto)]
 
 ghost use Rattle.std.specs.Prelude.{◌≡◌, leb, Err};
@@ -120,7 +121,8 @@ fn keyboard_formed(keyboard: KeyboardState) -> bool
     keyboard.modifiers.bits < FLAG_LIMIT && usize::from(keyboard.waiting.count) <= KEPT_LIMIT
 }
 
-// Whether neither side has more than its share of the first `count` events. Of so few that they are no more than a share, the sides needn't be counted.
+// Whether neither side has more than its share of the first `count` events. Of so few that they are
+// no more than a share, the sides needn't be counted.
 #[tactic(auto, unfolding(crate::specs::Record::fair))]
 fn is_fair(sides: Sides, count: usize) -> bool
     ensures { result ≡ fair sides count }

@@ -7,7 +7,8 @@ use Rattle.keycodes_ascii.specs.declared.Keycode.{Keycode}
 use Rattle.keycodes_ascii.specs.Keycode.{keycode_of}
 use Rattle.keyboard_scancodes.specs.Strokes.{low_part, is_press}
 
--- The keycode of a number. Each number up to 5D has one; what this says of the others is never asked.
+-- The keycode of a number. Each number up to 5D has one;
+-- what this says of the others is never asked.
 abbrev pub the_keycode : Option Keycode → Keycode
 the_keycode (Some k) = k
 the_keycode None = Keycode.OverflowError
@@ -24,7 +25,8 @@ event_of b flags =
       modifiers = record { bits = flags };
     }
 
--- A key event's keycodes are 00 to 5D. Question 19: "Is the scancode's low part (its low seven bits) at most 5D?"
+-- A key event's keycodes are 00 to 5D. Question 19: "Is the
+-- scancode's low part (its low seven bits) at most 5D?"
 abbrev pub last_keycode : ℕ
 last_keycode = 0x5D
 

@@ -3,7 +3,9 @@ use Rattle.std.specs.Prelude.{Bool, true, false, not, ◌&&◌, ◌||◌, List, 
 use Rattle.keyboard_modifiers.specs.Flags.{shift_left, shift_right, control_left, control_right, alt, super_key_left, super_key_right, caps_lock, num_lock, scroll_lock, alt_right}
 use Rattle.keyboard_scancodes.specs.Strokes.{Stroke}
 
--- A lock goes on and off with its presses. A held key is on from its press to its release, after a prefix or not. Of two keys with one code, the right one has the strokes directly after a prefix, the left one the rest.
+-- A lock goes on and off with its presses. A held key is on from its press
+-- to its release, after a prefix or not. Of two keys with one code, the
+-- right one has the strokes directly after a prefix, the left one the rest.
 pub data Kind : Type 0 where
   lock held left right : Kind
 
@@ -17,7 +19,8 @@ pub record FlagRow : Type 0 where
 abbrev pub flag_row : ℕ → Kind → ℕ → FlagRow
 flag_row flag kind code = record { flag = flag; kind = kind; code = code }
 
--- The list of flags, in order, and flag 10: "on when the last of 38 and B8 directly after E0 or E1 was 38".
+-- The list of flags, in order, and flag 10: "on when the
+-- last of 38 and B8 directly after E0 or E1 was 38".
 unfoldable pub flag_table : List FlagRow
 flag_table =
     flag_row shift_left held 0x2A ∷
@@ -36,7 +39,8 @@ flag_table =
 unfoldable pub flag_limit : ℕ
 flag_limit = 2 ^ length flag_table
 
--- Which strokes of its code a kind of key has: "right Control judging only bytes directly after E0 or E1, left Control the rest".
+-- Which strokes of its code a kind of key has: "right Control judging only bytes directly after E0
+-- or E1, left Control the rest".
 abbrev pub has : Kind → Stroke → Bool
 has lock s = s.pressed
 has held s = true

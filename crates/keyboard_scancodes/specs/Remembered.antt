@@ -6,7 +6,8 @@ use Rattle.keyboard_scancodes.specs.Waiting.{waiting_of}
 
 -- A keyboard with this prefix, these flags and these waiting bytes.
 abbrev pub keyboard_of : Bool → ℕ → WaitingBytes → KeyboardState
-keyboard_of prefix flags waiting = record { prefix = prefix; modifiers = record { bits = flags }; waiting = waiting }
+keyboard_of prefix flags waiting =
+    record { prefix = prefix; modifiers = record { bits = flags }; waiting = waiting }
 
 -- "No prefix, no flag"; of waiting bytes "a fresh record has none".
 abbrev pub fresh_keyboard : KeyboardState

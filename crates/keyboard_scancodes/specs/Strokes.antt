@@ -1,7 +1,8 @@
 -- The strokes that single bytes of scan code set 1 say.
 use Rattle.std.specs.Prelude.{Bool, ◌||◌, ℕ, ◌%◌, eqb, ltb}
 
--- A stroke of a key: the key's code, whether it was pressed or released, and whether the stroke came directly after a prefix.
+-- A stroke of a key: the key's code, whether it was pressed or released, and whether the stroke
+-- came directly after a prefix.
 pub record Stroke : Type 0 where
   pub code : ℕ
   pub pressed : Bool
@@ -19,7 +20,8 @@ low_part b = b % 0x80
 abbrev pub is_press : ℕ → Bool
 is_press b = ltb b 0x80
 
--- A byte of set 1 as a stroke. Every byte is read so; 00, E0, E1 and FA are then strokes of 00, 60, 61 and 7A, codes that the table of flags does not have.
+-- A byte of set 1 as a stroke. Every byte is read so; 00, E0, E1 and FA are then strokes of 00, 60,
+-- 61 and 7A, codes that the table of flags does not have.
 abbrev pub stroke : ℕ → Bool → Stroke
 stroke b x = record { code = low_part b; pressed = is_press b; prefixed = x }
 

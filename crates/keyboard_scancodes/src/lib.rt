@@ -1,4 +1,6 @@
-// What scancodes say by themselves, with what the handler remembers of one keyboard: whether a byte is a prefix, no key's or a lock's press, and the flags just after it; the lamps of the locks that are on.
+// What scancodes say by themselves, with what the handler remembers of
+// one keyboard: whether a byte is a prefix, no key's or a lock's press,
+// and the flags just after it; the lamps of the locks that are on.
 #![tactic(auto)]
 
 ghost use Rattle.std.specs.Prelude.{false, ◌≡◌};
@@ -15,7 +17,8 @@ use keycodes_ascii::{KEY_RELEASED_OFFSET, Keycode};
 use ps2_kept::{KEPT_LIMIT, KeptBytes};
 use ps2_layouts::LEDState;
 
-// The prefixes of extended keys, and the bytes that are no key's: an error of the port, and an acknowledgement.
+// The prefixes of extended keys, and the bytes that are no
+// key's: an error of the port, and an acknowledgement.
 const EXTENDED_SCANCODE: u8 = 0xE0;
 
 const EXTENDED_SCANCODE_2: u8 = 0xE1;
@@ -27,7 +30,8 @@ const ACKNOWLEDGE: u8 = 0xFA;
 // The low seven bits of a scancode are its key's press code.
 const LOW_PART: u8 = 0x7F;
 
-// The press codes of the keys that have a flag, under the names that the Rust's `Keycode` has for them: bytes, since a scancode is compared with them.
+// The press codes of the keys that have a flag, under the names that the Rust's `Keycode` has for
+// them: bytes, since a scancode is compared with them.
 const CONTROL: u8 = Keycode::Control as u8;
 
 const ALT: u8 = Keycode::Alt as u8;
@@ -53,7 +57,8 @@ const ALT_AND_ALT_RIGHT: KeyboardModifiers = KeyboardModifiers {
 
 // Two words of 64 bits, for speed: as one `u128`, as `PLAIN_KEYS` is, the press of a lock took 45.4
 // ns by C in place of 44.8, and that of a key under the profile 41.6 in place of 40.6.
-// The keys that rated games allow, a bit for each keycode: Escape, the digits, Q to P, Enter, Control, A to L, the left Shift, Z to M, the right Shift;
+// The keys that rated games allow, a bit for each keycode: Escape, the digits, Q to P, Enter,
+// Control, A to L, the left Shift, Z to M, the right Shift;
 const TOURNAMENT_KEYS: u64 = 1 << 0x01
     | 0x3FF << 0x02
     | 0x3FF << 0x10
@@ -70,7 +75,8 @@ const TOURNAMENT_ARROWS: u64 = 1 << (0x48 - 0x40)
     | 1 << (0x4D - 0x40)
     | 1 << (0x50 - 0x40);
 
-// The keys that have no flag, a bit for each keycode from 01 to 5D: all but Control, the Shifts, Alt, the locks and the Super keys.
+// The keys that have no flag, a bit for each keycode from 01 to 5D: all but Control, the Shifts,
+// Alt, the locks and the Super keys.
 const PLAIN_KEYS: u128 = ((1 << 0x5E) - 1)
     & !(1 << 0x00
         | 1 << CONTROL
@@ -141,7 +147,8 @@ pub fn is_plain(scan_code: u8) -> bool
     PLAIN_KEYS & (1 << (scan_code % 128)) != 0
 }
 
-// The flags that a key holds down, by its press code: none where it is no such key's. A prefix directly before tells right Control from left, and right Alt, which is an Alt too.
+// The flags that a key holds down, by its press code: none where it is no such key's. A prefix
+// directly before tells right Control from left, and right Alt, which is an Alt too.
 fn held_flags(code: u8, prefix: bool) -> KeyboardModifiers
     ensures { result.bits ≡ held_flags flag_table code prefix }
 {
@@ -221,7 +228,8 @@ pub fn modifiers_after(
     keyboard: KeyboardState,
     scan_code: u8,
 ) -> KeyboardModifiers
-    ensures { result.bits ≡ flags_after (followed profile) (stroke scan_code keyboard.prefix) keyboard.modifiers.bits }
+    ensures { result.bits ≡ flags_after (followed profile) (stroke scan_code keyboard.prefix)
+        keyboard.modifiers.bits }
 {
     let code = scan_code & LOW_PART;
     let held = held_flags(code, keyboard.prefix);

@@ -17,7 +17,8 @@ named (s ∷ sides) (a ∷ things) = record { side = s; one = a } ∷ named side
 -- Those of one side, in their order; and the sides alone.
 unfoldable pub of_side : {A : Type 0} → Side → List (Sided A) → List A
 of_side side [] = []
-of_side side (x ∷ rest) = cond (same_side side x.side) (x.one ∷ of_side side rest) (of_side side rest)
+of_side side (x ∷ rest) =
+    cond (same_side side x.side) (x.one ∷ of_side side rest) (of_side side rest)
 
 unfoldable pub sides_in : {A : Type 0} → List (Sided A) → List Side
 sides_in [] = []

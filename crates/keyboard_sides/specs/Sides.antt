@@ -43,7 +43,8 @@ unfoldable pub count_of : Side → List Side → ℕ
 count_of side [] = 0
 count_of side (s ∷ rest) = weigh (same_side side s) + count_of side rest
 
--- No event's sides; the side of the oldest event; the sides without it; and those of n events with one more behind them, if there is a bit for it.
+-- No event's sides; the side of the oldest event; the sides without it; and those of n events with
+-- one more behind them, if there is a bit for it.
 abbrev pub no_sides : Sides
 no_sides = record { low = 0; high = 0 }
 

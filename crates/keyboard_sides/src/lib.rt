@@ -1,4 +1,5 @@
-// The two sides of a table, and the sides of the events that wait, as a row of bits: bit i is the side of the i-th event, the oldest first.
+// The two sides of a table, and the sides of the events that wait, as a row of bits: bit i is the
+// side of the i-th event, the oldest first.
 #![tactic(auto)]
 
 ghost use Rattle.std.specs.Prelude.{◌≡◌, ◌%◌, ◌^◌, ◌<◌};

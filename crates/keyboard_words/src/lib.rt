@@ -34,7 +34,8 @@ use ps2_layouts::LEDState;
 
 // ---- what arguments stand for
 
-// The command to the keyboard that is sent as this byte. Such two lines stand in argument_words too, where it is said why.
+// The command to the keyboard that is sent as this byte. Such two lines stand in argument_words
+// too, where it is said why.
 #[tactic(auto, unfolding(bits::specs::Table::decode))]
 fn command_of(byte: u32) -> Option<HostToKeyboardCommand>
     ensures { said_found result ≡ command_at byte }
@@ -92,7 +93,8 @@ pub fn keyboard_init(
     script: &[u8],
     log: &mut [u8],
 ) -> PortWords
-    ensures { KeyboardInitialized words.old keyboards profile script.now log.old result words.new log.new }
+    ensures { KeyboardInitialized words.old keyboards profile script.now log.old result words.new
+        log.new }
 {
     let Some(table) = table_of(keyboards, profile) else {
         return refusing_words(INVALID_ARGUMENT);
@@ -114,7 +116,8 @@ pub fn keyboard_reset(script: &[u8], log: &mut [u8]) -> PortWords
 
 /// Sends one of the keyboard's commands, by the byte that the wiki lists it with.
 pub fn keyboard_command(byte: u32, script: &[u8], log: &mut [u8]) -> KeptWords
-    ensures { TellsAt (refusing_kept invalid_argument) told_kept sending_command (command_at byte) script.now log.old result log.new }
+    ensures { TellsAt (refusing_kept invalid_argument) told_kept sending_command (command_at byte)
+        script.now log.old result log.new }
 {
     match command_of(byte) {
         Some(command) => commanded_words(command_to_keyboard(
@@ -128,7 +131,8 @@ pub fn keyboard_command(byte: u32, script: &[u8], log: &mut [u8]) -> KeptWords
 
 /// Sets the lamps: scroll 1, number 2, caps 4 added.
 pub fn keyboard_set_lamps(lamps: u32, script: &[u8], log: &mut [u8]) -> KeptWords
-    ensures { TellsAt (refusing_kept invalid_argument) told_kept setting_lamps (lamps_at lamps) script.now log.old result log.new }
+    ensures { TellsAt (refusing_kept invalid_argument) told_kept setting_lamps (lamps_at lamps)
+        script.now log.old result log.new }
 {
     match lamps_of(lamps) {
         Some(leds) => commanded_words(set_keyboard_led(script, log, leds)),
@@ -138,7 +142,8 @@ pub fn keyboard_set_lamps(lamps: u32, script: &[u8], log: &mut [u8]) -> KeptWord
 
 /// Sets the scancode set, 1 to 3.
 pub fn keyboard_set_scancode_set(set: u32, script: &[u8], log: &mut [u8]) -> PortWords
-    ensures { TellsAt (refusing invalid_argument) (told no_value) set_scancode_set (scancode_set_at set) script.now log.old result log.new }
+    ensures { TellsAt (refusing invalid_argument) (told no_value) set_scancode_set
+        (scancode_set_at set) script.now log.old result log.new }
 {
     match set_of(set) {
         Some(value) => answer_words(set_keyboard_scancode_set(script, log, value)),
@@ -162,7 +167,8 @@ pub fn keyboard_detect(script: &[u8], log: &mut [u8]) -> PortWords
 
 /// Sends the byte of repeat rate and delay.
 pub fn keyboard_set_repeat(byte: u32, script: &[u8], log: &mut [u8]) -> PortWords
-    ensures { TellsAt (refusing invalid_argument) (told no_value) set_keyboard_repeat (byte_at byte) script.now log.old result log.new }
+    ensures { TellsAt (refusing invalid_argument) (told no_value) set_keyboard_repeat (byte_at byte)
+        script.now log.old result log.new }
 {
     match u8::try_from(byte) {
         Ok(value) => answer_words(set_keyboard_repeat(script, log, value)),

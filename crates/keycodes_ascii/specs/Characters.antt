@@ -8,7 +8,8 @@ use Rattle.keycodes_ascii.specs.declared.Keycode.{Keycode}
 use Rattle.keycodes_ascii.specs.Keycode.{keycode_of}
 use Rattle.keyboard_modifiers.specs.Flags.{shift_left, shift_right, caps_lock}
 
--- What a key writes: a letter, small and capital; a sign, without Shift and with it; the same character with Shift or without;
+-- What a key writes: a letter, small and capital; a sign, without Shift and with it; the same
+-- character with Shift or without;
 -- a control character, by its number; nothing.
 pub data Writes : Type 0 where
   letter : Char → Char → Writes
@@ -128,7 +129,8 @@ is_letter (same a) = false
 is_letter (control n) = false
 is_letter nothing = false
 
--- The character of a key where Shift is held or not and Caps Lock is on or not. Caps Lock turns Shift round for letters, and does nothing to any other key.
+-- The character of a key where Shift is held or not and Caps Lock is on or not. Caps Lock turns
+-- Shift round for letters, and does nothing to any other key.
 abbrev pub character : Writes → Bool → Bool → Option ℕ
 character (letter a b) shift caps = Some (cond (xor shift caps) (code b) (code a))
 character (sign a b) shift caps = Some (cond shift (code b) (code a))

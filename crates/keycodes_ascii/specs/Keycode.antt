@@ -3,7 +3,8 @@ use Rattle.std.specs.Prelude.{cond, List, [], ◌∷◌, ℕ, eqb, Option, Some,
 use Rattle.keycodes_ascii.specs.declared.Keycode.{Keycode}
 use Rattle.keycodes_ascii.specs.declared.NoKeycode.{NoKeycode}
 
--- The number of a keycode: 00 to 5D, and the release codes of the six modifier keys, which are values of the Rust's type and occur in no event.
+-- The number of a keycode: 00 to 5D, and the release codes of the six modifier keys, which are
+-- values of the Rust's type and occur in no event.
 abbrev pub number_of : Keycode → ℕ
 number_of Keycode.OverflowError = 0x00
 number_of Keycode.Escape = 0x01
@@ -109,20 +110,34 @@ number_of Keycode.SuperKeyRightReleased = 0xDC
 -- All of them.
 unfoldable pub keycodes : List Keycode
 keycodes =
-    Keycode.OverflowError ∷ Keycode.Escape ∷ Keycode.Num1 ∷ Keycode.Num2 ∷ Keycode.Num3 ∷ Keycode.Num4 ∷
-    Keycode.Num5 ∷ Keycode.Num6 ∷ Keycode.Num7 ∷ Keycode.Num8 ∷ Keycode.Num9 ∷ Keycode.Num0 ∷ Keycode.Minus ∷
-    Keycode.Equals ∷ Keycode.Backspace ∷ Keycode.Tab ∷ Keycode.Q ∷ Keycode.W ∷ Keycode.E ∷ Keycode.R ∷ Keycode.T ∷
-    Keycode.Y ∷ Keycode.U ∷ Keycode.I ∷ Keycode.O ∷ Keycode.P ∷ Keycode.LeftBracket ∷ Keycode.RightBracket ∷
-    Keycode.Enter ∷ Keycode.Control ∷ Keycode.A ∷ Keycode.S ∷ Keycode.D ∷ Keycode.F ∷ Keycode.G ∷ Keycode.H ∷
-    Keycode.J ∷ Keycode.K ∷ Keycode.L ∷ Keycode.Semicolon ∷ Keycode.Quote ∷ Keycode.Backtick ∷ Keycode.LeftShift ∷
-    Keycode.Backslash ∷ Keycode.Z ∷ Keycode.X ∷ Keycode.C ∷ Keycode.«V» ∷ Keycode.B ∷ Keycode.N ∷ Keycode.M ∷
-    Keycode.Comma ∷ Keycode.Period ∷ Keycode.Slash ∷ Keycode.RightShift ∷ Keycode.PadMultiply ∷ Keycode.Alt ∷
-    Keycode.Space ∷ Keycode.CapsLock ∷ Keycode.F1 ∷ Keycode.F2 ∷ Keycode.F3 ∷ Keycode.F4 ∷ Keycode.F5 ∷ Keycode.F6 ∷
-    Keycode.F7 ∷ Keycode.F8 ∷ Keycode.F9 ∷ Keycode.F10 ∷ Keycode.NumLock ∷ Keycode.ScrollLock ∷ Keycode.Home ∷
-    Keycode.Up ∷ Keycode.PageUp ∷ Keycode.PadMinus ∷ Keycode.Left ∷ Keycode.Pad5 ∷ Keycode.Right ∷ Keycode.PadPlus ∷
-    Keycode.End ∷ Keycode.Down ∷ Keycode.PageDown ∷ Keycode.Insert ∷ Keycode.Delete ∷ Keycode.Unknown1 ∷
-    Keycode.Unknown2 ∷ Keycode.NonUsBackslash ∷ Keycode.F11 ∷ Keycode.F12 ∷ Keycode.Pause ∷ Keycode.Unknown3 ∷
-    Keycode.SuperKeyLeft ∷ Keycode.SuperKeyRight ∷ Keycode.Menu ∷ Keycode.ControlReleased ∷ Keycode.AltReleased ∷
+    Keycode.OverflowError ∷ Keycode.Escape ∷ Keycode.Num1 ∷ Keycode.Num2 ∷ Keycode.Num3
+    ∷ Keycode.Num4 ∷
+    Keycode.Num5 ∷ Keycode.Num6 ∷ Keycode.Num7 ∷ Keycode.Num8 ∷ Keycode.Num9 ∷ Keycode.Num0
+    ∷ Keycode.Minus ∷
+    Keycode.Equals ∷ Keycode.Backspace ∷ Keycode.Tab ∷ Keycode.Q ∷ Keycode.W ∷ Keycode.E ∷ Keycode.R
+    ∷ Keycode.T ∷
+    Keycode.Y ∷ Keycode.U ∷ Keycode.I ∷ Keycode.O ∷ Keycode.P ∷ Keycode.LeftBracket
+    ∷ Keycode.RightBracket ∷
+    Keycode.Enter ∷ Keycode.Control ∷ Keycode.A ∷ Keycode.S ∷ Keycode.D ∷ Keycode.F ∷ Keycode.G
+    ∷ Keycode.H ∷
+    Keycode.J ∷ Keycode.K ∷ Keycode.L ∷ Keycode.Semicolon ∷ Keycode.Quote ∷ Keycode.Backtick
+    ∷ Keycode.LeftShift ∷
+    Keycode.Backslash ∷ Keycode.Z ∷ Keycode.X ∷ Keycode.C ∷ Keycode.«V» ∷ Keycode.B ∷ Keycode.N
+    ∷ Keycode.M ∷
+    Keycode.Comma ∷ Keycode.Period ∷ Keycode.Slash ∷ Keycode.RightShift ∷ Keycode.PadMultiply
+    ∷ Keycode.Alt ∷
+    Keycode.Space ∷ Keycode.CapsLock ∷ Keycode.F1 ∷ Keycode.F2 ∷ Keycode.F3 ∷ Keycode.F4
+    ∷ Keycode.F5 ∷ Keycode.F6 ∷
+    Keycode.F7 ∷ Keycode.F8 ∷ Keycode.F9 ∷ Keycode.F10 ∷ Keycode.NumLock ∷ Keycode.ScrollLock
+    ∷ Keycode.Home ∷
+    Keycode.Up ∷ Keycode.PageUp ∷ Keycode.PadMinus ∷ Keycode.Left ∷ Keycode.Pad5 ∷ Keycode.Right
+    ∷ Keycode.PadPlus ∷
+    Keycode.End ∷ Keycode.Down ∷ Keycode.PageDown ∷ Keycode.Insert ∷ Keycode.Delete
+    ∷ Keycode.Unknown1 ∷
+    Keycode.Unknown2 ∷ Keycode.NonUsBackslash ∷ Keycode.F11 ∷ Keycode.F12 ∷ Keycode.Pause
+    ∷ Keycode.Unknown3 ∷
+    Keycode.SuperKeyLeft ∷ Keycode.SuperKeyRight ∷ Keycode.Menu ∷ Keycode.ControlReleased
+    ∷ Keycode.AltReleased ∷
     Keycode.LeftShiftReleased ∷ Keycode.RightShiftReleased ∷ Keycode.SuperKeyLeftReleased ∷
     Keycode.SuperKeyRightReleased ∷ []
 

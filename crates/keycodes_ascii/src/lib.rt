@@ -29,7 +29,8 @@ pub struct KeyEvent {
 impl KeyEvent {
     /// The event of a key, with the flags as they are after its byte.
     pub fn new(keycode: Keycode, action: KeyAction, modifiers: KeyboardModifiers) -> KeyEvent
-        ensures { (result.keycode ≡ keycode) × (result.action ≡ action) × (result.modifiers ≡ modifiers) }
+        ensures { (result.keycode ≡ keycode) × (result.action ≡ action)
+            × (result.modifiers ≡ modifiers) }
     {
         KeyEvent {
             keycode,

@@ -18,14 +18,22 @@ use Rattle.port_words.specs.Tells.{Tells, AtArgument}
 -- The value is the record's identity, after a refusal too.
 abbrev pub left_numbers : End (Answer Success) → ℕ → ℕ → PS2Mouse → PortWords
 left_numbers end used pairs mouse =
-    record { refusal = number_ended end; port = port_lacked end; used = used; pairs = pairs; value = mouse_id_byte mouse.id }
+    record {
+      refusal = number_ended end;
+      port = port_lacked end;
+      used = used;
+      pairs = pairs;
+      value = mouse_id_byte mouse.id;
+    }
 
 -- "After 2, 3 or 21 records are as passed in"; otherwise the play's end has the record.
 abbrev pub told_left : PS2Mouse → End (Left PS2Mouse Success) → ℕ → ℕ → PortWords
 told_left passed = of_left left_numbers passed
 
--- A number for the identity of the record that is passed: where it stands for none the log stays; otherwise it is `set_mouse_id` on that record.
+-- A number for the identity of the record that is passed: where it stands for none the log stays;
+-- otherwise it is `set_mouse_id` on that record.
 abbrev pub TellsLeftAt : Option MouseId → List ℕ → List ℕ → PortWords → List ℕ → Type 0
 TellsLeftAt argument script log answer log' =
     AtArgument argument ((answer ≡ refusing invalid_argument) × (log' ≡ log))
-    (λ id. Tells (told_left (record { id = id })) (set_mouse_id (record { id = id })) script log answer log')
+    (λ id. Tells (told_left (record { id = id })) (set_mouse_id (record { id = id })) script log
+    answer log')

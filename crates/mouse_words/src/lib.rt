@@ -1,4 +1,5 @@
-// The mouse's operations, by numbers: what each answers, and what the numbers of their arguments stand for. One function for each that C calls; script and log stand side by side.
+// The mouse's operations, by numbers: what each answers, and what the numbers of their arguments
+// stand for. One function for each that C calls; script and log stand side by side.
 #![tactic(auto, unfolding(bits::specs::Table::decode))]
 
 ghost use Rattle.std.specs.Prelude.{◌≡◌};
@@ -56,7 +57,8 @@ pub fn resolution_of(resolution: u32) -> Option<MouseResolution>
 
 // An answer with the identity of the mouse's record as it is left.
 fn left_words(left: MouseLeft) -> PortWords
-    ensures { result ≡ left_numbers (ended left.answer) (used_of left.answer) (pairs_of left.answer) left.mouse }
+    ensures { result ≡ left_numbers (ended left.answer) (used_of left.answer) (pairs_of left.answer)
+        left.mouse }
 {
     PortWords {
         value: left.mouse.id.number(),
@@ -107,7 +109,9 @@ pub fn mouse_set_identity(identity: u32, script: &[u8], log: &mut [u8]) -> PortW
 
 /// Sends a command to the mouse.
 pub fn mouse_command(byte: u32, script: &[u8], log: &mut [u8]) -> KeptWords
-    ensures { TellsAt (refusing_kept invalid_argument) told_kept (λ c. keeping_thrown (mouse_command c)) (command_at byte) script.now log.old result log.new }
+    ensures { TellsAt (refusing_kept invalid_argument) told_kept
+        (λ c. keeping_thrown (mouse_command c)) (command_at byte) script.now log.old result
+        log.new }
 {
     match command_of(byte) {
         Some(command) => commanded_words(PS2Mouse::command_to_mouse(
@@ -121,7 +125,8 @@ pub fn mouse_command(byte: u32, script: &[u8], log: &mut [u8]) -> KeptWords
 
 /// Sets the mouse's sampling rate.
 pub fn mouse_set_sampling_rate(rate: u32, script: &[u8], log: &mut [u8]) -> PortWords
-    ensures { TellsAt (refusing invalid_argument) (told no_value) set_sampling_rate (rate_at rate) script.now log.old result log.new }
+    ensures { TellsAt (refusing invalid_argument) (told no_value) set_sampling_rate (rate_at rate)
+        script.now log.old result log.new }
 {
     match rate_of(rate) {
         Some(known) => answer_words(PS2Mouse::set_mouse_sampling_rate(script, log, known)),
@@ -131,7 +136,8 @@ pub fn mouse_set_sampling_rate(rate: u32, script: &[u8], log: &mut [u8]) -> Port
 
 /// Sets the mouse's resolution.
 pub fn mouse_set_resolution(resolution: u32, script: &[u8], log: &mut [u8]) -> PortWords
-    ensures { TellsAt (refusing invalid_argument) (told no_value) set_resolution (resolution_at resolution) script.now log.old result log.new }
+    ensures { TellsAt (refusing invalid_argument) (told no_value) set_resolution
+        (resolution_at resolution) script.now log.old result log.new }
 {
     match resolution_of(resolution) {
         Some(known) => answer_words(PS2Mouse::mouse_resolution(script, log, known)),
@@ -148,7 +154,8 @@ pub fn mouse_waits(script: &[u8]) -> PortWords
 
 /// Reads the packet that a mouse of this identity sends, its wheel signed.
 pub fn mouse_read_packet(identity: u32, script: &[u8]) -> PacketWords
-    ensures { TellsReadingAt (refusing_packet invalid_argument) told_packet read_signed_packet (identity_at identity) script.now result }
+    ensures { TellsReadingAt (refusing_packet invalid_argument) told_packet read_signed_packet
+        (identity_at identity) script.now result }
 {
     match identity_of(identity) {
         Some(id) => packet_words(read_signed_packet(id, script)),

@@ -27,9 +27,16 @@ given_or other make (yields (gives a)) = make a
 given_or other make (yields (refuses n)) = other
 given_or other make (lacks x) = other
 
--- An answer: the refusal's number, 0 where there is none; the port of a lack; script bytes used and pairs written; and the number of what is given, 0 where nothing is.
+-- An answer: the refusal's number, 0 where there is none; the port of a lack; script bytes used and
+-- pairs written; and the number of what is given, 0 where nothing is.
 abbrev pub told : {A : Type 0} → (A → ℕ) → End (Answer A) → ℕ → ℕ → PortWords
-told value end used pairs = record { refusal = number_ended end; port = port_lacked end; used = used; pairs = pairs; value = given_or 0 value end }
+told value end used pairs = record {
+  refusal = number_ended end;
+  port = port_lacked end;
+  used = used;
+  pairs = pairs;
+  value = given_or 0 value end;
+}
 
 -- A refusal before anything is read.
 abbrev pub refusing : ℕ → PortWords

@@ -8,10 +8,19 @@ use Rattle.ps2_kept.specs.Kept.{nothing_kept}
 use Rattle.port_words.specs.declared.KeptWords.{KeptWords}
 use Rattle.port_words.specs.Told.{port_lacked}
 
--- An answer that gives no value, with bytes: the earliest, 0 behind them; how many they are, and how many others there were.
+-- An answer that gives no value, with bytes: the earliest, 0 behind them; how many they are, and
+-- how many others there were.
 abbrev pub kept_numbers : {A : Type 0} → End (Answer A) → ℕ → ℕ → KeptBytes → KeptWords
 kept_numbers end used pairs k =
-    record { refusal = number_ended end; port = port_lacked end; used = used; pairs = pairs; count = k.count; others = k.others; bytes = k.bytes }
+    record {
+      refusal = number_ended end;
+      port = port_lacked end;
+      used = used;
+      pairs = pairs;
+      count = k.count;
+      others = k.others;
+      bytes = k.bytes;
+    }
 
 -- The bytes that a play's end hands back: with 2 and 3 none.
 abbrev pub bytes_kept : {A : Type 0} → End (Kept KeptBytes A) → KeptBytes
@@ -23,4 +32,12 @@ told_kept end used pairs = kept_numbers (told_end (λ v. v.value) end) used pair
 
 -- A refusal before anything is read.
 abbrev pub refusing_kept : ℕ → KeptWords
-refusing_kept n = record { refusal = n; port = 0; used = 0; pairs = 0; count = nothing_kept.count; others = nothing_kept.others; bytes = nothing_kept.bytes }
+refusing_kept n = record {
+  refusal = n;
+  port = 0;
+  used = 0;
+  pairs = 0;
+  count = nothing_kept.count;
+  others = nothing_kept.others;
+  bytes = nothing_kept.bytes;
+}

@@ -12,7 +12,8 @@ use Rattle.port_words.specs.Told.{port_lacked, given_or}
 -- The buttons that are pressed, a bit each, from bit 0: left, right, middle, fourth, fifth.
 abbrev pub buttons_of : MousePacket → ℕ
 buttons_of p =
-    weigh (bit left_button (common p).byte1) + 2 * weigh (bit right_button (common p).byte1) + 4 * weigh (bit middle_button (common p).byte1)
+    weigh (bit left_button (common p).byte1) + 2 * weigh (bit right_button (common p).byte1) + 4 *
+    weigh (bit middle_button (common p).byte1)
     + 8 * weigh (side_button button4 p) + 16 * weigh (side_button button5 p)
 
 -- A reading writes no pair, so no count of pairs is told.
@@ -30,4 +31,5 @@ told_packet end used pairs =
 
 -- A refusal before anything is read.
 abbrev pub refusing_packet : ℕ → PacketWords
-refusing_packet n = record { refusal = n; port = 0; used = 0; buttons = 0; x = pos 0; y = pos 0; wheel = pos 0 }
+refusing_packet n =
+    record { refusal = n; port = 0; used = 0; buttons = 0; x = pos 0; y = pos 0; wheel = pos 0 }

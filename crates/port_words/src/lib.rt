@@ -1,4 +1,5 @@
-// What port operations answer, as numbers that cross to C: the refusal, the port of a lack, the counts, and what the operation gives.
+// What port operations answer, as numbers that cross to C: the refusal, the port of a lack, the
+// counts, and what the operation gives.
 #![tactic(auto)]
 
 ghost use Rattle.std.specs.Prelude.{◌≡◌, ℕ};
@@ -213,7 +214,8 @@ pub fn refusing_kept_words(refusal: u32) -> KeptWords
 
 /// What a command comes to, as numbers: 0 where it is done, and the bytes that it threw away.
 pub fn commanded_words(commanded: Commanded) -> KeptWords
-    ensures { result ≡ kept_numbers (ended commanded.answer) (used_of commanded.answer) (pairs_of commanded.answer) commanded.kept }
+    ensures { result ≡ kept_numbers (ended commanded.answer) (used_of commanded.answer)
+        (pairs_of commanded.answer) commanded.kept }
 {
     let answer = answer_words(commanded.answer);
     let kept = commanded.kept;

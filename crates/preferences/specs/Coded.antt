@@ -17,5 +17,7 @@ pub data Coded (bytes : List ℕ) : Type 0 where
 -- "every byte string is either the coding of a number followed by a rest, or 27"
 pub record Answered (bytes : List ℕ) : Type 0 where
   pub coded : Coded bytes
-  pub read : (n : ℕ) (rest : List ℕ) → CodedAs n rest bytes → read_number bytes ≡ gives (taking n (length (coding n)))
-  pub refused : ((n : ℕ) (rest : List ℕ) → CodedAs n rest bytes → ⊥) → read_number bytes ≡ refuses 27
+  pub read : (n : ℕ) (rest : List ℕ) → CodedAs n rest bytes → read_number bytes
+      ≡ gives (taking n (length (coding n)))
+  pub refused : ((n : ℕ) (rest : List ℕ) → CodedAs n rest bytes → ⊥) → read_number bytes
+      ≡ refuses 27

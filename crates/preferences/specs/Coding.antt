@@ -1,4 +1,5 @@
--- The bytes of a number: "a number below 4,294,967,296 in groups of seven bits, lowest first, top bit set on all but the last, shortest form".
+-- The bytes of a number: "a number below 4,294,967,296 in groups of seven bits, lowest first, top
+-- bit set on all but the last, shortest form".
 use Rattle.std.specs.Prelude.{cond, List, [], ◌∷◌, ℕ, zero, suc, ◌+◌, ◌/◌, ◌%◌, ltb}
 
 -- "below 4,294,967,296"
@@ -13,10 +14,12 @@ groups_end = 128
 abbrev pub most_groups : ℕ
 most_groups = 5
 
--- The bytes of a number in so many groups at most: the last group where it is below 128, otherwise its lowest group with the top bit, then the others.
+-- The bytes of a number in so many groups at most: the last group where it is below 128, otherwise
+-- its lowest group with the top bit, then the others.
 unfoldable pub coding_within : ℕ → ℕ → List ℕ
 coding_within zero n = []
-coding_within (suc k) n = cond (ltb n groups_end) (n ∷ []) ((n % groups_end + groups_end) ∷ coding_within k (n / groups_end))
+coding_within (suc k) n = cond (ltb n groups_end) (n ∷ [])
+    ((n % groups_end + groups_end) ∷ coding_within k (n / groups_end))
 
 abbrev pub coding : ℕ → List ℕ
 coding n = coding_within most_groups n

@@ -12,10 +12,12 @@ abbrev pub before : ℕ → Option (List ℕ) → Option (List ℕ)
 before g none = none
 before g (some gs) = some (g ∷ gs)
 
--- "Top bit set on all but the last": the groups up to the first byte below 128, if there is one. What is no byte is no group.
+-- "Top bit set on all but the last": the groups up to the first byte below 128, if there is one.
+-- What is no byte is no group.
 unfoldable pub groups_of : List ℕ → Option (List ℕ)
 groups_of [] = none
-groups_of (b ∷ bytes) = cond (ltb b groups_end) (some (b ∷ [])) (cond (ltb b 256) (before (b - groups_end) (groups_of bytes)) none)
+groups_of (b ∷ bytes) = cond (ltb b groups_end) (some (b ∷ []))
+    (cond (ltb b 256) (before (b - groups_end) (groups_of bytes)) none)
 
 -- "Lowest first": the number that groups make.
 unfoldable pub value_of : List ℕ → ℕ
@@ -41,7 +43,8 @@ taking value count = record { value = value; count = count }
 -- "27 if a number is cut short, too large or not shortest"
 abbrev pub judged : Option (List ℕ) → Answer Number
 judged none = refuses 27
-judged (some gs) = cond (is_shortest gs && ltb (value_of gs) numbers_end) (gives (taking (value_of gs) (length gs))) (refuses 27)
+judged (some gs) = cond (is_shortest gs && ltb (value_of gs) numbers_end)
+    (gives (taking (value_of gs) (length gs))) (refuses 27)
 
 unfoldable pub read_number : List ℕ → Answer Number
 read_number bytes = judged (groups_of bytes)

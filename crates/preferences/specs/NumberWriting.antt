@@ -21,7 +21,9 @@ with_bytes out at bytes = take at out ++ bytes ++ drop (at + length bytes) out
 -- "23 if the output is too short"; a refusal leaves the output untouched.
 unfoldable pub number_written : ℕ → ℕ → List ℕ → Outcome
 number_written n at out =
-    cond (leb (at + length (coding n)) (length out)) (outcome (gives success) (length (coding n)) (with_bytes out at (coding n))) (outcome (refuses 23) 0 out)
+    cond (leb (at + length (coding n)) (length out))
+    (outcome (gives success) (length (coding n)) (with_bytes out at (coding n)))
+    (outcome (refuses 23) 0 out)
 
 -- What the code's answer says: a refusal counts no byte as written.
 abbrev pub said_written : Result ℕ OutputShort → Answer Success

@@ -18,9 +18,11 @@ behind n (gives ns) = gives (n ∷ ns)
 behind n (refuses k) = refuses k
 
 -- "27 before 28 at each number": its form, then its value, then what follows.
-abbrev pub asking : (ℕ → Bool) → (List ℕ → Answer (List ℕ)) → List ℕ → Answer Number → Answer (List ℕ)
+abbrev pub asking : (ℕ → Bool) → (List ℕ → Answer (List ℕ)) → List ℕ → Answer Number
+    → Answer (List ℕ)
 asking question next bytes (refuses k) = refuses k
-asking question next bytes (gives r) = cond (question r.value) (behind r.value (next (drop r.count bytes))) (refuses 28)
+asking question next bytes (gives r) =
+    cond (question r.value) (behind r.value (next (drop r.count bytes))) (refuses 28)
 
 -- "29 if bytes follow the last field"
 abbrev pub at_end : List ℕ → Answer (List ℕ)
@@ -30,7 +32,8 @@ at_end (b ∷ bytes) = refuses 29
 -- "They are asked in reading order": the numbers of a string, a question to each.
 unfoldable pub numbers_read : List (ℕ → Bool) → List ℕ → Answer (List ℕ)
 numbers_read [] bytes = at_end bytes
-numbers_read (question ∷ questions) bytes = asking question (numbers_read questions) bytes (read_number bytes)
+numbers_read (question ∷ questions) bytes =
+    asking question (numbers_read questions) bytes (read_number bytes)
 
 -- ---- the numbers of a record
 
@@ -44,7 +47,8 @@ is_count version n = eqb n (field_count version)
 
 -- The questions of a record of a version, with that of the fifth field, which only version 2 has.
 abbrev pub questions_of : (ℕ → Bool) → ℕ → List (ℕ → Bool)
-questions_of fifth version = is_version ∷ is_count version ∷ four_values ++ cond (eqb version 1) [] (fifth ∷ [])
+questions_of fifth version =
+    is_version ∷ is_count version ∷ four_values ++ cond (eqb version 1) [] (fifth ∷ [])
 
 -- A record's version is its first number, if that is well formed.
 abbrev pub version_in : Answer Number → ℕ
@@ -56,7 +60,8 @@ record_read fifth bytes = numbers_read (questions_of fifth (version_in (read_num
 
 -- ---- the two readers
 
--- "From version 2 the version 1 reader shows the four fields as written, checking the fifth's form but not its range."
+-- "From version 2 the version 1 reader shows the four fields
+-- as written, checking the fifth's form but not its range."
 abbrev pub any_number : ℕ → Bool
 any_number n = true
 

@@ -1,4 +1,5 @@
--- Which numbers the fields may be. "Values: 1 to 3; the seven rates 10, 20, 40, 60, 80, 100, 200; 0 to 3; 0 to 7."
+-- Which numbers the fields may be. "Values: 1 to 3; the
+-- seven rates 10, 20, 40, 60, 80, 100, 200; 0 to 3; 0 to 7."
 use Rattle.std.specs.Prelude.{Bool, true, false, ◌&&◌, List, [], ◌∷◌, ℕ, leb}
 use Rattle.exchange.specs.Refuses.{among}
 

@@ -8,7 +8,8 @@ use Rattle.preferences.specs.Record.{within_values}
 use Rattle.preferences.specs.declared.coding.WriteRefusal.{WriteRefusal}
 use Rattle.preferences.specs.Format.{record_bytes}
 
--- "It gives 28, then 23 if the output is too short": the bytes of a record, or why they are refused, with so much room.
+-- "It gives 28, then 23 if the output is too short": the bytes of a record, or why they are
+-- refused, with so much room.
 abbrev pub fitting : ℕ → List ℕ → Answer (List ℕ)
 fitting room bytes = cond (leb (length bytes) room) (gives bytes) (refuses 23)
 

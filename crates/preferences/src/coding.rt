@@ -1,4 +1,5 @@
-// Preferences as bytes: version, field count, then the fields, each a number. A writer, and a reader for each version.
+// Preferences as bytes: version, field count, then the fields,
+// each a number. A writer, and a reader for each version.
 
 ghost use Rattle.std.specs.Prelude.{◌≡◌, ◌<◌, ◌≤◌, ◌++◌, true, false, length, drop, MatchResult};
 ghost use Rattle.preferences.specs.NumberWriting.{outcome, count_written};
@@ -113,9 +114,11 @@ fn number_at(input: &[u8], at: usize) -> Result<(u32, usize), ReadRefusal>
     Ok((number.value, at + number.count))
 }
 
-// A number that was read is accepted by its question, or outside its values: its form was asked before.
+// A number that was read is accepted by its question, or
+// outside its values: its form was asked before.
 fn accept(is_within: bool) -> Result<(), ReadRefusal>
-    ensures { MatchResult result (λ _. is_within ≡ true) (λ e. (is_within ≡ false) × (e ≡ ReadRefusal.OutsideValues)) }
+    ensures { MatchResult result (λ _. is_within ≡ true)
+        (λ e. (is_within ≡ false) × (e ≡ ReadRefusal.OutsideValues)) }
 {
     if is_within {
         Ok(())
@@ -126,7 +129,8 @@ fn accept(is_within: bool) -> Result<(), ReadRefusal>
 
 // No byte follows a place.
 fn end_at(input: &[u8], end: usize) -> Result<(), ReadRefusal>
-    ensures { MatchResult result (λ _. length input.now ≤ end) (λ e. (end < length input.now) × (e ≡ ReadRefusal.BytesFollow)) }
+    ensures { MatchResult result (λ _. length input.now ≤ end)
+        (λ e. (end < length input.now) × (e ≡ ReadRefusal.BytesFollow)) }
 {
     if input.len() <= end {
         Ok(())
@@ -135,7 +139,8 @@ fn end_at(input: &[u8], end: usize) -> Result<(), ReadRefusal>
     }
 }
 
-// Reads version and count, and answers the version with the place behind them: the count is judged by the version.
+// Reads version and count, and answers the version with the
+// place behind them: the count is judged by the version.
 fn read_head(input: &[u8]) -> Result<(Version, usize), ReadRefusal>
     ensures { Heads input.now result }
 {
@@ -233,10 +238,12 @@ fn put_all(numbers: &[u32], output: &mut [u8])
     }
 }
 
-// Writes numbers from the start of an output on, or nothing where they find no room, and answers how many bytes they take.
+// Writes numbers from the start of an output on, or nothing
+// where they find no room, and answers how many bytes they take.
 fn write_all(numbers: &[u32], output: &mut [u8]) -> Result<usize, WriteRefusal>
     requires { length numbers.now ≤ numbers_most }
-    ensures { outcome (said_written result) (count_written result) output.new ≡ leaves output.old (fitting (length output.old) (codings numbers.now)) }
+    ensures { outcome (said_written result) (count_written result) output.new
+        ≡ leaves output.old (fitting (length output.old) (codings numbers.now)) }
 {
     let length = codings_length(numbers);
     if output.len() < length {
@@ -250,7 +257,8 @@ fn write_all(numbers: &[u32], output: &mut [u8]) -> Result<usize, WriteRefusal>
 /// written stays as it was; a refusal writes nothing.
 /// Refused: outside values (28), then output full (23).
 pub fn write_preferences(preferences: Preferences, output: &mut [u8]) -> Result<usize, WriteRefusal>
-    ensures { outcome (said_written result) (count_written result) output.new ≡ leaves output.old (written (length output.old) preferences) }
+    ensures { outcome (said_written result) (count_written result) output.new
+        ≡ leaves output.old (written (length output.old) preferences) }
 {
     if !preferences.within_values() {
         return Err(WriteRefusal::OutsideValues);

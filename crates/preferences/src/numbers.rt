@@ -1,4 +1,5 @@
-// Numbers below 4,294,967,296 as bytes: groups of seven bits, lowest first, the top bit set on all but the last, in the shortest form.
+// Numbers below 4,294,967,296 as bytes: groups of seven bits, lowest first, the top bit set on all
+// but the last, in the shortest form.
 
 ghost use Rattle.std.specs.Prelude.{◌≡◌, ◌-◌, ◌≤◌, ◌<◌, length, drop, get_or};
 ghost use Rattle.exchange.specs.Answer.{number_answered};
@@ -79,7 +80,8 @@ pub fn read_number(input: &[u8], at: usize) -> Result<Number, Malformed>
 
 // Reads the other groups of a number, behind the first.
 fn read_groups(input: &[u8], at: usize, first: u64) -> Result<Number, Malformed>
-    requires { (at < length input.now) × (groups_end ≤ get_or input.now at 0) × (first ≡ get_or input.now at 0 - groups_end) }
+    requires { (at < length input.now) × (groups_end ≤ get_or input.now at 0)
+        × (first ≡ get_or input.now at 0 - groups_end) }
     ensures { said_number result ≡ read_number (drop at input.now) }
 {
     let mut value = first;
@@ -120,7 +122,8 @@ pub fn number_length(number: u32) -> usize
 /// Writes a number into an output from a place on, and tells how many bytes it takes. What is not
 /// written stays as it was; a refusal writes nothing.
 pub fn write_number(number: u32, output: &mut [u8], at: usize) -> Result<usize, OutputShort>
-    ensures { outcome (said_written result) (count_written result) output.new ≡ number_written number at output.old }
+    ensures { outcome (said_written result) (count_written result) output.new
+        ≡ number_written number at output.old }
 {
     let length = number_length(number);
     if output.len().saturating_sub(at) < length {

@@ -12,9 +12,11 @@ use Rattle.preferences.specs.Record.{within_values}
 use Rattle.preferences_application.specs.declared.Setting.{Setting}
 use Rattle.preferences_application.specs.Settings.{settings_of}
 
--- "the repeat byte is sent as F3 and the byte by the keyboard command rule, and its failure gives 4 to 7"
+-- "the repeat byte is sent as F3 and the byte by the
+-- keyboard command rule, and its failure gives 4 to 7"
 unfoldable pub set_keyboard_repeat : ℕ → Exchange (Answer Success)
-set_keyboard_repeat byte = and_then (keyboard_command SetRepeatRateAndDelay) (λ _. command_to_keyboard (Byte.RepeatRateAndDelay byte))
+set_keyboard_repeat byte = and_then (keyboard_command SetRepeatRateAndDelay)
+    (λ _. command_to_keyboard (Byte.RepeatRateAndDelay byte))
 
 -- The operation that sets each.
 unfoldable pub apply_setting : Setting → Exchange (Answer Success)
@@ -27,7 +29,8 @@ apply_setting (Setting.RepeatRateAndDelay byte) = set_keyboard_repeat byte
 -- "application to the devices in field order, ending at the first refusal with its number"
 unfoldable pub apply_settings : List Setting → Exchange (Answer Success)
 apply_settings [] = done (gives success)
-apply_settings (setting ∷ settings) = and_then (apply_setting setting) (λ _. apply_settings settings)
+apply_settings (setting ∷ settings) =
+    and_then (apply_setting setting) (λ _. apply_settings settings)
 
 -- "fields outside the values giving 28 before any read or write"
 unfoldable pub apply_preferences : Preferences → Exchange (Answer Success)

@@ -15,7 +15,8 @@ use Rattle.preferences.specs.declared.Preferences.TheVariants.{Version1, Version
 use Rattle.preferences_application.specs.declared.Setting.{Setting}
 
 -- ---- a field's number as what the device's own table lists for it
--- Every number within the values is listed (proofs/Bytes.antt); what stands for others is never sent.
+-- Every number within the values is listed
+-- (proofs/Bytes.antt); what stands for others is never sent.
 
 abbrev pub set_of : ℕ → ScancodeSet
 set_of n = result_unwrap_or (scancode_set_read n) Get

@@ -78,7 +78,8 @@ pub fn set_keyboard_repeat(script: &[u8], log: &mut [u8], byte: u8) -> Answer<()
 // Applies a record whose fields are within their values.
 fn apply_within(script: &[u8], log: &mut [u8], preferences: Preferences) -> Answer<()>
     requires { within_values preferences ≡ true }
-    ensures { told result log.new ≡ play (apply_settings (settings_of preferences)) script.now log.old }
+    ensures { told result log.new
+        ≡ play (apply_settings (settings_of preferences)) script.now log.old }
 {
     match preferences {
         Preferences::Version1(four) => apply_four(script, log, four),
@@ -89,7 +90,8 @@ fn apply_within(script: &[u8], log: &mut [u8], preferences: Preferences) -> Answ
 // Applies the four fields, and then the repeat byte.
 fn apply_five(script: &[u8], log: &mut [u8], four: Fields, again: u32) -> Answer<()>
     requires { within_values (Version2 four again) ≡ true }
-    ensures { told result log.new ≡ play (apply_settings (settings_of (Version2 four again))) script.now log.old }
+    ensures { told result log.new
+        ≡ play (apply_settings (settings_of (Version2 four again))) script.now log.old }
 {
     let applied = apply_four(script, log, four)?;
     let tail = 2 * applied.pairs;

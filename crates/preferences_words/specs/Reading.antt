@@ -5,7 +5,8 @@ use Rattle.preferences.specs.Format.{field_count}
 use Rattle.preferences_words.specs.declared.PreferencesReadWords.{PreferencesReadWords}
 use Rattle.preferences_words.specs.Record.{words_in}
 
--- The refusal's number, 0 where there is none, and the record's numbers: "Refused reading yields no field", and each of them is 0.
+-- The refusal's number, 0 where there is none, and the record's numbers: "Refused reading yields no
+-- field", and each of them is 0.
 abbrev pub told_read : Answer (List ℕ) → PreferencesReadWords
 told_read (gives ns) = record { refusal = 0; preferences = words_in ns }
 told_read (refuses k) = record { refusal = k; preferences = words_in [] }

@@ -11,11 +11,14 @@ use Rattle.preferences_words.specs.declared.PreferencesWords.{PreferencesWords}
 abbrev pub fields_in : PreferencesWords → Fields
 fields_in w = record { set = w.set; rate = w.rate; resolution = w.resolution; lamps = w.lamps }
 
--- "Version 1 has 4 fields. Version 2 adds a fifth, the repeat byte": the record that six numbers stand for. Any other version stands for nothing.
+-- "Version 1 has 4 fields. Version 2 adds a fifth, the repeat byte": the record that six numbers
+-- stand for. Any other version stands for nothing.
 unfoldable pub preferences_at : PreferencesWords → Option Preferences
-preferences_at w = cond (eqb w.version 1) (some (Version1 (fields_in w))) (cond (eqb w.version 2) (some (Version2 (fields_in w) w.repeat)) none)
+preferences_at w = cond (eqb w.version 1) (some (Version1 (fields_in w)))
+    (cond (eqb w.version 2) (some (Version2 (fields_in w) w.repeat)) none)
 
--- The numbers of a record as it is written, version and count first, as six: the count goes by the version, and a field that is not there is 0.
+-- The numbers of a record as it is written, version and count first, as six: the count goes by the
+-- version, and a field that is not there is 0.
 abbrev pub words_in : List ℕ → PreferencesWords
 words_in ns =
     record {

@@ -1,4 +1,5 @@
-// A club's preferences as six numbers: written into an output as bytes, read from bytes by either reader, and applied to the devices.
+// A club's preferences as six numbers: written into an output as bytes, read from bytes by either
+// reader, and applied to the devices.
 #![tactic(auto)]
 
 ghost use Rattle.std.specs.Prelude.{◌≡◌};
@@ -164,7 +165,8 @@ pub fn read_2(input: &[u8]) -> PreferencesReadWords
 /// Applies a record's fields to the devices, in their order. Where one is outside its values
 /// nothing is read or written; after a refusal the fields before it stay applied.
 pub fn apply(preferences: PreferencesWords, script: &[u8], log: &mut [u8]) -> PortWords
-    ensures { TellsAt (refusing invalid_argument) (told no_value) apply_preferences (preferences_at preferences) script.now log.old result log.new }
+    ensures { TellsAt (refusing invalid_argument) (told no_value) apply_preferences
+        (preferences_at preferences) script.now log.old result log.new }
 {
     let Some(known) = preferences_of(preferences) else {
         return refusing_words(INVALID_ARGUMENT);

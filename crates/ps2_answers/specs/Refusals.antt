@@ -45,7 +45,8 @@ abbrev pub refusal_number : Refusal → ℕ
 refusal_number (Lacking l) = lack_number (lack_of l)
 refusal_number (Failed f) = number_of f
 
--- What a refusal says of the end of a play: a lack is the play's own end, and any other number is the operation's answer.
+-- What a refusal says of the end of a play: a lack is the play's
+-- own end, and any other number is the operation's answer.
 abbrev pub refused : {A : Type 0} → Refusal → End (Answer A)
 refused (Lacking l) = lacks (lack_of l)
 refused (Failed f) = yields (refuses (number_of f))

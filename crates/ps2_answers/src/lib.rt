@@ -1,4 +1,5 @@
-// What the operations on the ports answer: refusals with their numbers, and answers with their counts.
+// What the operations on the ports answer: refusals with
+// their numbers, and answers with their counts.
 #![tactic(auto)]
 
 ghost use Rattle.std.specs.Prelude.{◌≡◌};

@@ -1,4 +1,5 @@
--- Commands: the bytes of the OSDev wiki's tables, which row of them each of our commands is, and which command to a device a byte stands for.
+-- Commands: the bytes of the OSDev wiki's tables, which row of them each of our commands is, and
+-- which command to a device a byte stands for.
 use Rattle.std.specs.Prelude.{List, [], ◌∷◌, ℕ, Result, Ok, Err}
 use Prim.Native.String.{String}
 use Rattle.bits.specs.Table.{rows, decode, listed}
@@ -12,7 +13,8 @@ use Rattle.ps2_bytes.specs.declared.command.HostToMouseCommand.TheVariants.{SetS
 
 -- ---- the controller, "8042 PS/2 Controller"
 
--- Its table of commands. Left out are the ranges: 21 to 3F and 61 to 7F (other bytes of internal RAM) and F0 to FF (pulses of output lines).
+-- Its table of commands. Left out are the ranges: 21 to 3F and 61 to 7F (other bytes of internal
+-- RAM) and F0 to FF (pulses of output lines).
 abbrev pub controller_commands : List (ℕ × String)
 controller_commands =
     (0x20, "read byte 0 of internal RAM")
@@ -38,7 +40,8 @@ controller_commands =
 -- The byte of a command is the one listed for its row.
 abbrev pub controller_byte : HostToControllerCommand → ℕ
 controller_byte ReadFromInternalRAMByte0 = listed controller_commands "read byte 0 of internal RAM"
-controller_byte WriteToInternalRAMByte0 = listed controller_commands "write the next data byte to byte 0 of internal RAM"
+controller_byte WriteToInternalRAMByte0 =
+    listed controller_commands "write the next data byte to byte 0 of internal RAM"
 controller_byte DisablePort2 = listed controller_commands "disable the second port"
 controller_byte EnablePort2 = listed controller_commands "enable the second port"
 controller_byte TestPort2 = listed controller_commands "test the second port"
@@ -46,11 +49,13 @@ controller_byte TestController = listed controller_commands "test the controller
 controller_byte TestPort1 = listed controller_commands "test the first port"
 controller_byte DisablePort1 = listed controller_commands "disable the first port"
 controller_byte EnablePort1 = listed controller_commands "enable the first port"
-controller_byte WriteByteToPort2InputBuffer = listed controller_commands "send the next data byte to the second port's device"
+controller_byte WriteByteToPort2InputBuffer =
+    listed controller_commands "send the next data byte to the second port's device"
 
 -- ---- the keyboard, "PS/2 Keyboard"
 
--- Its table of commands. Left out is the range F7 to FD (repeat and release of keys, scan code set 3 only).
+-- Its table of commands. Left out is the range F7 to FD
+-- (repeat and release of keys, scan code set 3 only).
 abbrev pub keyboard_commands : List (ℕ × String)
 keyboard_commands =
     (0xED, "set LEDs")
@@ -79,7 +84,8 @@ keyboard_byte ResetAndStartSelfTest = listed keyboard_commands "reset and self t
 abbrev pub to_keyboard_commands : List (ℕ × HostToKeyboardCommand)
 to_keyboard_commands =
     rows keyboard_byte
-    (SetLEDStatus ∷ ScancodeSet ∷ IdentifyKeyboard ∷ SetRepeatRateAndDelay ∷ EnableScanning ∷ DisableScanning ∷ ResendByte ∷ ResetAndStartSelfTest ∷ [])
+    (SetLEDStatus ∷ ScancodeSet ∷ IdentifyKeyboard ∷ SetRepeatRateAndDelay ∷ EnableScanning
+    ∷ DisableScanning ∷ ResendByte ∷ ResetAndStartSelfTest ∷ [])
 
 -- A byte as a command.
 abbrev pub keyboard_read : ℕ → Result HostToKeyboardCommand Unlisted
@@ -108,7 +114,8 @@ mouse_commands =
     ∷ (0xFF, "reset")
     ∷ []
 
--- The byte of a command is the one listed for its row. The Rust's one SetScaling is the wiki's scaling 1:1.
+-- The byte of a command is the one listed for its row. The
+-- Rust's one SetScaling is the wiki's scaling 1:1.
 abbrev pub mouse_byte : HostToMouseCommand → ℕ
 mouse_byte SetScaling = listed mouse_commands "set scaling 1:1"
 mouse_byte SetResolution = listed mouse_commands "set resolution"
@@ -129,8 +136,10 @@ mouse_byte Reset = listed mouse_commands "reset"
 abbrev pub to_mouse_commands : List (ℕ × HostToMouseCommand)
 to_mouse_commands =
     rows mouse_byte
-    (SetScaling ∷ SetResolution ∷ StatusRequest ∷ SetStreamMode ∷ ReadData ∷ ResetWrapMode ∷ SetWrapMode ∷ SetRemoteMode
-    ∷ GetDeviceID ∷ SampleRate ∷ EnableDataReporting ∷ DisableDataReporting ∷ SetDefaults ∷ MouseResendByte ∷ Reset ∷ [])
+    (SetScaling ∷ SetResolution ∷ StatusRequest ∷ SetStreamMode ∷ ReadData ∷ ResetWrapMode
+    ∷ SetWrapMode ∷ SetRemoteMode
+    ∷ GetDeviceID ∷ SampleRate ∷ EnableDataReporting ∷ DisableDataReporting ∷ SetDefaults
+    ∷ MouseResendByte ∷ Reset ∷ [])
 
 -- A byte as a command.
 abbrev pub mouse_read : ℕ → Result HostToMouseCommand Unlisted
@@ -138,7 +147,8 @@ mouse_read b = decode Ok (Err (record { 0 = b })) to_mouse_commands b
 
 -- ---- what is not sent
 
--- The wiki's commands that the Rust has none for: diagnosis and the controller's own ports; echo and defaults of the keyboard; the mouse's scaling 2:1.
+-- The wiki's commands that the Rust has none for: diagnosis and the controller's own ports; echo
+-- and defaults of the keyboard; the mouse's scaling 2:1.
 abbrev pub controller_unsent : List ℕ
 controller_unsent = 0xAC ∷ 0xC0 ∷ 0xC1 ∷ 0xC2 ∷ 0xD0 ∷ 0xD1 ∷ 0xD2 ∷ 0xD3 ∷ []
 

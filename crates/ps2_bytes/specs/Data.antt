@@ -1,4 +1,5 @@
--- Data bytes that follow a command to a device: the byte of each value, and what a byte stands for; one that stands for nothing is handed back.
+-- Data bytes that follow a command to a device: the byte of each value, and what a byte stands for;
+-- one that stands for nothing is handed back.
 use Rattle.std.specs.Prelude.{List, [], ◌∷◌, ℕ, Result, Ok, Err}
 use Rattle.bits.specs.Table.{rows, decode}
 use Rattle.ps2_bytes.specs.declared.Unlisted.{Unlisted}

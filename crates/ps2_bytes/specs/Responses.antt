@@ -1,4 +1,5 @@
--- Answers of the controller and of the devices: the byte of each, and what a byte stands for; one that stands for nothing is handed back.
+-- Answers of the controller and of the devices: the byte of each, and what a byte stands for; one
+-- that stands for nothing is handed back.
 use Rattle.std.specs.Prelude.{List, [], ◌∷◌, ℕ, Result, Ok, Err}
 use Rattle.bits.specs.Table.{rows, decode}
 use Rattle.ps2_bytes.specs.declared.Unlisted.{Unlisted}
@@ -30,7 +31,8 @@ port_test_read b = decode Ok (Err (record { 0 = b })) port_test_results b
 
 -- ---- a device's response, the special bytes of "PS/2 Keyboard"
 
--- 00 and FF key detection error or buffer overrun; AA self test passed; EE echo; FA acknowledge; FC, FD self test failed; FE resend.
+-- 00 and FF key detection error or buffer overrun; AA self test passed; EE echo; FA acknowledge;
+-- FC, FD self test failed; FE resend.
 abbrev pub response_byte : DeviceToHostResponse → ℕ
 response_byte KeyDetectionErrorOrInternalBufferOverrun1 = 0x00
 response_byte SelfTestPassed = 0xAA
@@ -45,7 +47,8 @@ abbrev pub responses : List (ℕ × DeviceToHostResponse)
 responses =
     rows response_byte
     (KeyDetectionErrorOrInternalBufferOverrun1 ∷ SelfTestPassed ∷ ResponseToEcho ∷ Acknowledge
-    ∷ SelfTestFailed1 ∷ SelfTestFailed2 ∷ ResendCommand ∷ KeyDetectionErrorOrInternalBufferOverrun2 ∷ [])
+    ∷ SelfTestFailed1 ∷ SelfTestFailed2 ∷ ResendCommand ∷ KeyDetectionErrorOrInternalBufferOverrun2
+    ∷ [])
 
 -- A byte as a response.
 abbrev pub response_read : ℕ → Result DeviceToHostResponse Unlisted

@@ -1,4 +1,5 @@
--- What is written to the data port: the byte of the configuration, of a command to a device, or of a command's data.
+-- What is written to the data port: the byte of the configuration,
+-- of a command to a device, or of a command's data.
 use Rattle.std.specs.Prelude.{ℕ}
 use Rattle.ps2_bytes.specs.Commands.{keyboard_byte, mouse_byte}
 use Rattle.ps2_bytes.specs.Data.{scancode_set_byte, sample_rate_byte, resolution_byte}

@@ -1,4 +1,5 @@
-// The bytes of the 8042 PS/2 controller and its devices that stand for one thing each: commands, data, responses.
+// The bytes of the 8042 PS/2 controller and its devices
+// that stand for one thing each: commands, data, responses.
 #![tactic(auto)]
 
 mod command;

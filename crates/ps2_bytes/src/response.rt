@@ -6,7 +6,8 @@ ghost use Rattle.ps2_bytes.specs.Responses.{port_test_read, response_read, mouse
 
 use crate::Unlisted;
 
-// As in data.rt, each type has its own `match`: its rows are what is to be read. A case has its number where a byte is made of it.
+// As in data.rt, each type has its own `match`: its rows are what is to be read. A case has its
+// number where a byte is made of it.
 
 /// What a port test found.
 #[derive(Clone, Copy, PartialEq, Eq)]

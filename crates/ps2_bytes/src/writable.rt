@@ -1,4 +1,5 @@
-// What can be written to the data port: the configuration, or a byte for a device, which is a command or a command's data.
+// What can be written to the data port: the configuration, or a byte for a device, which is a
+// command or a command's data.
 ghost use Rattle.std.specs.Prelude.{◌≡◌};
 ghost use Rattle.ps2_bytes.specs.Writable.{to_keyboard, to_mouse, to_device, written};
 

@@ -42,7 +42,9 @@ attempt value = bind (polling_send_receive value) (λ a. done (settled a))
 unfoldable pub command : HostToDevice → Exchange (Answer Success)
 command value = repeat attempts (refuses 7) (attempt value)
 
--- "A keyboard command makes at most 525,300 reads and 4 writes, a mouse command as many reads and 5 writes": four attempts, each a sending of 255 status reads and a receiving of 65,535 polls of two reads.
+-- "A keyboard command makes at most 525,300 reads and 4 writes, a mouse
+-- command as many reads and 5 writes": four attempts, each a sending of
+-- 255 status reads and a receiving of 65,535 polls of two reads.
 abbrev pub command_reads : ℕ
 command_reads = 525300
 

@@ -7,11 +7,13 @@ use Rattle.exchange.specs.Search.{Search, script_after}
 use Rattle.ps2_answers.specs.Refusals.{success, Success}
 use Rattle.ps2_command.specs.Search.{self_test_turn, DataBrings}
 
--- The command FF was accepted, and after all the bytes that it used, AA came with one of n data reads.
+-- The command FF was accepted, and after all the bytes that
+-- it used, AA came with one of n data reads.
 pub record OwnAA (ff : Exchange (Answer Success)) (n : ℕ) (script log : List ℕ) : Type 0 where
   pub command : (play ff script log).end ≡ yields (gives success)
   pub rest : List ℕ
-  pub further : Search (DataBrings self_test_turn) n (found (gives success)) (script_after ff script log) rest
+  pub further : Search (DataBrings self_test_turn) n (found (gives success))
+      (script_after ff script log) rest
 
 -- The command FF was accepted, and after all the bytes that it used, n data reads brought no AA.
 pub record NoAA (ff : Exchange (Answer Success)) (n : ℕ) (script log : List ℕ) : Type 0 where

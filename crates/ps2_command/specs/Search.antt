@@ -27,9 +27,12 @@ self_test_within reads = repeat reads (refuses 10) (data_turn self_test_turn)
 -- ---- what a script brings to them
 
 -- A poll on this script comes to x and leaves the rest.
-pub data PollBrings {A : Type 0} (ready : ℕ → Bool) (worth : ℕ → Turn A) : List ℕ → Turn A → List ℕ → Type 0 where
-  nothing_there : {status : ℕ} {script : List ℕ} → ready status ≡ false → PollBrings ready worth (status ∷ script) again script
-  brought : {status b : ℕ} {script : List ℕ} → ready status ≡ true → PollBrings ready worth (status ∷ b ∷ script) (worth b) script
+pub data PollBrings {A : Type 0} (ready : ℕ → Bool) (worth : ℕ → Turn A) : List ℕ → Turn A → List ℕ
+    → Type 0 where
+  nothing_there : {status : ℕ} {script : List ℕ} → ready status ≡ false
+      → PollBrings ready worth (status ∷ script) again script
+  brought : {status b : ℕ} {script : List ℕ} → ready status ≡ true
+      → PollBrings ready worth (status ∷ b ∷ script) (worth b) script
 
 -- A read of data on this script comes to x and leaves the rest.
 pub data DataBrings {A : Type 0} (worth : ℕ → Turn A) : List ℕ → Turn A → List ℕ → Type 0 where

@@ -1,4 +1,5 @@
-// The command rule: a byte is sent to a device up to four times, until its response settles the matter. And what a reset waits for.
+// The command rule: a byte is sent to a device up to four times, until its response settles the
+// matter. And what a reset waits for.
 #![tactic(auto)]
 
 ghost use Rattle.std.specs.Prelude.{ℕ, true, Some, None, ◌≡◌, ◌/◌, ◌<◌, ◌≤◌, ◌++◌, length, drop};
@@ -36,7 +37,8 @@ const ACKNOWLEDGE: u8 = 0xFA;
 /// What a command comes to, with the bytes that its whole run threw away.
 pub type Commanded = Handed<()>;
 
-// What a response says of the command: whether it is accepted, or else another attempt is to be made; or why it failed.
+// What a response says of the command: whether it is accepted,
+// or else another attempt is to be made; or why it failed.
 fn verdict(response: DeviceToHostResponse) -> Result<bool, Failure>
     ensures { said_verdict result ≡ verdict_rule response }
 {
@@ -60,13 +62,16 @@ fn attempt_once(
     value: HostToDevice,
     kept: &mut KeptBytes,
 ) -> Answer<bool>
-    ensures { played (kept_end (turn_end accepted result) kept.new) (used_of result) (pairs_of result) log.new ≡ play (keeping_onto kept.old (attempt_rule value)) script.now log.old }
+    ensures { played (kept_end (turn_end accepted result) kept.new) (used_of result)
+        (pairs_of result) log.new
+        ≡ play (keeping_onto kept.old (attempt_rule value)) script.now log.old }
 {
     let response = polling_send_receive(script, log, value, kept)?;
     response.conclude(verdict(response.value))
 }
 
-// A command to the device of the first port, or to whichever the controller was told to send the next byte to.
+// A command to the device of the first port, or to whichever
+// the controller was told to send the next byte to.
 // A bounded `loop` that yields by `break`, with the log's tail lent.
 fn command_onto(
     script: &[u8],
@@ -74,7 +79,8 @@ fn command_onto(
     value: HostToDevice,
     kept: &mut KeptBytes,
 ) -> Answer<()>
-    ensures { told_kept result kept.new log.new ≡ play (keeping_onto kept.old (command_rule value)) script.now log.old }
+    ensures { told_kept result kept.new log.new
+        ≡ play (keeping_onto kept.old (command_rule value)) script.now log.old }
 {
     let mut at = Counted::new(false);
     let mut attempts = ATTEMPTS;
@@ -91,14 +97,16 @@ fn command_onto(
     }
 }
 
-// A command to the device of the second port: the controller is told once to send the next byte there.
+// A command to the device of the second port: the
+// controller is told once to send the next byte there.
 fn command_to_port2_onto(
     script: &[u8],
     log: &mut [u8],
     value: HostToDevice,
     kept: &mut KeptBytes,
 ) -> Answer<()>
-    ensures { told_kept result kept.new log.new ≡ play (keeping_onto kept.old (command_to_port2 value)) script.now log.old }
+    ensures { told_kept result kept.new log.new
+        ≡ play (keeping_onto kept.old (command_to_port2 value)) script.now log.old }
 {
     let told = write_command(log, HostToControllerCommand::WriteByteToPort2InputBuffer)?;
     let tail = 2 * told.pairs;
@@ -113,7 +121,8 @@ fn command_by_onto(
     value: HostToDevice,
     kept: &mut KeptBytes,
 ) -> Answer<()>
-    ensures { told_kept result kept.new log.new ≡ play (keeping_onto kept.old (command_by port value)) script.now log.old }
+    ensures { told_kept result kept.new log.new
+        ≡ play (keeping_onto kept.old (command_by port value)) script.now log.old }
 {
     match port {
         DevicePort::Port1 => command_onto(script, log, value, kept),
@@ -130,7 +139,9 @@ fn command_pair_keeping(
     second: HostToDevice,
     kept: &mut KeptBytes,
 ) -> Answer<()>
-    ensures { told_kept result kept.new log.new ≡ play (keeping_onto kept.old (and_then (command_by port first) (λ _. command_by port second))) script.now log.old }
+    ensures { told_kept result kept.new log.new
+        ≡ play (keeping_onto kept.old
+        (and_then (command_by port first) (λ _. command_by port second))) script.now log.old }
 {
     let done = command_by_onto(script, log, port, first, kept)?;
     let tail = 2 * done.pairs;
@@ -147,7 +158,9 @@ pub fn command_pair_onto(
     second: HostToDevice,
     before: KeptBytes,
 ) -> Commanded
-    ensures { PlaysKeptTold (keeping_onto before (and_then (command_by port first) (λ _. command_by port second))) script.now log.old result.answer log.new result.kept }
+    ensures { PlaysKeptTold (keeping_onto before
+        (and_then (command_by port first) (λ _. command_by port second))) script.now log.old
+        result.answer log.new result.kept }
 {
     let mut kept = before;
     let answer = command_pair_keeping(script, log, port, first, second, &mut kept);
@@ -157,8 +170,8 @@ pub fn command_pair_onto(
     }
 }
 
-// The bytes of polls that find nothing, and of the one after them that brings FA. `None` where it brings another byte, or none of
-// them brings one.
+// The bytes of polls that find nothing, and of the one after them that brings FA. `None` where it
+// brings another byte, or none of them brings one.
 fn heard(script: &[u8]) -> Option<usize>
     ensures is { result ≡ heard_within poll_limit script.now }
     ensures within { (used : ℕ) → result ≡ Some used → used ≤ length script.now }
@@ -190,7 +203,8 @@ fn heard_at_first(script: &[u8]) -> bool
     false
 }
 
-// The script bytes of a command that a device acknowledges before it sends any other byte, where the first status lets it be sent.
+// The script bytes of a command that a device acknowledges before it sends any other byte, where
+// the first status lets it be sent.
 // `None` for any other.
 fn acknowledged(script: &[u8]) -> Option<usize>
     ensures is { result ≡ acknowledged script.now }
@@ -206,9 +220,12 @@ fn acknowledged(script: &[u8]) -> Option<usize>
     Some(1 + heard(polls)?)
 }
 
-// Puts these pairs at the start of the log where it has room for all of them, and tells how many they are.
+// Puts these pairs at the start of the log where it has
+// room for all of them, and tells how many they are.
 fn put_pairs(log: &mut [u8], pairs: &[u8]) -> Option<usize>
-    ensures fits { length pairs.now ≤ length log.old → (result ≡ Some (length pairs.now / 2)) × (log.new ≡ pairs.now ++ drop (length pairs.now) log.old) }
+    ensures fits { length pairs.now ≤ length log.old
+        → (result ≡ Some (length pairs.now / 2))
+        × (log.new ≡ pairs.now ++ drop (length pairs.now) log.old) }
     ensures full { length log.old < length pairs.now → (result ≡ None) × (log.new ≡ log.old) }
 {
     if log.len() < pairs.len() {
@@ -235,8 +252,8 @@ fn two_to(port: DevicePort, log: &mut [u8], first: u8, second: u8) -> Option<usi
 }
 
 /// Two commands to a device that acknowledges both before it sends any other byte, so that nothing
-/// is thrown away: the bytes used and the pairs written. For any other device, and for a log without
-/// room, nothing is done, and the answer is `None`.
+/// is thrown away: the bytes used and the pairs written. For any other device, and for a log
+/// without room, nothing is done, and the answer is `None`.
 pub fn command_pair_acknowledged(
     script: &[u8],
     log: &mut [u8],
@@ -244,7 +261,8 @@ pub fn command_pair_acknowledged(
     first: HostToDevice,
     second: HostToDevice,
 ) -> Option<Counted<()>>
-    ensures { TwoAcknowledged port (and_then (command_by port first) (λ _. command_by port second)) script.now log.old result log.new }
+    ensures { TwoAcknowledged port (and_then (command_by port first) (λ _. command_by port second))
+        script.now log.old result log.new }
 {
     let once = acknowledged(script)?;
     let twice = acknowledged(&script[once..])?;
@@ -259,7 +277,8 @@ pub fn command_pair_acknowledged(
 /// A command to the device of either port, with no byte kept before it.
 /// At most four attempts. Refused: 2 to 5, self test failed (6), not acknowledged (7).
 pub fn command_by(script: &[u8], log: &mut [u8], port: DevicePort, value: HostToDevice) -> Commanded
-    ensures { PlaysKeptTold (keeping_thrown (command_by port value)) script.now log.old result.answer log.new result.kept }
+    ensures { PlaysKeptTold (keeping_thrown (command_by port value)) script.now log.old
+        result.answer log.new result.kept }
 {
     let mut kept = none_kept();
     let answer = command_by_onto(script, log, port, value, &mut kept);
@@ -277,7 +296,9 @@ pub fn command_pair(
     first: HostToDevice,
     second: HostToDevice,
 ) -> Commanded
-    ensures { PlaysKeptTold (keeping_thrown (and_then (command_by port first) (λ _. command_by port second))) script.now log.old result.answer log.new result.kept }
+    ensures { PlaysKeptTold (keeping_thrown
+        (and_then (command_by port first) (λ _. command_by port second))) script.now log.old
+        result.answer log.new result.kept }
 {
     command_pair_onto(script, log, port, first, second, none_kept())
 }

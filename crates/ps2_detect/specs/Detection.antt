@@ -25,9 +25,11 @@ outer_search = repeat poll_limit none (poll first_turn)
 -- "41 or C1 translated, 83 plain"
 abbrev pub second_bytes : List (ℕ × KeyboardType)
 second_bytes =
-    (0x41, MF2KeyboardWithPSControllerTranslator) ∷ (0xC1, MF2KeyboardWithPSControllerTranslator) ∷ (0x83, MF2Keyboard) ∷ []
+    (0x41, MF2KeyboardWithPSControllerTranslator) ∷ (0xC1, MF2KeyboardWithPSControllerTranslator)
+    ∷ (0x83, MF2Keyboard) ∷ []
 
--- "Did `keyboard_detect` recognise a type? 12" 00 is the ancient type; AB starts the inner search, which ends the outer one too, found or not.
+-- "Did `keyboard_detect` recognise a type? 12" 00 is the ancient type; AB starts the inner search,
+-- which ends the outer one too, found or not.
 unfoldable pub inner_search : Exchange (Answer KeyboardType)
 inner_search = repeat poll_limit (refuses 12) (poll (listed_turn second_bytes))
 
@@ -44,4 +46,5 @@ unfoldable pub keyboard_detect : Exchange (Answer KeyboardType)
 keyboard_detect =
     and_then (keyboard_command Command.DisableScanning)
     (λ _. and_then (keyboard_command Command.IdentifyKeyboard)
-    (λ _. bind type_search (λ type. and_then (keyboard_command Command.EnableScanning) (λ _. done type))))
+    (λ _. bind type_search (λ type.
+    and_then (keyboard_command Command.EnableScanning) (λ _. done type))))

@@ -15,7 +15,8 @@ use ps2_keyboard::command_to_keyboard;
 use ps2_polling::{POLL_LIMIT, poll_data};
 use ps2_ports::DevicePort;
 
-// The first byte of a keyboard's identity: an ancient keyboard has no other, and the others have a second one.
+// The first byte of a keyboard's identity: an ancient
+// keyboard has no other, and the others have a second one.
 const ANCIENT: u8 = 0x00;
 
 const MF2: u8 = 0xAB;
@@ -42,7 +43,8 @@ pub fn keyboard_detect(script: &[u8], log: &mut [u8]) -> Answer<KeyboardType>
     asked.then(identify(&script[asked.used..], &mut log[tail..]))
 }
 
-// Searches for the type. Scanning is enabled again whether one was recognised or not, and not where the script ended.
+// Searches for the type. Scanning is enabled again whether
+// one was recognised or not, and not where the script ended.
 fn identify(script: &[u8], log: &mut [u8]) -> Answer<KeyboardType>
     ensures { told result log.new ≡ play identification script.now log.old }
 {
@@ -67,7 +69,8 @@ fn enable_scanning(
     accepted.conclude(found)
 }
 
-// Polls for the keyboard's identity. After AB the inner search decides, and the outer one does not go on.
+// Polls for the keyboard's identity. After AB the inner
+// search decides, and the outer one does not go on.
 // Nested `loop`s, left by a label.
 fn poll_keyboard_type(script: &[u8]) -> Answer<KeyboardType>
     ensures { ReadsTold type_search script.now result }

@@ -8,6 +8,8 @@ use Rattle.ps2_answers.specs.Refusals.{Success}
 use Rattle.ps2_answers.specs.Answers.{ended}
 use Rattle.ps2_init.specs.declared.PS2Controller.{PS2Controller}
 
--- An answer that comes with the record as it is left. A lack says nothing of the record; `record_after` does.
-abbrev pub said_init : Result (Counted Success) (Counted Refusal) → PS2Controller → End (Left PS2Controller Success)
+-- An answer that comes with the record as it is left. A
+-- lack says nothing of the record; `record_after` does.
+abbrev pub said_init : Result (Counted Success) (Counted Refusal) → PS2Controller
+    → End (Left PS2Controller Success)
 said_init answer c = told_end (λ a. left a c) (ended answer)

@@ -1,4 +1,5 @@
--- Initialisation of the controller as a tree of its reads and writes, and the devices that it found.
+-- Initialisation of the controller as a tree of its reads
+-- and writes, and the devices that it found.
 use Rattle.std.specs.Prelude.{Bool, true, cond, Option, Some, None}
 use Rattle.bits.specs.Bits.{bit}
 use Rattle.exchange.specs.Exchange.{Exchange, done, bind}
@@ -24,18 +25,22 @@ use Rattle.ps2_init.specs.declared.PS2Keyboard.{PS2Keyboard}
 abbrev pub has_mouse : ControllerConfigurationByte → Bool
 has_mouse as_read = bit port2_clock_disabled as_read.bits
 
--- "Reset keyboard, then mouse (always tried); a passed reset makes its 'attached' true, a failed one only makes it false."
+-- "Reset keyboard, then mouse (always tried); a passed reset
+-- makes its 'attached' true, a failed one only makes it false."
 abbrev pub with_devices : Bool → Bool → PS2Controller
-with_devices keyboard mouse = record { initialized = true; keyboard_attached = keyboard; mouse_attached = mouse }
+with_devices keyboard mouse =
+    record { initialized = true; keyboard_attached = keyboard; mouse_attached = mouse }
 
 unfoldable pub reset_devices : Exchange PS2Controller
-reset_devices = bind (succeeds reset_keyboard) (λ keyboard. bind (succeeds reset_mouse) (λ mouse. done (with_devices keyboard mouse)))
+reset_devices = bind (succeeds reset_keyboard)
+    (λ keyboard. bind (succeeds reset_mouse) (λ mouse. done (with_devices keyboard mouse)))
 
 -- "Then 20 and one read". What it gives is the controller as it is then.
 abbrev pub read_last : PS2Controller → Exchange (Answer PS2Controller)
 read_last controller = and_then read_config (λ _. done (gives controller))
 
--- All of them, said from the last on: from the enabling of the ports, from their tests, from the controller's test, and from the start.
+-- All of them, said from the last on: from the enabling of the ports, from their tests, from the
+-- controller's test, and from the start.
 abbrev pub enabled : ControllerConfigurationByte → WorkingPorts → Exchange (Answer PS2Controller)
 enabled config ports = and_then (enable_ports ports config) (λ _. bind reset_devices read_last)
 
@@ -57,9 +62,11 @@ or_passed passed (refuses n) = left (refuses n) passed
 
 -- "At initialisation: is the controller not yet initialised? 1"
 unfoldable pub initialize : PS2Controller → Exchange (Left PS2Controller Success)
-initialize passed = cond passed.initialized (done (left (refuses 1) passed)) (bind set_up (λ a. done (or_passed passed a)))
+initialize passed = cond passed.initialized (done (left (refuses 1) passed))
+    (bind set_up (λ a. done (or_passed passed a)))
 
--- ---- the devices, by the "attached" flags; a mouse has identity 0 until `set_mouse_id` finds another
+-- ---- the devices, by the "attached" flags; a mouse has
+-- identity 0 until `set_mouse_id` finds another
 
 abbrev pub keyboard_ref : PS2Controller → Option PS2Keyboard
 keyboard_ref c = cond c.keyboard_attached (Some (record {})) None

@@ -1,5 +1,5 @@
-// Initialisation of the controller, and the devices that it found. Its steps are numbered and named as the OSDev Wiki's
-// (crates/ps2_setup).
+// Initialisation of the controller, and the devices that it found. Its steps are numbered and named
+// as the OSDev Wiki's (crates/ps2_setup).
 #![tactic(auto)]
 
 ghost use Rattle.std.specs.Prelude.{◌≡◌};
@@ -39,7 +39,8 @@ pub struct Initialized {
 /// were done.
 /// Refused: already initialized (1), 2, 3, controller test failed (8), port test failed (9).
 pub fn init(controller: PS2Controller, script: &[u8], log: &mut [u8]) -> Initialized
-    ensures { PlaysLeftTold said_init (initialize controller) controller script.now log.old result.answer log.new result.controller }
+    ensures { PlaysLeftTold said_init (initialize controller) controller script.now log.old
+        result.answer log.new result.controller }
 {
     if controller.initialized {
         return Initialized {
@@ -106,7 +107,8 @@ fn set_up(script: &[u8], log: &mut [u8]) -> Answer<PS2Controller>
 }
 
 // Step 10: Reset Devices
-// Resets the keyboard and then the mouse, whether the keyboard's reset passed or not. The configuration is read once more; the Rust logs it.
+// Resets the keyboard and then the mouse, whether the keyboard's reset passed or not. The
+// configuration is read once more; the Rust logs it.
 fn reset_devices(script: &[u8], log: &mut [u8]) -> Answer<PS2Controller>
     ensures { told result log.new ≡ play (bind reset_devices read_last) script.now log.old }
 {

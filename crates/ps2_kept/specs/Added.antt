@@ -15,7 +15,8 @@ unfoldable pub added : KeptBytes → ℕ → KeptBytes
 added k b =
     cond (ltb k.count kept_limit)
     (record { bytes = set k.bytes k.count b; count = k.count + 1; others = k.others })
-    (cond (ltb k.others others_limit) (record { bytes = k.bytes; count = k.count; others = k.others + 1 }) k)
+    (cond (ltb k.others others_limit)
+    (record { bytes = k.bytes; count = k.count; others = k.others + 1 }) k)
 
 -- Several more, one after another.
 unfoldable pub added_all : KeptBytes → List ℕ → KeptBytes

@@ -13,7 +13,8 @@ unlisted b = decode (λ _. false) true responses b
 abbrev pub thrown : List ℕ → ℕ → List ℕ
 thrown l b = cond (unlisted b) (l ++ (b ∷ [])) l
 
--- The same of the accesses that were made: the bytes that reads of port 60 brought and that are unlisted.
+-- The same of the accesses that were made: the bytes that
+-- reads of port 60 brought and that are unlisted.
 abbrev pub thrown_in : List Access → List ℕ
 thrown_in [] = []
 thrown_in (brought p60 b ∷ more) = cond (unlisted b) (b ∷ thrown_in more) (thrown_in more)

@@ -39,13 +39,17 @@ reset_reads = 262140
 
 -- "Reset sends FF by the command rule, then reads without status until a further AA."
 unfoldable pub reset_keyboard : Exchange (Answer Success)
-reset_keyboard = and_then (keyboard_command Command.ResetAndStartSelfTest) (λ _. self_test_within reset_reads)
+reset_keyboard =
+    and_then (keyboard_command Command.ResetAndStartSelfTest) (λ _. self_test_within reset_reads)
 
 -- ---- lamps
 
--- "the lamp exchange (ED, then scroll 1, number 2, caps 4 added)", over some way to a keyboard. "Did the lamp exchange succeed? 14"
-unfoldable pub set_led_by : (HostToKeyboardCommandOrData → Exchange (Answer Success)) → LEDState → Exchange (Answer Success)
-set_led_by way leds = refusing_as 14 (and_then (way (Byte.KeyboardCommand Command.SetLEDStatus)) (λ _. way (Byte.LEDState leds)))
+-- "the lamp exchange (ED, then scroll 1, number 2, caps 4 added)", over some way to a keyboard.
+-- "Did the lamp exchange succeed? 14"
+unfoldable pub set_led_by : (HostToKeyboardCommandOrData → Exchange (Answer Success)) → LEDState
+    → Exchange (Answer Success)
+set_led_by way leds = refusing_as 14
+    (and_then (way (Byte.KeyboardCommand Command.SetLEDStatus)) (λ _. way (Byte.LEDState leds)))
 
 -- To the keyboard of the first port.
 unfoldable pub set_keyboard_led : LEDState → Exchange (Answer Success)
@@ -59,15 +63,19 @@ set_port_led port leds = set_led_by (λ value. command_by port (Keyboard value))
 
 -- F0 and its byte: 00 asks for the set, 1 to 3 set it.
 unfoldable pub command_scancode_set : ScancodeSet → Exchange (Answer Success)
-command_scancode_set set = and_then (keyboard_command Command.ScancodeSet) (λ _. command_to_keyboard (Byte.ScancodeSet set))
+command_scancode_set set = and_then (keyboard_command Command.ScancodeSet)
+    (λ _. command_to_keyboard (Byte.ScancodeSet set))
 
--- "F0, 00, polls for a byte 0 to 3". "Did the scancode set (0 to 3) .. come within 65,535 polls? 11"
+-- "F0, 00, polls for a byte 0 to 3". "Did the scancode set
+-- (0 to 3) .. come within 65,535 polls? 11"
 unfoldable pub get_scancode_set : Exchange (Answer ScancodeSet)
-get_scancode_set = and_then (command_scancode_set Set.Get) (λ _. repeat poll_limit (refuses 11) (poll (listed_turn scancode_sets)))
+get_scancode_set = and_then (command_scancode_set Set.Get)
+    (λ _. repeat poll_limit (refuses 11) (poll (listed_turn scancode_sets)))
 
 -- "F0, the set, F0, 00, polls for a byte 0 to 3; a different set still succeeds."
 unfoldable pub set_scancode_set : ScancodeSet → Exchange (Answer Success)
-set_scancode_set set = and_then (command_scancode_set set) (λ _. and_then get_scancode_set (λ _. done (gives success)))
+set_scancode_set set =
+    and_then (command_scancode_set set) (λ _. and_then get_scancode_set (λ _. done (gives success)))
 
 -- ---- one byte
 
@@ -77,4 +85,5 @@ read_scancode = read_data
 
 -- Whether there is a byte to read: bit 0 of the status.
 unfoldable pub keyboard_output_buffer_full : Exchange (Answer Bool)
-keyboard_output_buffer_full = and_then read_status (λ status. done (gives (bit output_buffer_full status.bits)))
+keyboard_output_buffer_full =
+    and_then read_status (λ status. done (gives (bit output_buffer_full status.bits)))

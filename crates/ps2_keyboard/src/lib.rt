@@ -32,7 +32,8 @@ pub fn command_to_keyboard(
     log: &mut [u8],
     value: HostToKeyboardCommandOrData,
 ) -> Commanded
-    ensures { PlaysKeptTold (keeping_thrown (command_to_keyboard value)) script.now log.old result.answer log.new result.kept }
+    ensures { PlaysKeptTold (keeping_thrown (command_to_keyboard value)) script.now log.old
+        result.answer log.new result.kept }
 {
     command_by(
         script,
@@ -60,7 +61,8 @@ pub fn reset_keyboard(script: &[u8], log: &mut [u8]) -> Answer<()>
 /// Sets the keyboard's lamps, and hands back the bytes that the exchange threw away.
 /// ED and the lamps' byte. Refused: 2, 3, LEDs not set (14).
 pub fn set_keyboard_led(script: &[u8], log: &mut [u8], value: LEDState) -> Commanded
-    ensures { PlaysKeptTold (keeping_thrown (set_keyboard_led value)) script.now log.old result.answer log.new result.kept }
+    ensures { PlaysKeptTold (keeping_thrown (set_keyboard_led value)) script.now log.old
+        result.answer log.new result.kept }
 {
     if let Some(done) = set_port_led_acknowledged(script, log, DevicePort::Port1, value) {
         return Commanded {
@@ -79,7 +81,8 @@ pub fn set_port_led_onto(
     value: LEDState,
     before: KeptBytes,
 ) -> Commanded
-    ensures { PlaysKeptTold (keeping_onto before (set_port_led port value)) script.now log.old result.answer log.new result.kept }
+    ensures { PlaysKeptTold (keeping_onto before (set_port_led port value)) script.now log.old
+        result.answer log.new result.kept }
 {
     let c = command_pair_onto(
         script,
@@ -97,9 +100,9 @@ pub fn set_port_led_onto(
     }
 }
 
-/// The same where the keyboard acknowledges both bytes before it sends any other: the bytes used and
-/// the pairs written. Where it doesn't, or the log has no room, nothing is done, and the answer is
-/// `None`.
+/// The same where the keyboard acknowledges both bytes before it sends
+/// any other: the bytes used and the pairs written. Where it doesn't,
+/// or the log has no room, nothing is done, and the answer is `None`.
 pub fn set_port_led_acknowledged(
     script: &[u8],
     log: &mut [u8],

@@ -1,4 +1,5 @@
-// The configuration byte, byte 0 of the controller's internal RAM: command 20 reads it, command 60 writes it.
+// The configuration byte, byte 0 of the controller's
+// internal RAM: command 20 reads it, command 60 writes it.
 ghost use Rattle.std.specs.Prelude.{◌≡◌};
 ghost use Rattle.bits.specs.Bits.{bit, put_bit, weigh};
 ghost use Rattle.ps2_layouts.specs.Configuration.{port1_interrupt, port2_interrupt, system_flag, should_be_zero, port1_clock_disabled, port2_clock_disabled, port1_translation, must_be_zero};

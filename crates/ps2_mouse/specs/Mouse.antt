@@ -36,18 +36,23 @@ mouse_command c = command_to_mouse (Byte.MouseCommand c)
 abbrev pub reset_reads : ℕ
 reset_reads = 196605
 
--- "Reset sends FF by the command rule, then reads without status until a further AA; the mouse reads one byte more and drops it."
+-- "Reset sends FF by the command rule, then reads without status until a further AA; the mouse
+-- reads one byte more and drops it."
 unfoldable pub reset_mouse : Exchange (Answer Success)
-reset_mouse = and_then (mouse_command Command.Reset) (λ _. and_then (self_test_within reset_reads) (λ _. flush_output_buffer))
+reset_mouse = and_then (mouse_command Command.Reset)
+    (λ _. and_then (self_test_within reset_reads) (λ _. flush_output_buffer))
 
 -- ---- settings
 
 -- "Did setting the sampling rate (F3, rate) or the resolution (E8, 0 to 3) succeed? 15"
 unfoldable pub set_sampling_rate : MouseSampleRate → Exchange (Answer Success)
-set_sampling_rate rate = refusing_as 15 (and_then (mouse_command Command.SampleRate) (λ _. command_to_mouse (Byte.SampleRate rate)))
+set_sampling_rate rate = refusing_as 15
+    (and_then (mouse_command Command.SampleRate) (λ _. command_to_mouse (Byte.SampleRate rate)))
 
 unfoldable pub set_resolution : MouseResolution → Exchange (Answer Success)
-set_resolution resolution = refusing_as 15 (and_then (mouse_command Command.SetResolution) (λ _. command_to_mouse (Byte.MouseResolution resolution)))
+set_resolution resolution = refusing_as 15
+    (and_then (mouse_command Command.SetResolution)
+    (λ _. command_to_mouse (Byte.MouseResolution resolution)))
 
 -- "Stopping packets? 16. Starting them? 17"
 unfoldable pub disable_packet_streaming : Exchange (Answer Success)
@@ -64,8 +69,10 @@ mouse_byte_waits status = bit output_buffer_full status && bit second_port_outpu
 
 -- F2; "Did the .. mouse identity (0, 3, 4) come within 65,535 polls? 11"
 unfoldable pub mouse_id : Exchange (Answer MouseId)
-mouse_id = and_then (mouse_command Command.GetDeviceID) (λ _. repeat poll_limit (refuses 11) (poll_when mouse_byte_waits (listed_turn mouse_ids)))
+mouse_id = and_then (mouse_command Command.GetDeviceID)
+    (λ _. repeat poll_limit (refuses 11) (poll_when mouse_byte_waits (listed_turn mouse_ids)))
 
 -- Whether there is a byte of the mouse to read.
 unfoldable pub mouse_output_buffer_full : Exchange (Answer Bool)
-mouse_output_buffer_full = and_then read_status (λ status. done (gives (mouse_byte_waits status.bits)))
+mouse_output_buffer_full =
+    and_then read_status (λ status. done (gives (mouse_byte_waits status.bits)))

@@ -1,4 +1,5 @@
-// The mouse: its commands, its reset, its settings and the question for its identity. Script and log stand side by side in each call.
+// The mouse: its commands, its reset, its settings and the question for its identity. Script and
+// log stand side by side in each call.
 #![tactic(auto)]
 
 ghost use Rattle.std.specs.Prelude.{◌≡◌};
@@ -60,7 +61,8 @@ impl PS2Mouse {
         log: &mut [u8],
         value: HostToMouseCommandOrData,
     ) -> Commanded
-        ensures { PlaysKeptTold (keeping_thrown (command_to_mouse value)) script.now log.old result.answer log.new result.kept }
+        ensures { PlaysKeptTold (keeping_thrown (command_to_mouse value)) script.now log.old
+            result.answer log.new result.kept }
     {
         command_by(script, log, DevicePort::Port2, HostToDevice::Mouse(value))
     }
@@ -167,7 +169,9 @@ fn setting(
     command: HostToMouseCommand,
     value: HostToMouseCommandOrData,
 ) -> Answer<()>
-    ensures { told result log.new ≡ play (refusing_as 15 (and_then (mouse_command command) (λ _. command_to_mouse value))) script.now log.old }
+    ensures { told result log.new
+        ≡ play (refusing_as 15 (and_then (mouse_command command) (λ _. command_to_mouse value)))
+        script.now log.old }
 {
     let both = command_pair(
         script,
@@ -179,9 +183,11 @@ fn setting(
     failing_as(both.answer, Failure::RateOrResolutionNotSet)
 }
 
-// Reads data, without asking the status, until the mouse says that it passed its self test, and one byte more.
+// Reads data, without asking the status, until the mouse
+// says that it passed its self test, and one byte more.
 fn read_self_test_and_id(script: &[u8]) -> Answer<()>
-    ensures { ReadsTold (and_then (self_test_within reset_reads) (λ _. flush_output_buffer)) script.now result }
+    ensures { ReadsTold (and_then (self_test_within reset_reads) (λ _. flush_output_buffer))
+        script.now result }
 {
     let passed = read_self_test_result(script, RESET_READS)?;
     passed.then(flush_output_buffer(&script[passed.used..]))
@@ -189,7 +195,8 @@ fn read_self_test_and_id(script: &[u8]) -> Answer<()>
 
 // Polls until an identity comes: a bounded loop that yields it by `break`.
 fn receive_mouse_id(script: &[u8]) -> Answer<MouseId>
-    ensures { ReadsTold (repeat poll_limit (refuses 11) (poll_when mouse_byte_waits (listed_turn mouse_ids))) script.now result }
+    ensures { ReadsTold (repeat poll_limit (refuses 11)
+        (poll_when mouse_byte_waits (listed_turn mouse_ids))) script.now result }
 {
     let mut at = Counted::new(None);
     let mut polls = POLL_LIMIT;
@@ -207,7 +214,8 @@ fn receive_mouse_id(script: &[u8]) -> Answer<MouseId>
 
 // One poll: reads data where the status says that there is a byte of the mouse.
 fn poll_mouse_id(script: &[u8]) -> Answer<Option<MouseId>>
-    ensures { ReadsTurn identified (poll_when mouse_byte_waits (listed_turn mouse_ids)) script.now result }
+    ensures { ReadsTurn identified (poll_when mouse_byte_waits (listed_turn mouse_ids)) script.now
+        result }
 {
     let full = PS2Mouse::is_output_buffer_full(script)?;
     if full.value {

@@ -11,10 +11,13 @@ use Rattle.ps2_answers.specs.Answers.{ended}
 use Rattle.ps2_mouse.specs.declared.PS2Mouse.{PS2Mouse}
 use Rattle.ps2_mouse_identity.specs.Identity.{read_id}
 
--- An answer that comes with the record as it is left. A lack says nothing of the record; `record_after` does.
-abbrev pub said_mouse : Result (Counted Success) (Counted Refusal) → PS2Mouse → End (Left PS2Mouse Success)
+-- An answer that comes with the record as it is left. A
+-- lack says nothing of the record; `record_after` does.
+abbrev pub said_mouse : Result (Counted Success) (Counted Refusal) → PS2Mouse
+    → End (Left PS2Mouse Success)
 said_mouse answer mouse = told_end (λ a. left a mouse) (ended answer)
 
--- What asking for an identity brought: "A failed first identity is forgiven", and brought none; "2 and 3 are .. forgiven by nothing". That none leaves the old one, `after_first` and `read_or` say.
+-- What asking for an identity brought: "A failed first identity is forgiven", and brought none; "2
+-- and 3 are .. forgiven by nothing". That none leaves the old one, `after_first` and `read_or` say.
 abbrev pub identity_brought : End (Answer MouseId) → End (Answer (Option MouseId))
 identity_brought asked = told_end (λ id. gives (read_id id)) asked

@@ -21,9 +21,11 @@ abbrev pub read_id : Answer MouseId → Option MouseId
 read_id (gives id) = Some id
 read_id (refuses n) = None
 
--- Rates, and then the identity, if it could be read: which refusal F2 gave is forgotten here, as "a failed first identity is forgiven".
+-- Rates, and then the identity, if it could be read: which refusal F2 gave is forgotten here, as "a
+-- failed first identity is forgiven".
 unfoldable pub identity_if_read : List MouseSampleRate → Exchange (Answer (Option MouseId))
-identity_if_read rates = and_then (set_rates rates) (λ _. bind mouse_id (λ id. done (gives (read_id id))))
+identity_if_read rates =
+    and_then (set_rates rates) (λ _. bind mouse_id (λ id. done (gives (read_id id))))
 
 -- "rates 200, 100, 80", which ask for identity 3; "rates 200, 200, 80", which ask for 4.
 abbrev pub wheel_rates : List MouseSampleRate
@@ -40,20 +42,26 @@ read_or old (refuses n) = old
 unfoldable pub second_identity : MouseId → Exchange (Answer MouseId)
 second_identity old = bind mouse_id (λ second. done (gives (read_or old second)))
 
--- "A failed first identity is forgiven. It, and a first identity of 0, leave the record's identity as it was. On 3: rates 200, 200, 80, identity." "Was the first identity in `set_mouse_id` other than 4? 13"
+-- "A failed first identity is forgiven. It, and a first identity of 0,
+-- leave the record's identity as it was. On 3: rates 200, 200, 80,
+-- identity." "Was the first identity in `set_mouse_id` other than 4? 13"
 abbrev pub after_first : MouseId → Answer MouseId → Exchange (Answer MouseId)
 after_first old (refuses n) = done (gives old)
 after_first old (gives Zero) = done (gives old)
 after_first old (gives Three) = and_then (set_rates button_rates) (λ _. second_identity old)
 after_first old (gives Four) = done (refuses 13)
 
--- "F5; rates 200, 100, 80; identity (F2)", and what follows it: the identity that the mouse is to have.
+-- "F5; rates 200, 100, 80; identity (F2)", and what follows
+-- it: the identity that the mouse is to have.
 unfoldable pub new_identity : MouseId → Exchange (Answer MouseId)
-new_identity old = and_then disable_packet_streaming (λ _. and_then (set_rates wheel_rates) (λ _. bind mouse_id (λ first. after_first old first)))
+new_identity old = and_then disable_packet_streaming
+    (λ _. and_then (set_rates wheel_rates) (λ _. bind mouse_id (λ first. after_first old first)))
 
--- "Then F4." "After 17 the mouse has the identity that success would have left; after 13, 15 and 16 the one it had."
+-- "Then F4." "After 17 the mouse has the identity that success
+-- would have left; after 13, 15 and 16 the one it had."
 abbrev pub start_packets : PS2Mouse → Answer MouseId → Exchange (Left PS2Mouse Success)
-start_packets mouse (gives id) = bind enable_packet_streaming (λ a. done (left a (record { id = id })))
+start_packets mouse (gives id) =
+    bind enable_packet_streaming (λ a. done (left a (record { id = id })))
 start_packets mouse (refuses n) = done (left (refuses n) mouse)
 
 unfoldable pub set_mouse_id : PS2Mouse → Exchange (Left PS2Mouse Success)

@@ -7,7 +7,8 @@ use Rattle.ps2_bytes.specs.declared.response.MouseId.{MouseId}
 use Rattle.ps2_answers.specs.Refusals.{Success, success}
 use Rattle.ps2_mouse.specs.declared.PS2Mouse.{PS2Mouse}
 
--- What it left of the record that was passed: any identity with success, and with 17; the one it had with 13, 15 and 16. There is no other answer.
+-- What it left of the record that was passed: any identity with success, and with 17; the one it
+-- had with 13, 15 and 16. There is no other answer.
 pub data Kept (mouse : PS2Mouse) : Left PS2Mouse Success → Type 0 where
   started : {id : MouseId} → Kept mouse (left (gives success) (record { id = id }))
   not_started : {id : MouseId} → Kept mouse (left (refuses 17) (record { id = id }))

@@ -1,4 +1,5 @@
-// `set_mouse_id`: the sequence of sampling rates that asks a mouse to take on another identity. Script and log stand side by side in each call.
+// `set_mouse_id`: the sequence of sampling rates that asks a mouse to take on another identity.
+// Script and log stand side by side in each call.
 #![tactic(auto)]
 
 ghost use Rattle.std.specs.Prelude.{◌≡◌};
@@ -26,7 +27,8 @@ pub struct MouseLeft {
 /// Refused: 2, 3, first identity four (13), rate or resolution not set (15), packets not stopped
 /// (16), packets not started (17).
 pub fn set_mouse_id(mouse: PS2Mouse, script: &[u8], log: &mut [u8]) -> MouseLeft
-    ensures { PlaysLeftTold said_mouse (set_mouse_id mouse) mouse script.now log.old result.answer log.new result.mouse }
+    ensures { PlaysLeftTold said_mouse (set_mouse_id mouse) mouse script.now log.old result.answer
+        log.new result.mouse }
 {
     let mut left = mouse;
     let answer = change_id(&mut left, script, log);
@@ -38,7 +40,8 @@ pub fn set_mouse_id(mouse: PS2Mouse, script: &[u8], log: &mut [u8]) -> MouseLeft
 
 // The same, with the record changed where it lies.
 fn change_id(mouse: &mut PS2Mouse, script: &[u8], log: &mut [u8]) -> Answer<()>
-    ensures { PlaysLeftTold said_mouse (set_mouse_id mouse.old) mouse.old script.now log.old result log.new mouse.new }
+    ensures { PlaysLeftTold said_mouse (set_mouse_id mouse.old) mouse.old script.now log.old result
+        log.new mouse.new }
 {
     let id = new_identity(script, log, mouse.id)?;
     let tail = 2 * id.pairs;
@@ -70,9 +73,12 @@ fn new_identity(script: &[u8], log: &mut [u8], old: MouseId) -> Answer<MouseId>
     stopped.then(wheel_identity(&script[stopped.used..], &mut log[tail..], old))
 }
 
-// The rates that ask a mouse with a wheel to take on identity 3, and what follows its answer; a failure to read it is forgiven.
+// The rates that ask a mouse with a wheel to take on identity 3, and what follows its answer; a
+// failure to read it is forgiven.
 fn wheel_identity(script: &[u8], log: &mut [u8], old: MouseId) -> Answer<MouseId>
-    ensures { told result log.new ≡ play (and_then (set_rates wheel_rates) (λ _. bind mouse_id_rule (λ first. after_first old first))) script.now log.old }
+    ensures { told result log.new
+        ≡ play (and_then (set_rates wheel_rates)
+        (λ _. bind mouse_id_rule (λ first. after_first old first))) script.now log.old }
 {
     let first = identity_after(
         script,
@@ -94,9 +100,11 @@ fn wheel_identity(script: &[u8], log: &mut [u8], old: MouseId) -> Answer<MouseId
     }
 }
 
-// The rates that ask a mouse with five buttons to take on identity 4, and what it then says that it is; a failure to read it leaves the old one.
+// The rates that ask a mouse with five buttons to take on identity 4, and what it then says that it
+// is; a failure to read it leaves the old one.
 fn button_identity(script: &[u8], log: &mut [u8], old: MouseId) -> Answer<MouseId>
-    ensures { told result log.new ≡ play (and_then (set_rates button_rates) (λ _. second_identity old)) script.now log.old }
+    ensures { told result log.new
+        ≡ play (and_then (set_rates button_rates) (λ _. second_identity old)) script.now log.old }
 {
     let second = identity_after(
         script,
@@ -110,7 +118,8 @@ fn button_identity(script: &[u8], log: &mut [u8], old: MouseId) -> Answer<MouseI
     Ok(second.with(second.value.unwrap_or(old)))
 }
 
-// Sets rates, and then asks the mouse for its identity; what follows where it can't be read is for the caller to say.
+// Sets rates, and then asks the mouse for its identity; what
+// follows where it can't be read is for the caller to say.
 fn identity_after(
     script: &[u8],
     log: &mut [u8],
@@ -133,9 +142,11 @@ fn forgiven(asked: Answer<MouseId>) -> Answer<Option<MouseId>>
     Ok(id.with(id.value.ok()))
 }
 
-// Starts the packets of a mouse that is to have this identity. Its record has it if the script and the log did not end before.
+// Starts the packets of a mouse that is to have this identity. Its record has it if the script and
+// the log did not end before.
 fn start_packets(script: &[u8], log: &mut [u8], mouse: &mut PS2Mouse, id: MouseId) -> Answer<()>
-    ensures { PlaysLeftTold said_mouse (start_packets mouse.old (gives id)) mouse.old script.now log.old result log.new mouse.new }
+    ensures { PlaysLeftTold said_mouse (start_packets mouse.old (gives id)) mouse.old script.now
+        log.old result log.new mouse.new }
 {
     let started = PS2Mouse::enable_mouse_packet_streaming(script, log);
     if outcome(started).is_ok() {

@@ -20,7 +20,8 @@ by_fours packet (a ∷ b ∷ []) = []
 by_fours packet (a ∷ b ∷ c ∷ []) = []
 by_fours packet (a ∷ b ∷ c ∷ d ∷ more) = packet a b c d ∷ by_fours packet more
 
--- The packets that some bytes are: "a packet is 3 bytes at identity 0, 4 at 3 and 4", and "a last packet cut short is not counted".
+-- The packets that some bytes are: "a packet is 3 bytes at identity 0, 4 at 3 and 4", and "a last
+-- packet cut short is not counted".
 abbrev pub packets_of : MouseId → List ℕ → List MousePacket
 packets_of Identity.Zero bytes = by_threes bytes
 packets_of Identity.Three bytes = by_fours (λ a b c d. Three (packet3 a b c d)) bytes

@@ -6,7 +6,8 @@ use Rattle.bits.specs.Bits.{bit}
 abbrev pub less_if : Bool → ℕ → ℕ → ℤ
 less_if sign m value = cond sign (pos value -ℤ pos m) (pos value)
 
--- The n lowest bits of x in two's complement: their number, less 2 ^ n where the topmost of them is set.
+-- The n lowest bits of x in two's complement: their number,
+-- less 2 ^ n where the topmost of them is set.
 abbrev pub twos_complement : ℕ → ℕ → ℤ
 twos_complement zero x = pos 0
 twos_complement (suc n) x = less_if (bit n x) (2 ^ suc n) (x % 2 ^ suc n)

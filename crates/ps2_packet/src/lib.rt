@@ -46,7 +46,8 @@ const X_OVERFLOW: u8 = 6;
 
 const Y_OVERFLOW: u8 = 7;
 
-// The bits of byte 4 at identity 4; the four below button 4 are the wheel, and the topmost of them is its sign where it is signed.
+// The bits of byte 4 at identity 4; the four below button 4 are the wheel, and the topmost of them
+// is its sign where it is signed.
 const WHEEL_SIGN: u8 = 3;
 
 const BUTTON_4: u8 = 4;
@@ -131,7 +132,8 @@ impl MousePacketGeneric {
     }
 }
 
-// A movement: `bit1to8`, or all ones on overflow, less 256 where the ninth bit is set. Byte 1 has these two bits where the caller says.
+// A movement: `bit1to8`, or all ones on overflow, less 256 where the ninth bit is set. Byte 1 has
+// these two bits where the caller says.
 // Nothing is chosen: bytes by chance would mislead a choice half the time.
 fn moved(byte1: u8, overflow: u8, bit9: u8, bit1to8: u8) -> i64
     ensures { result ≡ movement (bit overflow byte1) (bit bit9 byte1) bit1to8 }

@@ -18,12 +18,16 @@ three_bytes next = read p60 (λ b1. read p60 (λ b2. read p60 (λ b3. next b1 b2
 -- "A packet is 3 bytes at identity 0, 4 at 3 and 4, read without asking the status."
 unfoldable pub read_mouse_packet : MouseId → Exchange (Answer MousePacket)
 read_mouse_packet Zero = three_bytes (λ b1 b2 b3. done (gives (Packet.Zero (generic b1 b2 b3))))
-read_mouse_packet Three = three_bytes (λ b1 b2 b3. read p60 (λ b4. done (gives (Packet.Three (packet3 b1 b2 b3 b4)))))
-read_mouse_packet Four = three_bytes (λ b1 b2 b3. read p60 (λ b4. done (gives (Packet.Four (packet4 b1 b2 b3 b4)))))
+read_mouse_packet Three =
+    three_bytes (λ b1 b2 b3. read p60 (λ b4. done (gives (Packet.Three (packet3 b1 b2 b3 b4)))))
+read_mouse_packet Four =
+    three_bytes (λ b1 b2 b3. read p60 (λ b4. done (gives (Packet.Four (packet4 b1 b2 b3 b4)))))
 
--- "Add a packet read that differs from the Rust's in this alone": the same packet is read, and its wheel is signed.
+-- "Add a packet read that differs from the Rust's in this
+-- alone": the same packet is read, and its wheel is signed.
 unfoldable pub read_signed_packet : MouseId → Exchange (Answer SignedPacket)
-read_signed_packet id = and_then (read_mouse_packet id) (λ packet. done (gives (signed_packet packet)))
+read_signed_packet id =
+    and_then (read_mouse_packet id) (λ packet. done (gives (signed_packet packet)))
 
 -- ---- parts of it that are functions of their own in the code
 

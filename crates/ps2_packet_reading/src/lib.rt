@@ -49,7 +49,8 @@ pub fn read_signed_packet(id: MouseId, script: &[u8]) -> Answer<SignedPacket>
 
 // Three bytes of data, one after another.
 fn read_three(script: &[u8]) -> Answer<FirstBytes>
-    ensures { ReadsTold (three_bytes (λ b1 b2 b3. done (gives (first_bytes b1 b2 b3)))) script.now result }
+    ensures { ReadsTold (three_bytes (λ b1 b2 b3. done (gives (first_bytes b1 b2 b3)))) script.now
+        result }
 {
     let one = read_data(script)?;
     let two = one.then(read_data(&script[one.used..]))?;

@@ -1,4 +1,5 @@
--- Polling: sending a byte to a device, receiving a response, and the controller's tests, as operations on the ports.
+-- Polling: sending a byte to a device, receiving a response,
+-- and the controller's tests, as operations on the ports.
 use Rattle.std.specs.Prelude.{cond, ℕ, eqb, Option, Some, None}
 use Rattle.bits.specs.Bits.{bit}
 use Rattle.bits.specs.Table.{decode}
@@ -17,16 +18,20 @@ use Rattle.ps2_answers.specs.Refusals.{Success, success}
 use Rattle.ps2_ports.specs.Ports.{write_command}
 use Rattle.ps2_polling.specs.declared.Waiting.{Waiting}
 
--- The limits: 255 status reads of a sending; 65,535 polls of a receiving, and data reads of the controller's test.
+-- The limits: 255 status reads of a sending; 65,535 polls
+-- of a receiving, and data reads of the controller's test.
 abbrev pub send_tries : ℕ
 send_tries = 255
 
 abbrev pub poll_limit : ℕ
 poll_limit = 65535
 
--- "Sending: was bit 1 of the status clear in one of 255 status reads? 4" The byte goes to port 60 as soon as the input buffer is empty.
+-- "Sending: was bit 1 of the status clear in one of 255 status reads? 4" The byte goes to port 60
+-- as soon as the input buffer is empty.
 unfoldable pub send_try : ℕ → Exchange (Turn (Answer Success))
-send_try byte = read p64 (λ status. cond (bit input_buffer_full status) (done again) (write p60 byte (done (found (gives success)))))
+send_try byte = read p64 (λ status.
+    cond (bit input_buffer_full status) (done again)
+    (write p60 byte (done (found (gives success)))))
 
 unfoldable pub polling_send : HostToDevice → Exchange (Answer Success)
 polling_send value = repeat send_tries (refuses 4) (send_try (to_device value))
@@ -35,9 +40,11 @@ polling_send value = repeat send_tries (refuses 4) (send_try (to_device value))
 abbrev pub data_turn : {A : Type 0} → (ℕ → Turn A) → Exchange (Turn A)
 data_turn worth = read p60 (λ b. done (worth b))
 
--- "A poll reads the status; if bit 0 is set it reads data." An unlisted byte is thrown away and uses up the poll.
+-- "A poll reads the status; if bit 0 is set it reads data."
+-- An unlisted byte is thrown away and uses up the poll.
 unfoldable pub poll : {A : Type 0} → (ℕ → Turn A) → Exchange (Turn A)
-poll worth = read p64 (λ status. cond (bit output_buffer_full status) (data_turn worth) (done again))
+poll worth =
+    read p64 (λ status. cond (bit output_buffer_full status) (data_turn worth) (done again))
 
 -- The poll by itself: whatever byte it brings ends it.
 abbrev pub poll_data : Exchange (Turn (Answer ℕ))
@@ -67,7 +74,8 @@ abbrev pub passed_turn : ℕ → ℕ → Turn (Answer Success)
 passed_turn good b = cond (eqb b good) (found (gives success)) again
 
 unfoldable pub controller_test_result : Exchange (Answer Success)
-controller_test_result = repeat poll_limit (refuses 8) (data_turn (passed_turn controller_test_passed))
+controller_test_result =
+    repeat poll_limit (refuses 8) (data_turn (passed_turn controller_test_passed))
 
 unfoldable pub test_controller : Exchange (Answer Success)
 test_controller = and_then (write_command TestController) (λ _. controller_test_result)

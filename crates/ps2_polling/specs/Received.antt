@@ -17,10 +17,12 @@ data_read (wrote p v ∷ more) = data_read more
 
 -- The byte that the answer is, where there is one.
 pub data AnsweredBy : Answer DeviceToHostResponse → List ℕ → Type 0 where
-  by_response : {b : ℕ} {r : DeviceToHostResponse} → response_read b ≡ Ok r → AnsweredBy (gives r) (b ∷ [])
+  by_response : {b : ℕ} {r : DeviceToHostResponse} → response_read b ≡ Ok r
+      → AnsweredBy (gives r) (b ∷ [])
   by_none : {n : ℕ} → AnsweredBy (refuses n) []
 
--- Of the data bytes that were read, all but the response were thrown away, and are in the list of those that were.
+-- Of the data bytes that were read, all but the response
+-- were thrown away, and are in the list of those that were.
 pub record NothingLost (made : List Access) (a : Answer DeviceToHostResponse) : Type 0 where
   pub last : List ℕ
   pub answered : AnsweredBy a last

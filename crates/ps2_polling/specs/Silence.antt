@@ -10,12 +10,15 @@ pub record FirstBytes (P : ℕ → Type 0) (n : ℕ) (script : List ℕ) : Type 
   pub there : n ≤ length script
   pub each : (i : ℕ) → i < n → P (get_or script i 0)
 
--- The script begins with n polls that bring nothing: each a status byte with bit 0 clear, or one with bit 0 set and a data byte that is thrown away. Such a byte uses up its poll.
+-- The script begins with n polls that bring nothing: each a status byte with bit 0 clear, or one
+-- with bit 0 set and a data byte that is thrown away. Such a byte uses up its poll.
 pub data SilentPolls (ThrownAway : ℕ → Type 0) : ℕ → List ℕ → Type 0 where
   over : {script : List ℕ} → SilentPolls ThrownAway 0 script
-  no_data : {n status : ℕ} {script : List ℕ} → bit output_buffer_full status ≡ false → SilentPolls ThrownAway n script
+  no_data : {n status : ℕ} {script : List ℕ} → bit output_buffer_full status ≡ false
+      → SilentPolls ThrownAway n script
       → SilentPolls ThrownAway (suc n) (status ∷ script)
-  thrown_away : {n status b : ℕ} {script : List ℕ} → bit output_buffer_full status ≡ true → ThrownAway b → SilentPolls ThrownAway n script
+  thrown_away : {n status b : ℕ} {script : List ℕ} → bit output_buffer_full status ≡ true
+      → ThrownAway b → SilentPolls ThrownAway n script
       → SilentPolls ThrownAway (suc n) (status ∷ b ∷ script)
 
 -- A byte that is none of 00, AA, EE, FA, FC, FD, FE and FF.

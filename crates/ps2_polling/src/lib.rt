@@ -114,7 +114,8 @@ pub fn read_test_result(
     turns: u32,
     failure: Failure,
 ) -> Answer<()>
-    ensures { ReadsTold (repeat turns (refuses (number_of failure)) (turn_of waiting (passed_turn passed))) script.now result }
+    ensures { ReadsTold (repeat turns (refuses (number_of failure))
+        (turn_of waiting (passed_turn passed))) script.now result }
 {
     let mut at = Counted::new(None);
     let mut left = turns;
@@ -151,7 +152,8 @@ pub fn polling_send_receive(
     value: HostToDevice,
     kept: &mut KeptBytes,
 ) -> Answer<DeviceToHostResponse>
-    ensures { PlaysLentTold kept.old (polling_send_receive value) script.now log.old result log.new kept.new }
+    ensures { PlaysLentTold kept.old (polling_send_receive value) script.now log.old result log.new
+        kept.new }
 {
     let lent = *kept;
     let sent = polling_send(script, log, value)?;
@@ -197,7 +199,8 @@ pub fn polling_receive(script: &[u8]) -> Received
 // The same, with what is thrown away added where the bytes kept before lie. After 2 they are of no
 // use: each caller drops them.
 fn polling_receive_keeping(script: &[u8], kept: &mut KeptBytes) -> Answer<DeviceToHostResponse>
-    ensures { Reads (keeping_onto kept.old polling_receive) script.now (kept_end (ended result) kept.new) (used_of result) (pairs_of result) }
+    ensures { Reads (keeping_onto kept.old polling_receive) script.now
+        (kept_end (ended result) kept.new) (used_of result) (pairs_of result) }
 {
     let mut at = Counted::new(None);
     let mut polls = POLL_LIMIT;

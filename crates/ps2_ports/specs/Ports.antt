@@ -1,4 +1,5 @@
--- The registers of the controller, as operations on its ports. Data is port 60; status and commands are port 64.
+-- The registers of the controller, as operations on its
+-- ports. Data is port 60; status and commands are port 64.
 use Rattle.std.specs.Prelude.{ℕ}
 use Rattle.exchange.specs.Exchange.{Port, p60, p64, Exchange, done, read, write}
 use Rattle.exchange.specs.Answer.{Answer, gives}
@@ -28,7 +29,8 @@ read_status = read p64 (λ b. done (gives (record { bits = b })))
 unfoldable pub flush_output_buffer : Exchange (Answer Success)
 flush_output_buffer = read p60 (λ b. done (gives success))
 
--- A controller command goes to port 64; a configuration or a byte for a device goes to port 60. Neither asks the status first.
+-- A controller command goes to port 64; a configuration or a byte for a device goes to port 60.
+-- Neither asks the status first.
 abbrev pub write_command : HostToControllerCommand → Exchange (Answer Success)
 write_command c = write_port p64 (controller_byte c)
 
@@ -37,7 +39,9 @@ write_data d = write_port p60 (written d)
 
 -- The configuration byte: command 20 and one read of data; command 60 and the byte.
 unfoldable pub read_config : Exchange (Answer ControllerConfigurationByte)
-read_config = write p64 (controller_byte ReadFromInternalRAMByte0) (read p60 (λ b. done (gives (record { bits = b }))))
+read_config = write p64 (controller_byte ReadFromInternalRAMByte0)
+    (read p60 (λ b. done (gives (record { bits = b }))))
 
 unfoldable pub write_config : ControllerConfigurationByte → Exchange (Answer Success)
-write_config c = write p64 (controller_byte WriteToInternalRAMByte0) (write p60 c.bits (done (gives success)))
+write_config c =
+    write p64 (controller_byte WriteToInternalRAMByte0) (write p60 c.bits (done (gives success)))

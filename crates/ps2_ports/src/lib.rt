@@ -42,7 +42,8 @@ fn read_port(script: &[u8], port: ReadPort) -> Answer<u8>
 
 // A write puts its pair where two bytes are free; a lone last byte of the log stays as it is.
 fn write_port(log: &mut [u8], port: u8, value: u8) -> Answer<()>
-    ensures { (p : Port) → port ≡ number p → WritesTold (write_port p value) log.old result log.new }
+    ensures { (p : Port) → port ≡ number p
+        → WritesTold (write_port p value) log.old result log.new }
 {
     if log.len() < 2 {
         return Err(Counted::new(Refusal::Lacking(Lack::Log)));

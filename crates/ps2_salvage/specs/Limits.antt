@@ -15,6 +15,10 @@ pub record Limits (id : MouseId) (room places : ℕ) (bytes : List ℕ) : Type 0
   pub done : (unhindered id bytes).answer ≡ Ok tt
   pub tail : Short id (drop (unhindered id bytes).used bytes)
   -- what it fills is enough
-  pub enough : length (unhindered id bytes).packets ≤ room → length (unhindered id bytes).positions ≤ places → salvaged id room places bytes ≡ unhindered id bytes
+  pub enough : length (unhindered id bytes).packets ≤ room
+      → length (unhindered id bytes).positions ≤ places → salvaged id room places bytes
+      ≡ unhindered id bytes
   -- and no less is
-  pub too_little : (room < length (unhindered id bytes).packets) ⊎ (places < length (unhindered id bytes).positions) → (salvaged id room places bytes).answer ≡ Err NoRoom
+  pub too_little : (room < length (unhindered id bytes).packets)
+      ⊎ (places < length (unhindered id bytes).positions) → (salvaged id room places bytes).answer
+      ≡ Err NoRoom

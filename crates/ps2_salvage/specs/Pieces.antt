@@ -13,14 +13,17 @@ pub data Piece : Type 0 where
 abbrev pub starts : ℕ → Bool
 starts b = bit always_one b
 
--- "At a packet's start, a byte with bit 3 clear is dropped [..]; otherwise a whole packet is taken." A tail too short for a packet is no piece.
+-- "At a packet's start, a byte with bit 3 clear is dropped [..]; otherwise a whole packet is
+-- taken." A tail too short for a packet is no piece.
 -- The first bytes, so many of them, belong to a packet that was taken.
 unfoldable pub pieces_after : MouseId → ℕ → List ℕ → List Piece
 pieces_after id others [] = []
 pieces_after id (suc others) (b ∷ bytes) = pieces_after id others bytes
 pieces_after id zero (b ∷ bytes) =
     cond (starts b)
-    (cond (leb (packet_length id) (length (b ∷ bytes))) (packet (take (packet_length id) (b ∷ bytes)) ∷ pieces_after id (packet_length id - 1) bytes) [])
+    (cond (leb (packet_length id) (length (b ∷ bytes)))
+    (packet (take (packet_length id) (b ∷ bytes)) ∷ pieces_after id (packet_length id - 1)
+    bytes) [])
     (dropped b ∷ pieces_after id 0 bytes)
 
 abbrev pub pieces : MouseId → List ℕ → List Piece

@@ -6,7 +6,8 @@ use Rattle.ps2_salvage.specs.declared.SalvageRefusal.TheVariants.{NoRoom}
 use Rattle.ps2_salvage.specs.declared.Salvaged.{Salvaged}
 use Rattle.ps2_salvage.specs.Pieces.{Piece, packet, dropped, pieces}
 
--- How a pass ends: at the recording's end or before a tail too short for a packet, or with a refusal.
+-- How a pass ends: at the recording's end or before a tail
+-- too short for a packet, or with a refusal.
 abbrev pub Ending : Type 0
 Ending = Result (Unit {0}) SalvageRefusal
 
@@ -18,7 +19,8 @@ abbrev pub answer_number : Ending → ℕ
 answer_number (Ok u) = 0
 answer_number (Err r) = refusal_number r
 
--- What a pass comes to: its answer, how many bytes of the recording it used, and what it wrote, packets as bytes and dropped positions.
+-- What a pass comes to: its answer, how many bytes of the recording it used, and what it wrote,
+-- packets as bytes and dropped positions.
 pub record Outcome : Type 0 where
   pub answer : Ending
   pub used : ℕ
@@ -32,16 +34,25 @@ ends answer at = record { answer = answer; used = at; packets = []; positions = 
 -- What comes of the rest, after this was written.
 abbrev pub after : List ℕ → List ℕ → Outcome → Outcome
 after packets positions o =
-    record { answer = o.answer; used = o.used; packets = packets ++ o.packets; positions = positions ++ o.positions }
+    record {
+      answer = o.answer;
+      used = o.used;
+      packets = packets ++ o.packets;
+      positions = positions ++ o.positions;
+    }
 
--- "It writes packets as bytes and dropped positions as 64-bit numbers", from a position on, as long as each finds room for bytes or a place for a position;
+-- "It writes packets as bytes and dropped positions as 64-bit numbers", from a position on, as long
+-- as each finds room for bytes or a place for a position;
 -- "30 if the next packet or position does not fit its output, that packet or byte not being used".
 unfoldable pub written : (at room places : ℕ) → List Piece → Outcome
 written at room places [] = ends (Ok tt) at
 written at room places (packet bytes ∷ more) =
-    cond (leb (length bytes) room) (after bytes [] (written (at + length bytes) (room - length bytes) places more)) (ends (Err NoRoom) at)
+    cond (leb (length bytes) room)
+    (after bytes [] (written (at + length bytes) (room - length bytes) places more))
+    (ends (Err NoRoom) at)
 written at room places (dropped b ∷ more) =
-    cond (ltb 0 places) (after [] (at ∷ []) (written (at + 1) room (places - 1) more)) (ends (Err NoRoom) at)
+    cond (ltb 0 places) (after [] (at ∷ []) (written (at + 1) room (places - 1) more))
+    (ends (Err NoRoom) at)
 
 -- A pass over a whole recording. Positions are "counted from 0".
 abbrev pub salvaged : MouseId → (room places : ℕ) → List ℕ → Outcome
@@ -54,7 +65,8 @@ abbrev pub over : List ℕ → List ℕ → List ℕ
 over now before = now ++ drop (length now) before
 
 -- What was answered, and what became of two outputs, is what a pass comes to.
-pub record Leaves (o : Outcome) (packets positions : List ℕ) (r : Salvaged) (packets' positions' : List ℕ) : Type 0 where
+pub record Leaves (o : Outcome) (packets positions : List ℕ) (r : Salvaged)
+    (packets' positions' : List ℕ) : Type 0 where
   pub answer : r.answer ≡ o.answer
   pub used : r.used ≡ o.used
   pub packet_bytes : r.packet_bytes ≡ length o.packets

@@ -1,4 +1,5 @@
-// Recorded mouse bytes, brought back into step: packets are written as bytes, and the positions of the bytes between them are listed.
+// Recorded mouse bytes, brought back into step: packets are written as bytes, and the positions of
+// the bytes between them are listed.
 #![tactic(auto)]
 
 ghost use Rattle.std.specs.Prelude.{◌≡◌, length};
@@ -43,7 +44,8 @@ pub struct Salvaged {
 fn pass<const LENGTH: usize>(bytes: &[u8], packets: &mut [u8], positions: &mut [u64]) -> Salvaged
     ghost id: { MouseId }
     requires { LENGTH ≡ packet_length id }
-    ensures { Leaves (salvaged id (length packets.old) (length positions.old) bytes.now) packets.old positions.old result packets.new positions.new }
+    ensures { Leaves (salvaged id (length packets.old) (length positions.old) bytes.now) packets.old
+        positions.old result packets.new positions.new }
 {
     // at how many places a whole packet is there, and has room
     let starts = bytes.len().saturating_sub(LENGTH - 1);
@@ -95,7 +97,8 @@ fn pass<const LENGTH: usize>(bytes: &[u8], packets: &mut [u8], positions: &mut [
 /// used. What was not written stays as it was.
 /// Refused: no room (30).
 pub fn salvage(id: MouseId, bytes: &[u8], packets: &mut [u8], positions: &mut [u64]) -> Salvaged
-    ensures { Leaves (salvaged id (length packets.old) (length positions.old) bytes.now) packets.old positions.old result packets.new positions.new }
+    ensures { Leaves (salvaged id (length packets.old) (length positions.old) bytes.now) packets.old
+        positions.old result packets.new positions.new }
 {
     // Each length has a pass of its own: the compiler knows how many bytes to move.
     match id {

@@ -15,8 +15,10 @@ use Rattle.ps2_answers.specs.Answers.{ended, used_of, pairs_of}
 
 -- ---- steps whose failure is forgiven
 
--- "2 and 3 are replaced by nothing, forgiven by nothing.": whether a step worked, where it ended with an answer; its lack, where it lacked something; its counts.
-pub record Forgiven (answer : Result (Counted Success) (Counted Refusal)) (tried : Result (Counted Bool) (Counted Refusal)) : Type 0 where
+-- "2 and 3 are replaced by nothing, forgiven by nothing.": whether a step worked, where it ended
+-- with an answer; its lack, where it lacked something; its counts.
+pub record Forgiven (answer : Result (Counted Success) (Counted Refusal))
+    (tried : Result (Counted Bool) (Counted Refusal)) : Type 0 where
   pub end : ended tried ≡ told_end gives (told_end given (ended answer))
   pub used : used_of tried ≡ used_of answer
   pub pairs : pairs_of tried ≡ pairs_of answer

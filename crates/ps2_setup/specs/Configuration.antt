@@ -12,7 +12,8 @@ running_if true clock interrupt c = running clock interrupt c
 running_if false clock interrupt c = c
 
 abbrev pub final_config : WorkingPorts → ControllerConfigurationByte → ControllerConfigurationByte
-final_config ports c = running_if ports.port_2_works port2_clock_disabled port2_interrupt (running_if ports.port_1_works port1_clock_disabled port1_interrupt c)
+final_config ports c = running_if ports.port_2_works port2_clock_disabled port2_interrupt
+    (running_if ports.port_1_works port1_clock_disabled port1_interrupt c)
 
 -- A controller command that is written only for a port that passed.
 abbrev pub written_if : {A : Type 0} → Bool → ℕ → Exchange A → Exchange A

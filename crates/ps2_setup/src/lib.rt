@@ -1,4 +1,5 @@
-// The steps of initialisation that concern the controller alone: both ports disabled, the tests, the ports enabled again.
+// The steps of initialisation that concern the controller alone:
+// both ports disabled, the tests, the ports enabled again.
 // They are numbered and named as in the OSDev Wiki, "8042 PS/2 Controller", section "Initialising
 // the PS/2 Controller". Steps 1 and 2, of USB and of whether there is a controller, use none of its
 // ports and are the caller's. Step 10 is in ps2_init.
@@ -86,7 +87,8 @@ pub fn test_ports(script: &[u8], log: &mut [u8], has_mouse: bool) -> Answer<Work
 
 // The second port is tested only with a mouse.
 fn test_second(script: &[u8], log: &mut [u8], has_mouse: bool) -> Answer<bool>
-    ensures { told result log.new ≡ play (bind (test_second has_mouse) (λ second. done (gives second))) script.now log.old }
+    ensures { told result log.new
+        ≡ play (bind (test_second has_mouse) (λ second. done (gives second))) script.now log.old }
 {
     if has_mouse {
         tried(test_port2(script, log))
@@ -131,7 +133,8 @@ fn enable_port(
     works: bool,
     config: ControllerConfigurationByte,
 ) -> Answer<ControllerConfigurationByte>
-    ensures { WritesTold (enable_port (enable_of port) (clock_of port) (interrupt_of port) works config) log.old result log.new }
+    ensures { WritesTold (enable_port (enable_of port) (clock_of port) (interrupt_of port) works
+        config) log.old result log.new }
 {
     if !works {
         return Ok(Counted::new(config));

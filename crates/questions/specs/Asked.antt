@@ -34,7 +34,8 @@ meets (Byte x) b = cond (eqb b x) (came b) again
 meets Data b = came b
 meets Status b = came b
 
--- A turn of a wait: the port that it reads first, what follows that byte, and the data after the status.
+-- A turn of a wait: the port that it reads first, what
+-- follows that byte, and the data after the status.
 abbrev pub first_port : Sought → Port
 first_port InputFree = p64
 first_port Response = p64
@@ -75,16 +76,19 @@ further_turns s further r = turned r (repeat further None (turn s))
 
 -- What is left of a question, at each place in it.
 abbrev pub going_on : Wait → Exchange (Option ℕ)
-going_on w = cond w.at_data (bind (second w.sought) (further_turns w.sought w.further)) (bind (turn w.sought) (further_turns w.sought w.further))
+going_on w = cond w.at_data (bind (second w.sought) (further_turns w.sought w.further))
+    (bind (turn w.sought) (further_turns w.sought w.further))
 
--- The limits, less the turn that a wait begins with: 255 status reads of a sending; 65,535 polls of a receiving.
+-- The limits, less the turn that a wait begins with: 255
+-- status reads of a sending; 65,535 polls of a receiving.
 abbrev pub further_tries : ℕ
 further_tries = 254
 
 abbrev pub further_polls : ℕ
 further_polls = 65534
 
--- "One attempt sends, then receives." Its reply is that of its receiving; where the byte can't be sent it is 4, which is no response.
+-- "One attempt sends, then receives." Its reply is that of its receiving; where the byte can't be
+-- sent it is 4, which is no response.
 abbrev pub input_stayed_full : ℕ
 input_stayed_full = 4
 

@@ -58,8 +58,8 @@ const FURTHER_TRIES: u32 = 254;
 // The reply to an attempt where the input buffer stayed full. No response is this byte.
 const INPUT_STAYED_FULL: u8 = 4;
 
-/// A question to the ports: a write, a wait with so many turns behind its first, or one attempt of a
-/// command, which sends this byte to a device and polls for its response.
+/// A question to the ports: a write, a wait with so many turns behind its first, or one attempt of
+/// a command, which sends this byte to a device and polls for its response.
 #[derive(Clone, Copy)]
 pub enum Question {
     Write(ReadPort, u8),
@@ -67,8 +67,8 @@ pub enum Question {
     Attempt(u8),
 }
 
-/// A place in a question: the write is to be made, or a wait has come so far. An attempt waits until
-/// it can send its byte, with so many turns behind this one; sends it; and is then a wait.
+/// A place in a question: the write is to be made, or a wait has come so far. An attempt waits
+/// until it can send its byte, with so many turns behind this one; sends it; and is then a wait.
 #[derive(Clone, Copy)]
 pub enum Going {
     Writing(ReadPort, u8),
@@ -180,7 +180,8 @@ fn is_met(sought: Sought, byte: u8) -> bool
 
 // What the status says of a poll.
 fn poll_byte(byte: u8) -> Worth
-    ensures { (s : ASought) → cond (bit output_buffer_full byte) (second s) (done again) ≡ worth s byte result }
+    ensures { (s : ASought) → cond (bit output_buffer_full byte) (second s) (done again)
+        ≡ worth s byte result }
 {
     let status = ControllerToHostStatus::from(byte);
     if status.output_buffer_full() {
@@ -192,7 +193,8 @@ fn poll_byte(byte: u8) -> Worth
 
 // What the status says of a poll for the mouse.
 fn mouse_poll_byte(byte: u8) -> Worth
-    ensures { (s : ASought) → cond (mouse_byte_waits byte) (second s) (done again) ≡ worth s byte result }
+    ensures { (s : ASought) → cond (mouse_byte_waits byte) (second s) (done again)
+        ≡ worth s byte result }
 {
     let status = ControllerToHostStatus::from(byte);
     if status.output_buffer_full() && status.mouse_output_buffer_full() {

@@ -42,16 +42,19 @@ between low high z = le_z low z && le_z z high
 
 unfoldable pub in_range : Limits → Totals → Bool
 in_range l t =
-    at_most l.count t.presses && (leb t.packets l.count && (between l.low l.high t.x && between l.low l.high t.y))
+    at_most l.count t.presses && (leb t.packets l.count
+    && (between l.low l.high t.x && between l.low l.high t.y))
 
 -- Totals after others were added to them, or as they were.
 pub record Settled : Type 0 where
   pub answer : Answer
   pub totals : Totals
 
--- "32 if a total or count would be outside its range at the session's end, the report staying as before that session."
+-- "32 if a total or count would be outside its range at the
+-- session's end, the report staying as before that session."
 abbrev pub settled : Limits → Totals → Totals → Settled
-settled l old new = cond (in_range l new) (record { answer = Ok tt; totals = new }) (record { answer = Err out_of_range; totals = old })
+settled l old new = cond (in_range l new) (record { answer = Ok tt; totals = new })
+    (record { answer = Err out_of_range; totals = old })
 
 abbrev pub added : Limits → Totals → Session → Settled
 added l old s = settled l old (plus old (totals_of s))

@@ -21,7 +21,8 @@ press_events key (e ∷ events) = weigh (press_of key e) + press_events key even
 
 -- ---- events as bytes
 
--- What a report needs of an event, in one byte, as scan code set 1 has it: the keycode's number for a press, and from 128 on for a release.
+-- What a report needs of an event, in one byte, as scan code set 1 has it: the keycode's number for
+-- a press, and from 128 on for a release.
 abbrev pub code_of : KeyAction → ℕ → ℕ
 code_of Pressed number = number
 code_of Released number = number % 128 + 128

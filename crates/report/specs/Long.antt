@@ -7,9 +7,14 @@ use Rattle.report.specs.Narrow.{numbers}
 use Rattle.report.specs.Runs.{Width}
 use Rattle.report.specs.declared.long.LongReport.{LongReport}
 
--- "32 is now given exactly when at a session's end any count would be above 281,474,976,710,656 or a sum further than 72,057,594,037,927,936 from 0."
+-- "32 is now given exactly when at a session's end any count would be above 281,474,976,710,656 or
+-- a sum further than 72,057,594,037,927,936 from 0."
 abbrev pub long_limits : Limits
-long_limits = record { count = 281474976710656; low = neg_ℤ (pos 72057594037927936); high = pos 72057594037927936 }
+long_limits = record {
+  count = 281474976710656;
+  low = neg_ℤ (pos 72057594037927936);
+  high = pos 72057594037927936;
+}
 
 -- A report's numbers, and the report that has given ones.
 abbrev pub long_numbers : LongReport → Totals

@@ -11,7 +11,17 @@ narrow_limits = record { count = 4294967295; low = neg_ℤ (pos 2147483648); hig
 
 -- A report's numbers, and the report that has given ones.
 abbrev pub numbers : Report → Totals
-numbers r = record { presses = for_each_key (λ key. get_or r.presses key 0); packets = r.packets; x = r.x; y = r.y }
+numbers r = record {
+  presses = for_each_key (λ key. get_or r.presses key 0);
+  packets = r.packets;
+  x = r.x;
+  y = r.y;
+}
 
 abbrev pub report_of : Totals → Report
-report_of t = record { presses = for_each_key (λ key. get_or t.presses key 0); packets = t.packets; x = t.x; y = t.y }
+report_of t = record {
+  presses = for_each_key (λ key. get_or t.presses key 0);
+  packets = t.packets;
+  x = t.x;
+  y = t.y;
+}

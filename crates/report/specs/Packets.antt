@@ -1,4 +1,5 @@
--- A session's packets, counted, and their movements, summed: "mouse bytes in packets of one identity".
+-- A session's packets, counted, and their movements,
+-- summed: "mouse bytes in packets of one identity".
 use Rattle.std.specs.Prelude.{◌≡◌, List, [], ◌∷◌, ℕ, ℤ, pos, ◌+ℤ◌, length}
 use Rattle.ps2_bytes.specs.declared.response.MouseId.{MouseId}
 use Rattle.ps2_packet.specs.declared.MousePacketGeneric.{MousePacketGeneric}

@@ -1,4 +1,5 @@
--- Runs of `Season::add`: sessions added to a report one by one, at any width, those that are refused among them.
+-- Runs of `Season::add`: sessions added to a report one by
+-- one, at any width, those that are refused among them.
 use Rattle.std.specs.Prelude.{◌≡◌, true, List, [], ◌∷◌, Ok, Err}
 use Rattle.report.specs.declared.sessions.Totals.{Totals}
 use Rattle.report.specs.Totals.{Session}
@@ -7,7 +8,8 @@ use Rattle.report.specs.declared.Report.{Report}
 use Rattle.report.specs.Adding.{Answer, plus, in_range, added, Reported, reported}
 use Rattle.report.specs.Narrow.{narrow_limits, numbers, report_of}
 
--- A report's width: what its numbers may be, which they are, and the report that has given ones. They are the three that `Season` asks of a type.
+-- A report's width: what its numbers may be, which they are, and the report that has given ones.
+-- They are the three that `Season` asks of a type.
 pub record Width (R : Type 0) : Type 0 where
   pub limits : Limits
   pub told : R → Totals
@@ -19,7 +21,8 @@ narrow = record { limits = narrow_limits; told = numbers; having = report_of }
 
 -- What is stored is read back: a report that a session left has just the numbers that it was given.
 pub record ReadsBack {R : Type 0} (w : Width R) : Type 0 where
-  pub read_back : (old more : Totals) → in_range w.limits (plus old more) ≡ true → w.told (w.having (plus old more)) ≡ plus old more
+  pub read_back : (old more : Totals) → in_range w.limits (plus old more) ≡ true
+      → w.told (w.having (plus old more)) ≡ plus old more
 
 -- What `Season::add` answers, and the report after it.
 abbrev pub add : {R : Type 0} → Width R → R → Session → Reported R

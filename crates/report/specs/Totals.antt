@@ -32,6 +32,7 @@ no_totals = record { presses = for_each_key (λ key. 0); packets = 0; x = pos 0;
 abbrev pub tally_bytes : ℕ
 tally_bytes = 18014398509481984
 
--- What a session is tallied to. One of so many mouse bytes is not summed; it has more packets than a report can count.
+-- What a session is tallied to. One of so many mouse bytes is
+-- not summed; it has more packets than a report can count.
 abbrev pub tallied : Session → Option Totals
 tallied s = cond (ltb (length s.mouse) tally_bytes) (Some (totals_of s)) None

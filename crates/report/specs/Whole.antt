@@ -8,7 +8,8 @@ use Rattle.ps2_packet.specs.Packets.{bytes_of}
 -- Packets of one identity.
 pub data Of (id : MouseId) : List MousePacket → Type 0 where
   none : Of id []
-  and : {p : MousePacket} {more : List MousePacket} → packet_id p ≡ id → Of id more → Of id (p ∷ more)
+  and : {p : MousePacket} {more : List MousePacket} → packet_id p ≡ id → Of id more
+      → Of id (p ∷ more)
 
 -- Their bytes, and a tail that is too short for a packet, are all bytes.
 pub record Whole (id : MouseId) (bytes : List ℕ) (packets : List MousePacket) : Type 0 where

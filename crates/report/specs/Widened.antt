@@ -14,7 +14,8 @@ pub record SameNumbers (r : Report) (w : LongReport) : Type 0 where
   pub x : w.totals.x ≡ r.x
   pub y : w.totals.y ≡ r.y
 
--- That a run goes on after conversion as before it: what the old report accepts of these sessions, the converted one accepts, and is left as the old one, converted.
+-- That a run goes on after conversion as before it: what the old report accepts of these sessions,
+-- the converted one accepts, and is left as the old one, converted.
 pub record SameRun (r : Report) (ts : List Session) : Type 0 where
   pub sessions : accepted wide (widened r) (accepted narrow r ts) ≡ accepted narrow r ts
   pub report : after wide (widened r) (accepted narrow r ts) ≡ widened (after narrow r ts)

@@ -66,7 +66,8 @@ fn add_count(most: u64, old: u64, more: u64) -> Result<u64, OutOfRange>
 
 // The counts of each key together.
 fn add_counts(most: u64, old: [u64; 94], more: [u64; 94]) -> Result<[u64; 94], OutOfRange>
-    ensures { result ≡ counts_within most (for_each_key (λ key. get_or old key 0 + get_or more key 0)) }
+    ensures { result ≡ counts_within most
+        (for_each_key (λ key. get_or old key 0 + get_or more key 0)) }
 {
     let mut counts = [0; 94];
     for i in 0..94 {
@@ -119,7 +120,10 @@ pub struct WholeMean {
 // Below 0 the bits are inverted, so that an unsigned division rounds down: -(k + 1) is !k.
 fn divide(sum: i64, packets: u64) -> WholeMean
     requires { 0 < packets }
-    ensures { result ≡ record { quotient = quotient_of sum packets; remainder = remainder_of sum packets } }
+    ensures { result ≡ record {
+      quotient = quotient_of sum packets;
+      remainder = remainder_of sum packets;
+    } }
 {
     if sum < 0 {
         let k = (!sum) as u64;
@@ -174,10 +178,15 @@ pub trait Season: Copy {
     // A session that is too long to be tallied has more packets than that.
     ghost few: { LIMITS.count < 4503599627370495 };
 
-    // Adds a session: its events, each as `event_code` has it, and its mouse bytes, in packets of one identity. Where a number would be outside its range at the
-    // session's end the report stays as it was.
+    // Adds a session: its events, each as `event_code` has it, and its
+    // mouse bytes, in packets of one identity. Where a number would be
+    // outside its range at the session's end the report stays as it was.
     final fn add(&mut self, id: MouseId, events: &[u8], mouse: &[u8]) -> Result<(), OutOfRange>
-        ensures { record { answer = result; report = self.new } ≡ add (record { limits = LIMITS; told = told; having = having }) self.old (record { id = id; events = events.now; mouse = mouse.now }) }
+        ensures { record {
+          answer = result;
+          report = self.new;
+        } ≡ add (record { limits = LIMITS; told = told; having = having })
+            self.old (record { id = id; events = events.now; mouse = mouse.now }) }
     {
         let brought = tally(id, events, mouse).ok_or(OutOfRange)?;
         *self = Self::of_totals(settle(Self::LIMITS, self.numbers(), brought)?);
@@ -224,7 +233,8 @@ fn narrow_signed(z: i64) -> i32
     i32::try_from(z).unwrap_or(i32::MAX)
 }
 
-// Both by a loop: by `map`, whose closure is called for each key, a session of ten packets took four times as long.
+// Both by a loop: by `map`, whose closure is called for each
+// key, a session of ten packets took four times as long.
 fn wide_counts(counts: [u32; 94]) -> [u64; 94]
     ensures { result ≡ for_each_key (λ key. get_or counts key 0) }
 {
@@ -236,7 +246,8 @@ fn wide_counts(counts: [u32; 94]) -> [u64; 94]
 }
 
 fn narrow_counts(counts: [u64; 94]) -> [u32; 94]
-    ensures { at_most narrow_limits.count counts ≡ true → result ≡ for_each_key (λ key. get_or counts key 0) }
+    ensures { at_most narrow_limits.count counts ≡ true → result
+        ≡ for_each_key (λ key. get_or counts key 0) }
 {
     let mut all = [0; 94];
     for i in 0..94 {

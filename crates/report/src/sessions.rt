@@ -1,4 +1,5 @@
-// What a session brings to a report: presses for each key, packets, and sums of x and y, in numbers wide enough for any report.
+// What a session brings to a report: presses for each key, packets, and sums of x and y, in numbers
+// wide enough for any report.
 
 ghost use Rattle.std.specs.Prelude.{◌≡◌, ◌<◌, ◌≤◌, ◌+◌, length, get_or};
 ghost use Rattle.ps2_bytes.specs.declared.response.MouseId.{MouseId};
@@ -67,7 +68,8 @@ fn tally_presses(codes: &[u8]) -> [u64; 94]
 // The first three bytes of the packet at a place.
 fn packet_at(bytes: &[u8], at: usize) -> MousePacketGeneric
     requires { at + 3 ≤ length bytes.now }
-    ensures { result ≡ generic (get_or bytes.now at 0) (get_or bytes.now (at + 1) 0) (get_or bytes.now (at + 2) 0) }
+    ensures { result ≡ generic (get_or bytes.now at 0) (get_or bytes.now (at + 1) 0)
+        (get_or bytes.now (at + 2) 0) }
 {
     MousePacketGeneric::from_bytes(bytes[at], bytes[at + 1], bytes[at + 2])
 }
@@ -76,7 +78,8 @@ fn packet_at(bytes: &[u8], at: usize) -> MousePacketGeneric
 fn pass<const N: usize>(bytes: &[u8]) -> Moved
     requires length { (id : MouseId) × (packet_length id ≡ N) }
     requires room { length bytes.now < tally_bytes }
-    ensures { (id : MouseId) → packet_length id ≡ N → Movements id bytes.now result.packets result.x result.y }
+    ensures { (id : MouseId) → packet_length id ≡ N
+        → Movements id bytes.now result.packets result.x result.y }
 {
     let whole = bytes.len() / N;
     let mut x = 0;
@@ -93,7 +96,8 @@ fn pass<const N: usize>(bytes: &[u8]) -> Moved
     }
 }
 
-// What the mouse bytes come to. Each length has a pass of its own, in which the compiler knows how long a packet is.
+// What the mouse bytes come to. Each length has a pass of
+// its own, in which the compiler knows how long a packet is.
 fn tally_mouse(id: MouseId, bytes: &[u8]) -> Moved
     requires { length bytes.now < tally_bytes }
     ensures { Movements id bytes.now result.packets result.x result.y }

@@ -25,13 +25,16 @@ pub record SessionAdded (R : Type 0) : Type 0 where
   pub refusal : ℕ
   pub report : R
 
--- A session added to a report of any width. Where the identity stands for nothing, none is, and the report is as it was.
+-- A session added to a report of any width. Where the identity
+-- stands for nothing, none is, and the report is as it was.
 abbrev pub told_added : {R : Type 0} → Reported R → SessionAdded R
 told_added a = record { refusal = answer_number a.answer; report = a.report }
 
-abbrev pub session_added : {R : Type 0} → Limits → (R → Totals) → (Totals → R) → Option MouseId → R → (events mouse : List ℕ) → SessionAdded R
+abbrev pub session_added : {R : Type 0} → Limits → (R → Totals) → (Totals → R) → Option MouseId → R
+    → (events mouse : List ℕ) → SessionAdded R
 session_added l told having (some id) r events mouse =
-    told_added (reported having r (added l (told r) (record { id = id; events = events; mouse = mouse })))
+    told_added (reported having r
+    (added l (told r) (record { id = id; events = events; mouse = mouse })))
 session_added l told having none r events mouse = record { refusal = invalid_argument; report = r }
 
 -- In 32 bits.
@@ -39,11 +42,13 @@ abbrev pub added_words : SessionAdded Report → ReportAddedWords
 added_words a = record { refusal = a.refusal; report = a.report }
 
 abbrev pub report_added : Option MouseId → Report → (events mouse : List ℕ) → ReportAddedWords
-report_added i r events mouse = added_words (session_added narrow_limits numbers report_of i r events mouse)
+report_added i r events mouse =
+    added_words (session_added narrow_limits numbers report_of i r events mouse)
 
 -- The same in 64 bits.
 abbrev pub long_added_words : SessionAdded LongReport → LongAddedWords
 long_added_words a = record { refusal = a.refusal; report = a.report }
 
 abbrev pub long_added : Option MouseId → LongReport → (events mouse : List ℕ) → LongAddedWords
-long_added i r events mouse = long_added_words (session_added long_limits long_numbers long_of i r events mouse)
+long_added i r events mouse =
+    long_added_words (session_added long_limits long_numbers long_of i r events mouse)

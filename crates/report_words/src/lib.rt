@@ -1,4 +1,5 @@
-// Reports as a program in another language calls them: numbers in, answers as numbers, and a report as its numbers.
+// Reports as a program in another language calls them: numbers
+// in, answers as numbers, and a report as its numbers.
 #![tactic(auto)]
 
 ghost use Rattle.std.specs.Prelude.{◌≡◌};
@@ -43,7 +44,11 @@ pub struct MeanWords {
 // Adds a session of a mouse whose identity is 0, 3 or 4, and answers the refusal's number: 255
 // where the identity is another.
 fn add_session<R: Season>(report: &mut R, identity: u32, events: &[u8], mouse: &[u8]) -> u32
-    ensures { record { refusal = result; report = report.new } ≡ session_added R.LIMITS R.told R.having (identity_at identity) report.old events.now mouse.now }
+    ensures { record {
+      refusal = result;
+      report = report.new;
+    } ≡ session_added R.LIMITS R.told R.having (identity_at identity)
+        report.old events.now mouse.now }
 {
     match identity_of(identity) {
         Some(id) => u32::from(answer_number(report.add(id, events, mouse))),

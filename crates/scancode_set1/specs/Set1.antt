@@ -1,4 +1,5 @@
--- Scan code set 1, as the OSDev Wiki's page "PS/2 Keyboard" lists it, and which of its keys each keycode is.
+-- Scan code set 1, as the OSDev Wiki's page "PS/2 Keyboard"
+-- lists it, and which of its keys each keycode is.
 use Rattle.std.specs.Prelude.{List, [], ◌∷◌, ℕ, ◌+◌}
 use Prim.Native.String.{String}
 use Rattle.keycodes_ascii.specs.declared.Keycode.{Keycode}
@@ -6,34 +7,48 @@ use Rattle.keycodes_ascii.specs.declared.Keycode.{Keycode}
 -- The press codes, with the wiki's names of the keys.
 abbrev pub set1 : List (ℕ × String)
 set1 =
-    (0x01, "escape") ∷ (0x02, "1") ∷ (0x03, "2") ∷ (0x04, "3") ∷ (0x05, "4") ∷ (0x06, "5") ∷ (0x07, "6") ∷
-    (0x08, "7") ∷ (0x09, "8") ∷ (0x0A, "9") ∷ (0x0B, "0") ∷ (0x0C, "-") ∷ (0x0D, "=") ∷ (0x0E, "backspace") ∷
-    (0x0F, "tab") ∷ (0x10, "Q") ∷ (0x11, "W") ∷ (0x12, "E") ∷ (0x13, "R") ∷ (0x14, "T") ∷ (0x15, "Y") ∷
-    (0x16, "U") ∷ (0x17, "I") ∷ (0x18, "O") ∷ (0x19, "P") ∷ (0x1A, "[") ∷ (0x1B, "]") ∷ (0x1C, "enter") ∷
+    (0x01, "escape") ∷ (0x02, "1") ∷ (0x03, "2") ∷ (0x04, "3") ∷ (0x05, "4") ∷ (0x06, "5")
+    ∷ (0x07, "6") ∷
+    (0x08, "7") ∷ (0x09, "8") ∷ (0x0A, "9") ∷ (0x0B, "0") ∷ (0x0C, "-") ∷ (0x0D, "=")
+    ∷ (0x0E, "backspace") ∷
+    (0x0F, "tab") ∷ (0x10, "Q") ∷ (0x11, "W") ∷ (0x12, "E") ∷ (0x13, "R") ∷ (0x14, "T")
+    ∷ (0x15, "Y") ∷
+    (0x16, "U") ∷ (0x17, "I") ∷ (0x18, "O") ∷ (0x19, "P") ∷ (0x1A, "[") ∷ (0x1B, "]")
+    ∷ (0x1C, "enter") ∷
     (0x1D, "left control") ∷ (0x1E, "A") ∷ (0x1F, "S") ∷ (0x20, "D") ∷ (0x21, "F") ∷ (0x22, "G") ∷
-    (0x23, "H") ∷ (0x24, "J") ∷ (0x25, "K") ∷ (0x26, "L") ∷ (0x27, ";") ∷ (0x28, "'") ∷ (0x29, "`") ∷
-    (0x2A, "left shift") ∷ (0x2B, "\\") ∷ (0x2C, "Z") ∷ (0x2D, "X") ∷ (0x2E, "C") ∷ (0x2F, "V") ∷ (0x30, "B") ∷
+    (0x23, "H") ∷ (0x24, "J") ∷ (0x25, "K") ∷ (0x26, "L") ∷ (0x27, ";") ∷ (0x28, "'") ∷ (0x29, "`")
+    ∷
+    (0x2A, "left shift") ∷ (0x2B, "\\") ∷ (0x2C, "Z") ∷ (0x2D, "X") ∷ (0x2E, "C") ∷ (0x2F, "V")
+    ∷ (0x30, "B") ∷
     (0x31, "N") ∷ (0x32, "M") ∷ (0x33, ",") ∷ (0x34, ".") ∷ (0x35, "/") ∷ (0x36, "right shift") ∷
     (0x37, "keypad *") ∷ (0x38, "left alt") ∷ (0x39, "space") ∷ (0x3A, "CapsLock") ∷ (0x3B, "F1") ∷
-    (0x3C, "F2") ∷ (0x3D, "F3") ∷ (0x3E, "F4") ∷ (0x3F, "F5") ∷ (0x40, "F6") ∷ (0x41, "F7") ∷ (0x42, "F8") ∷
-    (0x43, "F9") ∷ (0x44, "F10") ∷ (0x45, "NumberLock") ∷ (0x46, "ScrollLock") ∷ (0x47, "keypad 7") ∷
-    (0x48, "keypad 8") ∷ (0x49, "keypad 9") ∷ (0x4A, "keypad -") ∷ (0x4B, "keypad 4") ∷ (0x4C, "keypad 5") ∷
-    (0x4D, "keypad 6") ∷ (0x4E, "keypad +") ∷ (0x4F, "keypad 1") ∷ (0x50, "keypad 2") ∷ (0x51, "keypad 3") ∷
+    (0x3C, "F2") ∷ (0x3D, "F3") ∷ (0x3E, "F4") ∷ (0x3F, "F5") ∷ (0x40, "F6") ∷ (0x41, "F7")
+    ∷ (0x42, "F8") ∷
+    (0x43, "F9") ∷ (0x44, "F10") ∷ (0x45, "NumberLock") ∷ (0x46, "ScrollLock") ∷ (0x47, "keypad 7")
+    ∷
+    (0x48, "keypad 8") ∷ (0x49, "keypad 9") ∷ (0x4A, "keypad -") ∷ (0x4B, "keypad 4")
+    ∷ (0x4C, "keypad 5") ∷
+    (0x4D, "keypad 6") ∷ (0x4E, "keypad +") ∷ (0x4F, "keypad 1") ∷ (0x50, "keypad 2")
+    ∷ (0x51, "keypad 3") ∷
     (0x52, "keypad 0") ∷ (0x53, "keypad .") ∷ (0x57, "F11") ∷ (0x58, "F12") ∷ []
 
--- The press codes that stand after the prefix E0. Multimedia keys are left out: those up to 5D share their numbers with the keys above, and those past it are no keycodes.
+-- The press codes that stand after the prefix E0. Multimedia keys are left out: those up to 5D
+-- share their numbers with the keys above, and those past it are no keycodes.
 abbrev pub set1_after_e0 : List (ℕ × String)
 set1_after_e0 =
     (0x1C, "keypad enter") ∷ (0x1D, "right control") ∷ (0x35, "keypad /") ∷ (0x38, "right alt") ∷
-    (0x47, "home") ∷ (0x48, "cursor up") ∷ (0x49, "page up") ∷ (0x4B, "cursor left") ∷ (0x4D, "cursor right") ∷
-    (0x4F, "end") ∷ (0x50, "cursor down") ∷ (0x51, "page down") ∷ (0x52, "insert") ∷ (0x53, "delete") ∷
+    (0x47, "home") ∷ (0x48, "cursor up") ∷ (0x49, "page up") ∷ (0x4B, "cursor left")
+    ∷ (0x4D, "cursor right") ∷
+    (0x4F, "end") ∷ (0x50, "cursor down") ∷ (0x51, "page down") ∷ (0x52, "insert")
+    ∷ (0x53, "delete") ∷
     (0x5B, "left GUI") ∷ (0x5C, "right GUI") ∷ (0x5D, "apps") ∷ []
 
 -- A release code is the press code with the top bit set.
 abbrev pub release_of : ℕ → ℕ
 release_of press = press + 0x80
 
--- What a keycode is by the wiki: a key of the table; a key that the wiki has only after E0; the release of one of these; or a number that the wiki has no key for.
+-- What a keycode is by the wiki: a key of the table; a key that the wiki has only after E0; the
+-- release of one of these; or a number that the wiki has no key for.
 pub data Listed : Type 0 where
   key : String → Listed
   key_after_e0 : String → Listed
@@ -41,7 +56,8 @@ pub data Listed : Type 0 where
   release_of_key_after_e0 : String → Listed
   not_listed : Listed
 
--- A keycode is one number for two keys where the wiki has the number both plain and after E0 (Home, for one, is the keypad's 7): here it is the plain one.
+-- A keycode is one number for two keys where the wiki has the number both plain and after E0 (Home,
+-- for one, is the keypad's 7): here it is the plain one.
 abbrev pub listed_as : Keycode → Listed
 listed_as Keycode.OverflowError = not_listed
 listed_as Keycode.Escape = key "escape"
@@ -144,15 +160,20 @@ listed_as Keycode.RightShiftReleased = release_of_key "right shift"
 listed_as Keycode.SuperKeyLeftReleased = release_of_key_after_e0 "left GUI"
 listed_as Keycode.SuperKeyRightReleased = release_of_key_after_e0 "right GUI"
 
--- The keycodes that the Rust has and the wiki has not: 00, 54, 55, 56 (the extra key of 102-key boards), 59 and 5A.
+-- The keycodes that the Rust has and the wiki has not: 00,
+-- 54, 55, 56 (the extra key of 102-key boards), 59 and 5A.
 abbrev pub unlisted : List Keycode
-unlisted = Keycode.OverflowError ∷ Keycode.Unknown1 ∷ Keycode.Unknown2 ∷ Keycode.NonUsBackslash ∷ Keycode.Pause ∷ Keycode.Unknown3 ∷ []
+unlisted = Keycode.OverflowError ∷ Keycode.Unknown1 ∷ Keycode.Unknown2 ∷ Keycode.NonUsBackslash
+    ∷ Keycode.Pause ∷ Keycode.Unknown3 ∷ []
 
 -- Which key a keycode is directly after E0: the wiki's other key of its number, or the only one.
 abbrev pub after_e0_as : List (Keycode × String)
 after_e0_as =
-    (Keycode.Enter, "keypad enter") ∷ (Keycode.Control, "right control") ∷ (Keycode.Slash, "keypad /") ∷ (Keycode.Alt, "right alt") ∷
-    (Keycode.Home, "home") ∷ (Keycode.Up, "cursor up") ∷ (Keycode.PageUp, "page up") ∷ (Keycode.Left, "cursor left") ∷
-    (Keycode.Right, "cursor right") ∷ (Keycode.End, "end") ∷ (Keycode.Down, "cursor down") ∷ (Keycode.PageDown, "page down") ∷
+    (Keycode.Enter, "keypad enter") ∷ (Keycode.Control, "right control")
+    ∷ (Keycode.Slash, "keypad /") ∷ (Keycode.Alt, "right alt") ∷
+    (Keycode.Home, "home") ∷ (Keycode.Up, "cursor up") ∷ (Keycode.PageUp, "page up")
+    ∷ (Keycode.Left, "cursor left") ∷
+    (Keycode.Right, "cursor right") ∷ (Keycode.End, "end") ∷ (Keycode.Down, "cursor down")
+    ∷ (Keycode.PageDown, "page down") ∷
     (Keycode.Insert, "insert") ∷ (Keycode.Delete, "delete") ∷ (Keycode.SuperKeyLeft, "left GUI") ∷
     (Keycode.SuperKeyRight, "right GUI") ∷ (Keycode.Menu, "apps") ∷ []

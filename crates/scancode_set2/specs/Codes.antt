@@ -12,7 +12,8 @@ is_break b = eqb b break_byte
 abbrev pub is_prefix : ℕ → Bool
 is_prefix b = eqb b 0xE0 || eqb b 0xE1
 
--- What stands in a stream at a code's place: a byte by itself; F0 and the byte after it; or F0 alone, where the stream ends after it.
+-- What stands in a stream at a code's place: a byte by itself; F0 and the byte after it; or F0
+-- alone, where the stream ends after it.
 pub data Code : Type 0 where
   alone : ℕ → Code
   after_f0 : ℕ → Code
@@ -22,7 +23,8 @@ pub data Code : Type 0 where
 unfoldable pub codes : List ℕ → List Code
 codes [] = []
 codes (b ∷ []) = cond (is_break b) (ends_after_f0 ∷ []) (alone b ∷ [])
-codes (b ∷ c ∷ stream) = cond (is_break b) (after_f0 c ∷ codes stream) (alone b ∷ codes (c ∷ stream))
+codes (b ∷ c ∷ stream) =
+    cond (is_break b) (after_f0 c ∷ codes stream) (alone b ∷ codes (c ∷ stream))
 
 -- How many bytes of the stream a code has.
 abbrev pub width : Code → ℕ

@@ -18,7 +18,9 @@ abbrev pub by_entry : (ℕ → ℕ) → Option ℕ → Answer ℕ
 by_entry f (some e) = gives (f e)
 by_entry f none = refuses 22
 
--- The byte of set 1 that a code becomes, or the number of what it lacks. "E0 and E1 pass through." "F0 is dropped and sets the top bit of the translated code after it"; F0, E0 and E1 have no entry, so "22 if .. F0 is followed by F0, E0 or E1". "24 if the stream ends after F0."
+-- The byte of set 1 that a code becomes, or the number of what it lacks. "E0 and E1 pass through."
+-- "F0 is dropped and sets the top bit of the translated code after it"; F0, E0 and E1 have no
+-- entry, so "22 if .. F0 is followed by F0, E0 or E1". "24 if the stream ends after F0."
 unfoldable pub becomes : Code → Answer ℕ
 becomes (alone c) = cond (is_prefix c) (gives c) (by_entry (λ e. e) (entry_of c))
 becomes (after_f0 c) = by_entry with_top_bit (entry_of c)
@@ -29,11 +31,13 @@ abbrev pub or_no_byte : Answer ℕ → ℕ
 or_no_byte (gives b) = b
 or_no_byte (refuses n) = 0x00
 
--- A list of numbers that has, for each of n codes from one on, the byte that it becomes by itself, or after F0.
+-- A list of numbers that has, for each of n codes from one
+-- on, the byte that it becomes by itself, or after F0.
 pub record Tabulates (as_code : ℕ → Code) (first n : ℕ) (table : List ℕ) : Type 0 where
   pub at : (i : ℕ) → i < n → get_or table i 0 ≡ or_no_byte (becomes (as_code (first + i)))
 
--- What a conversion comes to: how it ended, the bytes of the stream that it used, and the bytes that it wrote.
+-- What a conversion comes to: how it ended, the bytes of
+-- the stream that it used, and the bytes that it wrote.
 pub record Converted : Type 0 where
   pub end : Answer Success
   pub used : ℕ
@@ -47,7 +51,9 @@ ends a = record { end = a; used = 0; bytes = [] }
 abbrev pub writes : Code → ℕ → Converted → Converted
 writes c b rest = record { end = rest.end; used = width c + rest.used; bytes = b ∷ rest.bytes }
 
--- One code, then the others: "a refused code, and an F0 before it or at the end, are not counted as used". "23 if a byte to be written finds the output full": only a code that becomes a byte is asked, so that "22 is asked before 23".
+-- One code, then the others: "a refused code, and an F0 before it or at the end, are not counted as
+-- used". "23 if a byte to be written finds the output full": only a code that becomes a byte is
+-- asked, so that "22 is asked before 23".
 abbrev pub convert_code : Code → Answer ℕ → (ℕ → Converted) → ℕ → Converted
 convert_code c (refuses n) others room = ends (refuses n)
 convert_code c (gives b) others zero = ends (refuses 23)
@@ -56,7 +62,8 @@ convert_code c (gives b) others (suc room) = writes c b (others room)
 -- The conversion of some codes into an output that has room for so many bytes.
 unfoldable pub convert_codes : List Code → ℕ → Converted
 convert_codes [] room = ends (gives success)
-convert_codes (c ∷ others) room = convert_code c (becomes c) (λ room. convert_codes others room) room
+convert_codes (c ∷ others) room =
+    convert_code c (becomes c) (λ room. convert_codes others room) room
 
 -- The conversion of a stream.
 abbrev pub convert_stream : List ℕ → ℕ → Converted
@@ -72,7 +79,8 @@ pub record Outcome : Type 0 where
 abbrev pub outcome : Answer Success → ℕ → ℕ → List ℕ → Outcome
 outcome end used count output = record { end = end; used = used; count = count; output = output }
 
--- "What was converted before a refusal stays in the output, with both counts"; "the count written to each output is answered, its rest untouched".
+-- "What was converted before a refusal stays in the output, with both counts"; "the count written
+-- to each output is answered, its rest untouched".
 unfoldable pub leaves : Converted → List ℕ → Outcome
 leaves c out = outcome c.end c.used (length c.bytes) (c.bytes ++ drop (length c.bytes) out)
 

@@ -1,4 +1,5 @@
-// Keyboards that speak scan code set 2: their key stream converted to set 1, by the 8042's translation table.
+// Keyboards that speak scan code set 2: their key stream
+// converted to set 1, by the 8042's translation table.
 #![tactic(auto)]
 
 ghost use Rattle.std.specs.Prelude.{◌≡◌};
@@ -48,7 +49,8 @@ const TOP_BIT: u8 = 0x80;
 /// Refused: no entry (22), output full (23), ends after F0 (24). OSDev Wiki, "PS/2 Keyboard", "Scan
 /// Code Set 2"; the conversion is Brouwer's, "Keyboard scancodes".
 pub fn convert(stream: &[u8], out: &mut [u8]) -> Conversion
-    ensures { outcome (said_converted result.answer) result.used result.written out.new ≡ converted stream.now out.old }
+    ensures { outcome (said_converted result.answer) result.used result.written out.new
+        ≡ converted stream.now out.old }
 {
     let mut used = 0;
     let mut written = 0;
@@ -57,7 +59,8 @@ pub fn convert(stream: &[u8], out: &mut [u8]) -> Conversion
         let after = used + 1;
         let byte: u8;
         let next: usize;
-        // asked by the top bit first, so that the processor sees E0 and F0 come and guesses what follows them
+        // asked by the top bit first, so that the processor
+        // sees E0 and F0 come and guesses what follows them
         if code < TOP_BIT {
             byte = ALONE[usize::from(code)];
             next = after;

@@ -30,7 +30,8 @@ abbrev pub refused_as : Result Success Failure → ℕ
 refused_as (Ok s) = 0
 refused_as (Err f) = number_of f
 
--- What is handed back: a refusal alone; one number; the identity that is left; the controller's record that is left.
+-- What is handed back: a refusal alone; one number; the
+-- identity that is left; the controller's record that is left.
 abbrev pub refusal_told : Failure → Ending
 refusal_told f = record { refusal = number_of f; first = 0; second = 0; third = 0; fourth = 0 }
 
@@ -41,7 +42,13 @@ abbrev pub value_told : {A : Type 0} → (A → ℕ) → A → Ending
 value_told worth a = one_number (worth a)
 
 abbrev pub identity_told : IdentityLeft → Ending
-identity_told l = record { refusal = refused_as l.answer; first = mouse_id_byte l.id; second = 0; third = 0; fourth = 0 }
+identity_told l = record {
+  refusal = refused_as l.answer;
+  first = mouse_id_byte l.id;
+  second = 0;
+  third = 0;
+  fourth = 0;
+}
 
 abbrev pub controller_told : ControllerLeft → Ending
 controller_told l =
@@ -72,7 +79,8 @@ abbrev pub telling_number : {A : Type 0} → (A → ℕ) → Talk A → Talk End
 telling_number worth t = next t (λ a. tells (Ok (value_told worth a)))
 
 unfoldable pub talk_of : Operation → Talk Ending
-talk_of (InitializeController passed) = next (initialize passed) (λ l. tells (Ok (controller_told l)))
+talk_of (InitializeController passed) =
+    next (initialize passed) (λ l. tells (Ok (controller_told l)))
 talk_of InitializeKeyboard = telling_number no_value keyboard.keyboard_init
 talk_of ResetKeyboard = telling_number no_value keyboard.reset_keyboard
 talk_of (CommandKeyboard c) = telling_number no_value (keyboard.keyboard_command c)

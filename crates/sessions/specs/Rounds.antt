@@ -20,16 +20,19 @@ unfoldable pub joined : {R S : Type 0} → Rounds R → (R → Rounds S) → Rou
 joined (over r) g = g r
 joined (round q k) g = round q (λ r. joined (k r) g)
 
-abbrev pub on_done : {A B : Type 0} → (A → Rounds (Result B Failure)) → Result A Failure → Rounds (Result B Failure)
+abbrev pub on_done : {A B : Type 0} → (A → Rounds (Result B Failure)) → Result A Failure
+    → Rounds (Result B Failure)
 on_done g (Ok a) = g a
 on_done g (Err f) = over (Err f)
 
-abbrev pub unless_accepted : Rounds (Result Success Failure) → Result Bool Failure → Rounds (Result Success Failure)
+abbrev pub unless_accepted : Rounds (Result Success Failure) → Result Bool Failure
+    → Rounds (Result Success Failure)
 unless_accepted rest (Ok true) = over (Ok success)
 unless_accepted rest (Ok false) = rest
 unless_accepted rest (Err f) = over (Err f)
 
-unfoldable pub attempt_rounds : ℕ → Failure → Rounds (Result Bool Failure) → Rounds (Result Success Failure)
+unfoldable pub attempt_rounds : ℕ → Failure → Rounds (Result Bool Failure)
+    → Rounds (Result Success Failure)
 attempt_rounds zero f r = over (Err f)
 attempt_rounds (suc n) f r = joined r (unless_accepted (attempt_rounds n f r))
 

@@ -132,8 +132,8 @@ fn controller_ending(left: ControllerLeft) -> Ending
     }
 }
 
-// What is handed back of a packet: the numbers of the one call's answer, of which a signed one is its
-// 64 bits.
+// What is handed back of a packet: the numbers of the one
+// call's answer, of which a signed one is its 64 bits.
 fn packet_ending(packet: SignedPacket) -> Ending
     ensures { result ≡ packet_told packet }
 {

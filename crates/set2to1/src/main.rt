@@ -1,4 +1,6 @@
-// Converts the set 2 key stream on standard input to set 1, on standard output. The first 65,536 bytes are taken; more are ignored. A refusal is told on standard error, with the place of the code that was refused.
+// Converts the set 2 key stream on standard input to set 1, on standard
+// output. The first 65,536 bytes are taken; more are ignored. A refusal
+// is told on standard error, with the place of the code that was refused.
 #![tactic(auto)]
 
 use program_status::ended;

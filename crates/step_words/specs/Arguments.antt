@@ -25,9 +25,11 @@ use Rattle.step_words.specs.Places.{onward, below}
 abbrev pub plainly : ℕ → Operation → Option Operation
 plainly a o = cond (eqb a 0) (Some o) None
 
--- The controller's record: 1 where it is initialised, 2 where a keyboard is attached and 4 where a mouse is, added.
+-- The controller's record: 1 where it is initialised, 2 where
+-- a keyboard is attached and 4 where a mouse is, added.
 abbrev pub controller_of : Bool → Bool → Bool → PS2Controller
-controller_of initialized keyboard mouse = record { initialized = initialized; keyboard_attached = keyboard; mouse_attached = mouse }
+controller_of initialized keyboard mouse =
+    record { initialized = initialized; keyboard_attached = keyboard; mouse_attached = mouse }
 
 abbrev pub controller_in : ℕ → Option PS2Controller
 controller_in a =
@@ -61,15 +63,18 @@ rate_in a = decode Some None sample_rates a
 abbrev pub resolution_in : ℕ → Option MouseResolution
 resolution_in a = decode Some None resolutions a
 
--- Preferences in six bytes, from the lowest: the version, and the fields in their order. Version 1 has no sixth, and it is not looked at.
+-- Preferences in six bytes, from the lowest: the version, and the fields in their order. Version 1
+-- has no sixth, and it is not looked at.
 abbrev pub byte_in : ℕ → ℕ → ℕ
 byte_in k a = get_or (to_le_bytes w64 a) k 0
 
 abbrev pub fields_in : ℕ → Fields
-fields_in a = record { set = byte_in 1 a; rate = byte_in 2 a; resolution = byte_in 3 a; lamps = byte_in 4 a }
+fields_in a =
+    record { set = byte_in 1 a; rate = byte_in 2 a; resolution = byte_in 3 a; lamps = byte_in 4 a }
 
 abbrev pub record_in : ℕ → Option Preferences
-record_in a = cond (eqb (byte_in 0 a) 1) (Some (Version1 (fields_in a))) (cond (eqb (byte_in 0 a) 2) (Some (Version2 (fields_in a) (byte_in 5 a))) None)
+record_in a = cond (eqb (byte_in 0 a) 1) (Some (Version1 (fields_in a)))
+    (cond (eqb (byte_in 0 a) 2) (Some (Version2 (fields_in a) (byte_in 5 a))) None)
 
 abbrev pub preferences_in : ℕ → Option Preferences
 preferences_in a = cond (ltb a (2 ^ 48)) (record_in a) None

@@ -34,12 +34,15 @@ sought_in k a =
     (cond (eqb k 11) (Some Status) None)))))))))
 
 abbrev pub seeking_in : Option Sought → Option ℕ → Option Bool → Option Going
-seeking_in s f d = onward s (λ s. onward f (λ f. onward d (λ d. Some (Seeking (record { sought = s; further = f; at_data = d })))))
+seeking_in s f d = onward s (λ s.
+    onward f (λ f. onward d (λ d.
+    Some (Seeking (record { sought = s; further = f; at_data = d })))))
 
 abbrev pub going_in : ℕ → ℕ → ℕ → ℕ → Option Going
 going_in k a b c =
     cond (eqb k 1) (onward (port_in a) (λ p. onward (below 256 b) (λ v. Some (Writing p v))))
-    (cond (eqb k 12) (onward (below 256 a) (λ v. onward (below 4294967296 b) (λ f. Some (Sending v f))))
+    (cond (eqb k 12) (onward (below 256 a)
+    (λ v. onward (below 4294967296 b) (λ f. Some (Sending v f))))
     (cond (eqb k 13) (onward (below 256 a) (λ v. Some (Submitting v)))
     (seeking_in (sought_in k a) (below 4294967296 b) (flag_in c))))
 

@@ -1,4 +1,5 @@
--- A session in numbers: an operation, the replies so far and a place in the question that is being asked; what is left of the operation then.
+-- A session in numbers: an operation, the replies so far and a place in the question that is being
+-- asked; what is left of the operation then.
 use Rattle.std.specs.Prelude.{cond, ℕ, ltb, List, Option, Some, None, Result, Ok, Err, get_or, take}
 use Rattle.exchange.specs.Exchange.{Exchange, done, bind}
 use Rattle.exchange.specs.Keeping.{noted}
@@ -22,18 +23,26 @@ room = 224
 
 -- The session that the first twelve numbers stand for, if it runs.
 abbrev pub counted_in : Option Operation → List ℕ → Option Session
-counted_in o f = onward o (λ o. cond (ltb (get_or f 2 0) room) (onward (place_in f) (λ g. Some (record { operation = o; count = get_or f 2 0; at = g }))) None)
+counted_in o f = onward o (λ o. cond (ltb (get_or f 2 0) room)
+    (onward (place_in f) (λ g. Some (record { operation = o; count = get_or f 2 0; at = g }))) None)
 
 abbrev pub session_in : List ℕ → Option Session
 session_in f = counted_in (operation_in (get_or f 0 0) (get_or f 1 0)) f
 
 -- What the operation came to, once it is at its end.
 abbrev pub ending_in : List ℕ → Ending
-ending_in f = record { refusal = get_or f 7 0; first = get_or f 8 0; second = get_or f 9 0; third = get_or f 10 0; fourth = get_or f 11 0 }
+ending_in f = record {
+  refusal = get_or f 7 0;
+  first = get_or f 8 0;
+  second = get_or f 9 0;
+  third = get_or f 10 0;
+  fourth = get_or f 11 0;
+}
 
 -- The bytes that were thrown away so far.
 abbrev pub kept_in : List ℕ → List ℕ → KeptBytes
-kept_in counts bytes = record { bytes = bytes; count = get_or counts 0 0; others = get_or counts 1 0 }
+kept_in counts bytes =
+    record { bytes = bytes; count = get_or counts 0 0; others = get_or counts 1 0 }
 
 -- A failure is handed back by its number.
 abbrev pub ended : Result Ending Failure → Ending
@@ -45,7 +54,8 @@ abbrev pub whole : Operation → Exchange Ending
 whole o = bind (exchange_of (rounds (talk_of o))) (λ r. done (ended r))
 
 abbrev pub rest : Session → List ℕ → Exchange Ending
-rest s replies = bind (rest_of (rounds (talk_of s.operation)) (take s.count replies) s.at) (λ r. done (ended r))
+rest s replies =
+    bind (rest_of (rounds (talk_of s.operation)) (take s.count replies) s.at) (λ r. done (ended r))
 
 -- What a byte adds to the bytes that are kept: one from port 60 that is thrown away.
 abbrev pub noting : Wants → KeptBytes → ℕ → KeptBytes

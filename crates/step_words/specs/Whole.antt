@@ -29,13 +29,16 @@ refusing n = record { kind = 0; port = 0; byte = 0; refusal = n }
 
 abbrev pub request_numbers : Advance → RequestWords
 request_numbers Malformed = refusing 21
-request_numbers (Asks (Read p)) = record { kind = 1; port = number (port_of p); byte = 0; refusal = 0 }
-request_numbers (Asks (Write p v)) = record { kind = 2; port = number (port_of p); byte = v; refusal = 0 }
+request_numbers (Asks (Read p)) =
+    record { kind = 1; port = number (port_of p); byte = 0; refusal = 0 }
+request_numbers (Asks (Write p v)) =
+    record { kind = 2; port = number (port_of p); byte = v; refusal = 0 }
 request_numbers (Ends n) = refusing n
 
 -- A step and a beginning on all numbers.
 abbrev pub StepAll : List ℕ → ℕ → Advance → List ℕ → Type 0
-StepAll w b r l = StepIn (fields_of w) (counts_of w) (bytes_of w) (replies_of w) b r (fields_of l) (counts_of l) (bytes_of l) (replies_of l)
+StepAll w b r l = StepIn (fields_of w) (counts_of w) (bytes_of w) (replies_of w) b r (fields_of l)
+    (counts_of l) (bytes_of l) (replies_of l)
 
 abbrev pub BeginAll : Operation → Advance → List ℕ → Type 0
 BeginAll o r l = BeginIn o r (fields_of l) (counts_of l) (bytes_of l)
@@ -44,10 +47,14 @@ BeginAll o r l = BeginIn o r (fields_of l) (counts_of l) (bytes_of l)
 pub data NextWords (w : List ℕ) (byte : ℕ) : RequestWords → List ℕ → Type 0 where
   no_byte : 256 ≤ byte → NextWords w byte (refusing 255) w
   next_too_few : byte < 256 → (length w ≡ 256 → ⊥) → NextWords w byte (refusing 21) w
-  stepped : {a : Advance} {l : List ℕ} → byte < 256 → length w ≡ 256 → length l ≡ 256 → StepAll w byte a l → NextWords w byte (request_numbers a) l
+  stepped : {a : Advance} {l : List ℕ} → byte < 256 → length w ≡ 256 → length l ≡ 256
+      → StepAll w byte a l → NextWords w byte (request_numbers a) l
 
 pub data BeginWords (w : List ℕ) (number argument : ℕ) : RequestWords → List ℕ → Type 0 where
-  means_nothing : operation_in number argument ≡ None → BeginWords w number argument (refusing 255) w
-  begin_too_few : {o : Operation} → operation_in number argument ≡ Some o → (length w ≡ 256 → ⊥) → BeginWords w number argument (refusing 21) w
-  begun : {o : Operation} {a : Advance} {l : List ℕ} → operation_in number argument ≡ Some o → length w ≡ 256 → length l ≡ 256 → BeginAll o a l
+  means_nothing : operation_in number argument ≡ None
+      → BeginWords w number argument (refusing 255) w
+  begin_too_few : {o : Operation} → operation_in number argument ≡ Some o → (length w ≡ 256 → ⊥)
+      → BeginWords w number argument (refusing 21) w
+  begun : {o : Operation} {a : Advance} {l : List ℕ} → operation_in number argument ≡ Some o
+      → length w ≡ 256 → length l ≡ 256 → BeginAll o a l
       → BeginWords w number argument (request_numbers a) l

@@ -32,8 +32,8 @@ pub struct Session {
     pub at: Going,
 }
 
-/// What a step comes to: the numbers are no running session, or this is asked next, or the operation
-/// is at its end, with the number of its refusal.
+/// What a step comes to: the numbers are no running session, or this is asked next, or the
+/// operation is at its end, with the number of its refusal.
 #[derive(Clone, Copy)]
 pub enum Advance {
     Malformed,
@@ -107,7 +107,11 @@ fn asking(fields: &mut [u64], count: usize, at: Going) -> Request
 fn stopped(fields: &mut [u64], count: usize, stop: Stop) -> Advance
     requires length { length fields.old ≡ 12 }
     requires room { (q : AQuestion) → stop ≡ StopsAsking q → count < 224 }
-    ensures left { (o : AnOperation) (p : List ℕ) → operation_in (get_or fields.old 0 0) (get_or fields.old 1 0) ≡ Some o → Err stop ≡ shown (past (rounds (talk_of o)) (take count p)) → (bind (exchange_of (past (rounds (talk_of o)) (take count p))) (λ r. done (ended r)) ≡ said_rest result fields.new p) × Said result fields.new p }
+    ensures left { (o : AnOperation) (p : List ℕ)
+        → operation_in (get_or fields.old 0 0) (get_or fields.old 1 0) ≡ Some o
+        → Err stop ≡ shown (past (rounds (talk_of o)) (take count p))
+        → (bind (exchange_of (past (rounds (talk_of o)) (take count p))) (λ r. done (ended r))
+        ≡ said_rest result fields.new p) × Said result fields.new p }
     ensures formed { result ≡ AnAdvance.Malformed → ⊥ }
 {
     match stop {
@@ -124,7 +128,11 @@ fn stopped(fields: &mut [u64], count: usize, stop: Stop) -> Advance
 pub(crate) fn go_on(fields: &mut [u64], count: usize, said: Result<Ending, Stop>) -> Advance
     requires length { length fields.old ≡ 12 }
     requires room { (q : AQuestion) → said ≡ Err (StopsAsking q) → count < 224 }
-    ensures left { (o : AnOperation) (p : List ℕ) → operation_in (get_or fields.old 0 0) (get_or fields.old 1 0) ≡ Some o → said ≡ shown (past (rounds (talk_of o)) (take count p)) → (bind (exchange_of (past (rounds (talk_of o)) (take count p))) (λ r. done (ended r)) ≡ said_rest result fields.new p) × Said result fields.new p }
+    ensures left { (o : AnOperation) (p : List ℕ)
+        → operation_in (get_or fields.old 0 0) (get_or fields.old 1 0) ≡ Some o
+        → said ≡ shown (past (rounds (talk_of o)) (take count p))
+        → (bind (exchange_of (past (rounds (talk_of o)) (take count p))) (λ r. done (ended r))
+        ≡ said_rest result fields.new p) × Said result fields.new p }
     ensures formed { result ≡ AnAdvance.Malformed → ⊥ }
 {
     match said {

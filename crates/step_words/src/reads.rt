@@ -1,4 +1,5 @@
-// What is read of a session between two steps, and changes nothing: what it asks, and the bytes that were thrown away.
+// What is read of a session between two steps, and changes
+// nothing: what it asks, and the bytes that were thrown away.
 ghost use Rattle.std.specs.Prelude.{◌≡◌, length};
 ghost use Rattle.port_words.specs.ToldKept.{refusing_kept};
 ghost use Rattle.step_words.specs.Reads.{over_in, low_byte, bytes_from, WantedWords, KeptRead};
@@ -26,7 +27,8 @@ fn refusal_at(words: &[u64]) -> u32
     }
 }
 
-/// What a session asks, once more, without a step; after its end the refusal, 0 where there is none.
+/// What a session asks, once more, without a step; after
+/// its end the refusal, 0 where there is none.
 /// 21 where the numbers are no session.
 pub fn wanted(words: &[u64]) -> RequestWords
     ensures { WantedWords words.now result }

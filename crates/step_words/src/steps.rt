@@ -46,7 +46,9 @@ fn replied(fields: &mut [u64], replies: &mut [u64], session: Session, reply: Opt
     requires fields { length fields.old ≡ 12 }
     requires replies { length replies.old ≡ 224 }
     requires session { session_in fields.old ≡ Some session }
-    ensures rest { bind (exchange_of (answered (past (rounds (talk_of session.operation)) (take session.count replies.old)) reply)) (λ r. done (ended r)) ≡ said_rest result fields.new replies.new }
+    ensures rest { bind (exchange_of
+        (answered (past (rounds (talk_of session.operation)) (take session.count replies.old))
+        reply)) (λ r. done (ended r)) ≡ said_rest result fields.new replies.new }
     ensures says { Said result fields.new replies.new }
     ensures formed { result ≡ AnAdvance.Malformed → ⊥ }
 {
@@ -87,7 +89,8 @@ fn add(counts: &mut [u64], bytes: &mut [u64], byte: u8)
 fn note(counts: &mut [u64], bytes: &mut [u64], request: Request, byte: u8)
     requires counts { length counts.old ≡ 4 }
     requires bytes { length bytes.old ≡ 16 }
-    ensures { kept_in counts.new bytes.new ≡ noting (requested request) (kept_in counts.old bytes.old) byte }
+    ensures { kept_in counts.new bytes.new
+        ≡ noting (requested request) (kept_in counts.old bytes.old) byte }
 {
     match request {
         Request::Read(ReadPort::Data) => {
@@ -106,7 +109,9 @@ fn advance(fields: &mut [u64], replies: &mut [u64], session: Session, byte: u8) 
     requires fields { length fields.old ≡ 12 }
     requires replies { length replies.old ≡ 224 }
     requires session { session_in fields.old ≡ Some session }
-    ensures { (c b c' b' : List ℕ) → kept_in c' b' ≡ noting (wants (going session.at)) (kept_in c b) byte → StepIn fields.old c b replies.old byte result fields.new c' b' replies.new }
+    ensures { (c b c' b' : List ℕ)
+        → kept_in c' b' ≡ noting (wants (going session.at)) (kept_in c b) byte
+        → StepIn fields.old c b replies.old byte result fields.new c' b' replies.new }
 {
     match step(session.at, byte) {
         Stepped::Goes(at) => {
@@ -131,7 +136,8 @@ pub(crate) fn next_in(
     requires counts { length counts.old ≡ 4 }
     requires bytes { length bytes.old ≡ 16 }
     requires replies { length replies.old ≡ 224 }
-    ensures { StepIn fields.old counts.old bytes.old replies.old byte result fields.new counts.new bytes.new replies.new }
+    ensures { StepIn fields.old counts.old bytes.old replies.old byte result fields.new counts.new
+        bytes.new replies.new }
 {
     let Some(session) = session_at(fields) else {
         return Advance::Malformed;

@@ -1,4 +1,6 @@
-// Two stories of a queue that has no room. At a table with one keyboard the release of Control finds no room for its event, and T is still no Control-T. At a table with two, one side sends more than its share, and the other is still heard.
+// Two stories of a queue that has no room. At a table with one keyboard the release of Control
+// finds no room for its event, and T is still no Control-T. At a table with two, one side sends
+// more than its share, and the other is still heard.
 #![tactic(auto)]
 
 use keyboard::{Handled, HandlerRefusal, handle};

@@ -1,4 +1,5 @@
-// Prints the key events of the scancodes on standard input. The first 65,536 bytes are the script; more are ignored.
+// Prints the key events of the scancodes on standard input.
+// The first 65,536 bytes are the script; more are ignored.
 #![tactic(auto)]
 
 use program_status::ended;

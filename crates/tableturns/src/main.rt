@@ -1,4 +1,5 @@
-// Two keyboards and a mouse, served by turns: each event with its side and each packet, in the order of service, and why the steps end.
+// Two keyboards and a mouse, served by turns: each event with its side and each packet, in the
+// order of service, and why the steps end.
 #![tactic(auto)]
 
 use dispatcher::{Dispatcher, Served};
@@ -82,7 +83,8 @@ fn tell_served(rt: &impl Print, served: Served) -> Result<()> {
     }
 }
 
-// Whether a call took neither a byte of its script nor one that waited: it used none, and ended in 2, 3 or 21.
+// Whether a call took neither a byte of its script nor one
+// that waited: it used none, and ended in 2, 3 or 21.
 fn took_none(call: CallAnswer) -> bool {
     call.used == 0
         && matches!(
@@ -91,7 +93,8 @@ fn took_none(call: CallAnswer) -> bool {
         )
 }
 
-// How many steps in a row took no byte, after one more: 3 are a whole round of those that wait. An idle step ends them all, and leaves nothing to count.
+// How many steps in a row took no byte, after one more: 3 are a whole round of those that wait. An
+// idle step ends them all, and leaves nothing to count.
 fn steps_without(served: Served, before: usize) -> Option<usize> {
     match served {
         Served::Key(_, call) if took_none(call) => Some(before.saturating_add(1)),

@@ -1,4 +1,5 @@
-// Types the text on standard input: writes its scancodes to standard output. The first 65,536 characters are taken; more are ignored. A refusal is told on standard error.
+// Types the text on standard input: writes its scancodes to standard output. The first 65,536
+// characters are taken; more are ignored. A refusal is told on standard error.
 #![tactic(auto)]
 
 use program_status::ended;

@@ -16,7 +16,9 @@ use Rattle.talks.specs.Mouse.{set_sampling_rate, set_resolution}
 unfoldable pub apply_four : Fields → Talk Success
 apply_four four =
     next (set_scancode_set (set_of four.set))
-    (λ _. next (set_sampling_rate (rate_of four.rate)) (λ _. next (set_resolution (resolution_of four.resolution)) (λ _. set_port_led Port1 (lamps_of four.lamps))))
+    (λ _. next (set_sampling_rate (rate_of four.rate))
+    (λ _. next (set_resolution (resolution_of four.resolution))
+    (λ _. set_port_led Port1 (lamps_of four.lamps))))
 
 -- "Version 2 adds a fifth, the repeat byte"
 abbrev pub apply_within : Preferences → Talk Success

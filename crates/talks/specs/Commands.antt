@@ -58,7 +58,8 @@ verdict KeyDetectionErrorOrInternalBufferOverrun1 = Ok false
 verdict ResponseToEcho = Ok false
 verdict KeyDetectionErrorOrInternalBufferOverrun2 = Ok false
 
--- What the reply to an attempt says. "Sending: was bit 1 of the status clear in one of 255 status reads? 4" "Receiving: did one of 65,535 polls bring 00, AA, EE, FA, FC, FD, FE or FF? 5"
+-- What the reply to an attempt says. "Sending: was bit 1 of the status clear in one of 255 status
+-- reads? 4" "Receiving: did one of 65,535 polls bring 00, AA, EE, FA, FC, FD, FE or FF? 5"
 abbrev pub attempt_told : Option ℕ → Result Bool Failure
 attempt_told None = Err NoResponse
 attempt_told (Some b) = decode verdict (Err InputBufferFull) responses b

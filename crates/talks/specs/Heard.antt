@@ -7,7 +7,8 @@ use Rattle.talks.specs.declared.Stop.{Stop}
 use Rattle.talks.specs.declared.Stop.TheVariants.{Asks, Refused}
 use Rattle.talks.specs.Talk.{Talk, tells, asks, next, failing_as, trying, worked, attempting}
 
--- Whoever replies, as a state: the reply to a question, if there is one yet, and the state after it.
+-- Whoever replies, as a state: the reply to a question, if
+-- there is one yet, and the state after it.
 pub record Replies (S : Type 0) : Type 0 where
   pub reply : S → Question → Option (Option ℕ)
   pub past : S → Question → S
@@ -49,12 +50,14 @@ works (Ok a) = Ok true
 works (Err (Asks q)) = Err (Asks q)
 works (Err (Refused f)) = Ok false
 
-abbrev pub accepting : {S : Type 0} → (S → HeardBy S Success) → Result Bool Stop → S → HeardBy S Success
+abbrev pub accepting : {S : Type 0} → (S → HeardBy S Success) → Result Bool Stop → S
+    → HeardBy S Success
 accepting rest (Ok true) s = by (Ok success) s
 accepting rest (Ok false) s = rest s
 accepting rest (Err e) s = by (Err e) s
 
-unfoldable pub attempts_heard : {S : Type 0} → ℕ → Failure → (S → HeardBy S Bool) → S → HeardBy S Success
+unfoldable pub attempts_heard : {S : Type 0} → ℕ → Failure → (S → HeardBy S Bool) → S
+    → HeardBy S Success
 attempts_heard zero f one s = by (Err (Refused f)) s
 attempts_heard (suc n) f one s = accepting (attempts_heard n f one) (one s).what (one s).now
 

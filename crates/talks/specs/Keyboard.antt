@@ -32,35 +32,42 @@ abbrev pub keyboard_command : HostToKeyboardCommand → Talk Success
 keyboard_command c = command (Keyboard (Byte.KeyboardCommand c))
 
 -- A command of the keyboard of a port, and its byte.
-abbrev pub keyboard_pair : DevicePort → HostToKeyboardCommand → HostToKeyboardCommandOrData → Talk Success
+abbrev pub keyboard_pair : DevicePort → HostToKeyboardCommand → HostToKeyboardCommandOrData
+    → Talk Success
 keyboard_pair port c byte = command_pair port (Keyboard (Byte.KeyboardCommand c)) (Keyboard byte)
 
 -- "Reset sends FF by the command rule, then reads without status until a further AA."
 unfoldable pub reset_keyboard : Talk Success
 reset_keyboard = next (keyboard_command Command.ResetAndStartSelfTest) (λ _. self_test 262139)
 
--- "the lamp exchange (ED, then scroll 1, number 2, caps 4 added)". "Did the lamp exchange succeed? 14"
+-- "the lamp exchange (ED, then scroll 1, number 2, caps 4
+-- added)". "Did the lamp exchange succeed? 14"
 unfoldable pub set_port_led : DevicePort → LEDState → Talk Success
-set_port_led port leds = failing_as LedsNotSet (keyboard_pair port Command.SetLEDStatus (Byte.LEDState leds))
+set_port_led port leds =
+    failing_as LedsNotSet (keyboard_pair port Command.SetLEDStatus (Byte.LEDState leds))
 
 -- F0 and its byte: 00 asks for the set, 1 to 3 set it.
 unfoldable pub command_scancode_set : ScancodeSet → Talk Success
 command_scancode_set set = keyboard_pair Port1 Command.ScancodeSet (Byte.ScancodeSet set)
 
--- "F0, 00, polls for a byte 0 to 3". "Did the scancode set (0 to 3) .. come within 65,535 polls? 11"
+-- "F0, 00, polls for a byte 0 to 3". "Did the scancode set
+-- (0 to 3) .. come within 65,535 polls? 11"
 abbrev pub set_given : ℕ → Result ScancodeSet Failure
 set_given b = decode Ok (Err NoSetOrIdentity) scancode_sets b
 
 unfoldable pub get_scancode_set : Talk ScancodeSet
-get_scancode_set = next (command_scancode_set Set.Get) (λ _. next (seek Sought.ScancodeSet further_polls NoSetOrIdentity) (λ b. tells (set_given b)))
+get_scancode_set = next (command_scancode_set Set.Get)
+    (λ _. next (seek Sought.ScancodeSet further_polls NoSetOrIdentity) (λ b. tells (set_given b)))
 
 -- "F0, the set, F0, 00, polls for a byte 0 to 3; a different set still succeeds."
 unfoldable pub set_scancode_set : ScancodeSet → Talk Success
-set_scancode_set set = next (command_scancode_set set) (λ _. next get_scancode_set (λ _. tells (Ok success)))
+set_scancode_set set =
+    next (command_scancode_set set) (λ _. next get_scancode_set (λ _. tells (Ok success)))
 
 -- F3 and the byte.
 unfoldable pub set_keyboard_repeat : ℕ → Talk Success
-set_keyboard_repeat byte = keyboard_pair Port1 Command.SetRepeatRateAndDelay (Byte.RepeatRateAndDelay byte)
+set_keyboard_repeat byte =
+    keyboard_pair Port1 Command.SetRepeatRateAndDelay (Byte.RepeatRateAndDelay byte)
 
 -- Whether there is a byte to read: bit 0 of the status.
 unfoldable pub keyboard_waits : Talk Bool
@@ -73,7 +80,8 @@ abbrev pub second_given : ℕ → Result KeyboardType Failure
 second_given b = decode Ok (Err UnknownKeyboard) second_bytes b
 
 unfoldable pub inner_search : Talk KeyboardType
-inner_search = next (seek Sought.SecondOfIdentity further_polls UnknownKeyboard) (λ b. tells (second_given b))
+inner_search =
+    next (seek Sought.SecondOfIdentity further_polls UnknownKeyboard) (λ b. tells (second_given b))
 
 -- 00 is the ancient type; AB starts the inner search.
 abbrev pub type_after : Bool → Talk KeyboardType
@@ -81,18 +89,21 @@ type_after true = tells (Ok AncientATKeyboard)
 type_after false = inner_search
 
 unfoldable pub type_search : Talk KeyboardType
-type_search = next (seek Sought.FirstOfIdentity further_polls UnknownKeyboard) (λ b. type_after (eqb b 0x00))
+type_search =
+    next (seek Sought.FirstOfIdentity further_polls UnknownKeyboard) (λ b. type_after (eqb b 0x00))
 
 -- "F5, F2, up to 65,535 polls .. Then F4, whose failure outweighs the type."
 unfoldable pub keyboard_detect : Talk KeyboardType
 keyboard_detect =
     next (keyboard_command Command.DisableScanning)
     (λ _. next (keyboard_command Command.IdentifyKeyboard)
-    (λ _. next (trying type_search) (λ type. next (keyboard_command Command.EnableScanning) (λ _. tells type))))
+    (λ _. next (trying type_search)
+    (λ type. next (keyboard_command Command.EnableScanning) (λ _. tells type))))
 
 -- "`keyboard_detect`, then `set_keyboard_scancode_set` with set 1."
 unfoldable pub keyboard_init : Talk Success
-keyboard_init = next (failing_as KeyboardNotDetected keyboard_detect) (λ _. set_scancode_set Set.Set1)
+keyboard_init =
+    next (failing_as KeyboardNotDetected keyboard_detect) (λ _. set_scancode_set Set.Set1)
 
 -- What the code's parts say.
 abbrev pub set_said : ℕ → Result ScancodeSet Stop

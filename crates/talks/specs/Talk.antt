@@ -1,4 +1,5 @@
--- An operation as a talk with whoever replies to its questions, and the tree of reads and writes that it makes.
+-- An operation as a talk with whoever replies to its
+-- questions, and the tree of reads and writes that it makes.
 use Rattle.std.specs.Prelude.{Bool, true, false, ℕ, Option, Result, Ok, Err}
 use Rattle.exchange.specs.Exchange.{Exchange, done, bind}
 use Rattle.exchange.specs.Answer.{Answer, gives, refuses}
@@ -8,9 +9,10 @@ use Rattle.ps2_answers.specs.declared.Failure.{Failure}
 use Rattle.questions.specs.declared.Question.{Question}
 use Rattle.questions.specs.Asked.{asked}
 
--- A talk tells what it comes to, or why it failed. It asks one question: a write, a whole wait, or one attempt of a
--- command. It goes on by what another told, whose failure ends both. It replaces another's failure by its own, or
--- forgives it, or says whether there was none. It makes attempts until one is accepted, and fails after the last.
+-- A talk tells what it comes to, or why it failed. It asks one question: a write, a whole wait, or
+-- one attempt of a command. It goes on by what another told, whose failure ends both. It replaces
+-- another's failure by its own, or forgives it, or says whether there was none. It makes attempts
+-- until one is accepted, and fails after the last.
 pub data Talk : Type 0 → Type 1 where
   tells : {A : Type 0} → Result A Failure → Talk A
   asks : Question → Talk (Option ℕ)
@@ -22,7 +24,8 @@ pub data Talk : Type 0 → Type 1 where
 
 -- ---- the tree of a talk
 
-abbrev pub on_ok : {A B : Type 0} → (A → Exchange (Result B Failure)) → Result A Failure → Exchange (Result B Failure)
+abbrev pub on_ok : {A B : Type 0} → (A → Exchange (Result B Failure)) → Result A Failure
+    → Exchange (Result B Failure)
 on_ok g (Ok a) = g a
 on_ok g (Err f) = done (Err f)
 

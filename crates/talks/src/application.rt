@@ -20,7 +20,8 @@ use ps2_ports::DevicePort;
 /// resolution not set (15).
 #[tactic(auto, unfolding(crate::specs::Application::apply_preferences, crate::specs::Heard::heard))]
 pub fn apply_preferences<P: Partner>(partner: &mut P, preferences: Preferences) -> Result<(), Stop>
-    ensures { by result partner.new ≡ heard P.replies (talk.apply_preferences preferences) partner.old }
+    ensures { by result partner.new
+        ≡ heard P.replies (talk.apply_preferences preferences) partner.old }
 {
     if preferences.within_values() {
         apply_within(partner, preferences)
@@ -45,7 +46,8 @@ fn apply_within<P: Partner>(partner: &mut P, preferences: Preferences) -> Result
 #[tactic(auto, unfolding(crate::specs::Heard::heard))]
 fn apply_five<P: Partner>(partner: &mut P, four: Fields, again: u32) -> Result<(), Stop>
     requires { within_values (Version2 four again) ≡ true }
-    ensures { by result partner.new ≡ heard P.replies (talk.apply_within (Version2 four again)) partner.old }
+    ensures { by result partner.new
+        ≡ heard P.replies (talk.apply_within (Version2 four again)) partner.old }
 {
     apply_four(partner, four)?;
     set_keyboard_repeat(partner, byte_of(again))

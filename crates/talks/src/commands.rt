@@ -45,7 +45,8 @@ pub fn seek<P: Partner>(
     further: u32,
     failure: Failure,
 ) -> Result<u8, Stop>
-    ensures { by result partner.new ≡ heard P.replies (talk.seek sought further failure) partner.old }
+    ensures { by result partner.new
+        ≡ heard P.replies (talk.seek sought further failure) partner.old }
 {
     match partner.ask(Question::Seek(sought, further))? {
         Some(byte) => Ok(byte),
@@ -163,7 +164,8 @@ pub fn command_pair<P: Partner>(
     first: HostToDevice,
     second: HostToDevice,
 ) -> Result<(), Stop>
-    ensures { by result partner.new ≡ heard P.replies (talk.command_pair port first second) partner.old }
+    ensures { by result partner.new
+        ≡ heard P.replies (talk.command_pair port first second) partner.old }
 {
     command_by(partner, port, first)?;
     command_by(partner, port, second)

@@ -171,7 +171,8 @@ fn enable_port<P: Partner>(
     works: bool,
     config: ControllerConfigurationByte,
 ) -> Result<ControllerConfigurationByte, Stop>
-    ensures { by result partner.new ≡ heard P.replies (talk.enable_port port works config) partner.old }
+    ensures { by result partner.new
+        ≡ heard P.replies (talk.enable_port port works config) partner.old }
 {
     if works {
         write_command(partner, enabling(port))?;

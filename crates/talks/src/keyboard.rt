@@ -37,7 +37,8 @@ fn keyboard_pair<P: Partner>(
     command: HostToKeyboardCommand,
     byte: HostToKeyboardCommandOrData,
 ) -> Result<(), Stop>
-    ensures { by result partner.new ≡ heard P.replies (talk.keyboard_pair port command byte) partner.old }
+    ensures { by result partner.new
+        ≡ heard P.replies (talk.keyboard_pair port command byte) partner.old }
 {
     command_pair(
         partner,

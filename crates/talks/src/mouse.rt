@@ -153,7 +153,8 @@ fn after_three<P: Partner>(
     byte2: u8,
     byte3: u8,
 ) -> Result<SignedPacket, Stop>
-    ensures { by result partner.new ≡ heard P.replies (talk.after_three id byte1 byte2 byte3) partner.old }
+    ensures { by result partner.new
+        ≡ heard P.replies (talk.after_three id byte1 byte2 byte3) partner.old }
 {
     let packet = match id {
         MouseId::Zero => MousePacket::Zero(MousePacketGeneric::from_bytes(byte1, byte2, byte3)),
@@ -189,7 +190,8 @@ fn set_rates<P: Partner>(
     second: MouseSampleRate,
     third: MouseSampleRate,
 ) -> Result<(), Stop>
-    ensures { by result partner.new ≡ heard P.replies (talk.set_rates first second third) partner.old }
+    ensures { by result partner.new
+        ≡ heard P.replies (talk.set_rates first second third) partner.old }
 {
     set_sampling_rate(partner, first)?;
     set_sampling_rate(partner, second)?;
@@ -205,7 +207,8 @@ fn identity_after<P: Partner>(
     second: MouseSampleRate,
     third: MouseSampleRate,
 ) -> Result<Result<MouseId, Failure>, Stop>
-    ensures { by result partner.new ≡ heard P.replies (talk.identity_after first second third) partner.old }
+    ensures { by result partner.new
+        ≡ heard P.replies (talk.identity_after first second third) partner.old }
 {
     set_rates(partner, first, second, third)?;
     tried(mouse_id(partner))

@@ -30,7 +30,8 @@ left h log = record { handler = h; log = log }
 
 -- One call more.
 abbrev pub one_more : Side → List ℕ → Left → Left
-one_more side script x = left (handled keyboard_lamps side x.handler script x.log).handler (log_left keyboard_lamps side x.handler.state script x.log)
+one_more side script x = left (handled keyboard_lamps side x.handler script x.log).handler
+    (log_left keyboard_lamps side x.handler.state script x.log)
 
 -- The script of a call, of two that are lent in turn: calls are counted from 0.
 abbrev pub in_turn : ℕ → List ℕ → List ℕ → List ℕ
@@ -39,4 +40,5 @@ in_turn call script other = cond (eqb (call % 2) 0) script other
 -- What so many calls leave.
 unfoldable pub called : Side → ℕ → List ℕ → List ℕ → Left → Left
 called side zero script other x = x
-called side (suc n) script other x = one_more side (in_turn n script other) (called side n script other x)
+called side (suc n) script other x =
+    one_more side (in_turn n script other) (called side n script other x)

@@ -24,16 +24,19 @@ use Rattle.test_calls.specs.declared.devices.RustPacketWords.{RustPacketWords}
 
 -- A data byte, sent as a command is, which hands back the bytes that it threw away.
 abbrev pub commanding_set : ScancodeSet → Exchange (Kept KeptBytes (Answer Success))
-commanding_set set = keeping_thrown (command_to_keyboard (HostToKeyboardCommandOrData.ScancodeSet set))
+commanding_set set =
+    keeping_thrown (command_to_keyboard (HostToKeyboardCommandOrData.ScancodeSet set))
 
 abbrev pub commanding_lamps : LEDState → Exchange (Kept KeptBytes (Answer Success))
-commanding_lamps leds = keeping_thrown (command_to_keyboard (HostToKeyboardCommandOrData.LEDState leds))
+commanding_lamps leds =
+    keeping_thrown (command_to_keyboard (HostToKeyboardCommandOrData.LEDState leds))
 
 abbrev pub commanding_rate : MouseSampleRate → Exchange (Kept KeptBytes (Answer Success))
 commanding_rate rate = keeping_thrown (command_to_mouse (HostToMouseCommandOrData.SampleRate rate))
 
 abbrev pub commanding_resolution : MouseResolution → Exchange (Kept KeptBytes (Answer Success))
-commanding_resolution resolution = keeping_thrown (command_to_mouse (HostToMouseCommandOrData.MouseResolution resolution))
+commanding_resolution resolution =
+    keeping_thrown (command_to_mouse (HostToMouseCommandOrData.MouseResolution resolution))
 
 -- A packet as the library tells it, but for the wheel, which is the Rust's.
 abbrev pub told_unsigned : End (Answer MousePacket) → ℕ → ℕ → PacketWords
@@ -50,7 +53,10 @@ told_unsigned end used pairs =
 
 -- The same, with the bit that is always one.
 abbrev pub told_read : End (Answer MousePacket) → ℕ → ℕ → RustPacketWords
-told_read end used pairs = record { packet = told_unsigned end used pairs; always_one = given_or 0 (λ p. weigh (bit always_one (common p).byte1)) end }
+told_read end used pairs = record {
+  packet = told_unsigned end used pairs;
+  always_one = given_or 0 (λ p. weigh (bit always_one (common p).byte1)) end;
+}
 
 -- A refusal before anything is read.
 abbrev pub refusing_read : ℕ → RustPacketWords

@@ -25,7 +25,8 @@ abbrev pub sending_set : ScancodeSet → Exchange (Answer Success)
 sending_set set = polling_send (HostToDevice.Keyboard (HostToKeyboardCommandOrData.ScancodeSet set))
 
 -- A response by its byte, with the bytes that were thrown away before it.
-abbrev pub told_received : End (Kept KeptBytes (Answer DeviceToHostResponse)) → ℕ → ℕ → ReceivedWords
+abbrev pub told_received : End (Kept KeptBytes (Answer DeviceToHostResponse)) → ℕ → ℕ
+    → ReceivedWords
 told_received end used pairs =
     record {
       answer = told response_byte (told_end (λ v. v.value) end) used pairs;

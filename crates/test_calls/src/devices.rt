@@ -30,7 +30,8 @@ use ps2_packet_reading::read_packet;
 /// Sends a scancode set, 0 to 3, as a command's data byte.
 #[unsafe(no_mangle)]
 pub extern "C" fn vdt_keyboard_data_set(set: u32, script: &[u8], log: &mut [u8]) -> KeptWords
-    ensures { TellsAt (refusing_kept invalid_argument) told_kept commanding_set (set_at set) script.now log.old result log.new }
+    ensures { TellsAt (refusing_kept invalid_argument) told_kept commanding_set (set_at set)
+        script.now log.old result log.new }
 {
     match set_of(set) {
         Some(known) => commanded_words(command_to_keyboard(
@@ -49,7 +50,8 @@ pub extern "C" fn vdt_keyboard_set_scancode_set(
     script: &[u8],
     log: &mut [u8],
 ) -> PortWords
-    ensures { TellsAt (refusing invalid_argument) (told no_value) set_scancode_set (set_at set) script.now log.old result log.new }
+    ensures { TellsAt (refusing invalid_argument) (told no_value) set_scancode_set (set_at set)
+        script.now log.old result log.new }
 {
     match set_of(set) {
         Some(known) => answer_words(set_keyboard_scancode_set(script, log, known)),
@@ -60,7 +62,8 @@ pub extern "C" fn vdt_keyboard_set_scancode_set(
 /// Sends lamps, 0 to 7, as a command's data byte.
 #[unsafe(no_mangle)]
 pub extern "C" fn vdt_keyboard_data_lamps(lamps: u32, script: &[u8], log: &mut [u8]) -> KeptWords
-    ensures { TellsAt (refusing_kept invalid_argument) told_kept commanding_lamps (lamps_at lamps) script.now log.old result log.new }
+    ensures { TellsAt (refusing_kept invalid_argument) told_kept commanding_lamps (lamps_at lamps)
+        script.now log.old result log.new }
 {
     match lamps_of(lamps) {
         Some(leds) => commanded_words(command_to_keyboard(
@@ -75,7 +78,8 @@ pub extern "C" fn vdt_keyboard_data_lamps(lamps: u32, script: &[u8], log: &mut [
 /// Sends a sampling rate as a command's data byte.
 #[unsafe(no_mangle)]
 pub extern "C" fn vdt_mouse_data_rate(rate: u32, script: &[u8], log: &mut [u8]) -> KeptWords
-    ensures { TellsAt (refusing_kept invalid_argument) told_kept commanding_rate (rate_at rate) script.now log.old result log.new }
+    ensures { TellsAt (refusing_kept invalid_argument) told_kept commanding_rate (rate_at rate)
+        script.now log.old result log.new }
 {
     match rate_of(rate) {
         Some(known) => commanded_words(PS2Mouse::command_to_mouse(
@@ -94,7 +98,8 @@ pub extern "C" fn vdt_mouse_data_resolution(
     script: &[u8],
     log: &mut [u8],
 ) -> KeptWords
-    ensures { TellsAt (refusing_kept invalid_argument) told_kept commanding_resolution (resolution_at resolution) script.now log.old result log.new }
+    ensures { TellsAt (refusing_kept invalid_argument) told_kept commanding_resolution
+        (resolution_at resolution) script.now log.old result log.new }
 {
     match resolution_of(resolution) {
         Some(known) => commanded_words(PS2Mouse::command_to_mouse(
@@ -106,7 +111,8 @@ pub extern "C" fn vdt_mouse_data_resolution(
     }
 }
 
-/// A packet as the library tells it, but for the wheel, which is the Rust's: unsigned at identity 4.
+/// A packet as the library tells it, but for the wheel,
+/// which is the Rust's: unsigned at identity 4.
 /// Beside it the bit of its first byte that is always one.
 #[repr(C)]
 #[derive(Clone, Copy)]
@@ -139,7 +145,8 @@ fn read_words(read: Answer<MousePacket>) -> RustPacketWords
 /// Reads the packet that a mouse of identity 0, 3 or 4 sends.
 #[unsafe(no_mangle)]
 pub extern "C" fn vdt_mouse_read_packet(identity: u32, script: &[u8]) -> RustPacketWords
-    ensures { TellsReadingAt (refusing_read invalid_argument) told_read read_mouse_packet (identity_at identity) script.now result }
+    ensures { TellsReadingAt (refusing_read invalid_argument) told_read read_mouse_packet
+        (identity_at identity) script.now result }
 {
     match identity_of(identity) {
         Some(id) => read_words(read_packet(id, script)),

@@ -1,5 +1,5 @@
-// Calls for tests and measuring alone (beside/): the operations that the library `vurdellow` doesn't export, and handler calls and dispatcher's steps
-// in a row. Nothing else links this.
+// Calls for tests and measuring alone (beside/): the operations that the library `vurdellow`
+// doesn't export, and handler calls and dispatcher's steps in a row. Nothing else links this.
 #![tactic(auto, unfolding(bits::specs::Table::decode))]
 
 mod arguments;

@@ -64,7 +64,8 @@ pub extern "C" fn vdt_configuration_read(script: &[u8], log: &mut [u8]) -> PortW
 /// Writes the controller's configuration.
 #[unsafe(no_mangle)]
 pub extern "C" fn vdt_configuration_write(configuration: u8, log: &mut [u8]) -> PortWords
-    ensures { (script : List ℕ) → Tells (told no_value) (write_config (record { bits = configuration })) script log.old result log.new }
+    ensures { (script : List ℕ) → Tells (told no_value)
+        (write_config (record { bits = configuration })) script log.old result log.new }
 {
     answer_words(write_config(log, ControllerConfigurationByte::from(configuration)))
 }
@@ -72,7 +73,8 @@ pub extern "C" fn vdt_configuration_write(configuration: u8, log: &mut [u8]) -> 
 /// Sends a scancode set, 0 to 3, as soon as the last byte was taken, and waits for no response.
 #[unsafe(no_mangle)]
 pub extern "C" fn vdt_polling_send(set: u32, script: &[u8], log: &mut [u8]) -> PortWords
-    ensures { TellsAt (refusing invalid_argument) (told no_value) sending_set (set_at set) script.now log.old result log.new }
+    ensures { TellsAt (refusing invalid_argument) (told no_value) sending_set (set_at set)
+        script.now log.old result log.new }
 {
     match set_of(set) {
         Some(known) => answer_words(polling_send(

@@ -1,4 +1,5 @@
-// Handler calls and takings on the record that lent numbers stand for, by value and in place: the record is read out of the numbers, and the one that is left is stored.
+// Handler calls and takings on the record that lent numbers stand for, by value and in place: the
+// record is read out of the numbers, and the one that is left is stored.
 ghost use Rattle.std.specs.Prelude.{◌≡◌};
 ghost use Rattle.keyboard.specs.KeyboardLamps.{keyboard_lamps};
 ghost use Rattle.keyboard.specs.Handler.{handled, log_left};
@@ -21,7 +22,9 @@ fn handle_by_value(
     script: &[u8],
     log: &mut [u8],
 ) -> CallAnswer
-    ensures { (said_in_place result handler.new ≡ handled keyboard_lamps side handler.old script.now log.old) × (log.new ≡ log_left keyboard_lamps side handler.old.state script.now log.old) }
+    ensures { (said_in_place result handler.new
+        ≡ handled keyboard_lamps side handler.old script.now log.old)
+        × (log.new ≡ log_left keyboard_lamps side handler.old.state script.now log.old) }
 {
     let handled = handle(*handler, side, script, log);
     *handler = handled.handler;
@@ -34,8 +37,8 @@ fn handle_by_value(
     }
 }
 
-/// A handler call by value, for side 1 or 2, on the record that 144 numbers stand for. Numbers that fit
-/// no record are refused with 21, and stay.
+/// A handler call by value, for side 1 or 2, on the record that 144 numbers stand for. Numbers that
+/// fit no record are refused with 21, and stay.
 #[unsafe(no_mangle)]
 pub extern "C" fn vdt_handle_by_value(
     words: &mut [u64],

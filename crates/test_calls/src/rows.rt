@@ -1,4 +1,5 @@
-// Handler calls by value, in place or on the state alone, and a dispatcher's steps, one after another: for measuring.
+// Handler calls by value, in place or on the state alone, and
+// a dispatcher's steps, one after another: for measuring.
 ghost use Rattle.std.specs.Prelude.{◌≡◌};
 ghost use Rattle.keyboard_sides.specs.Sides.{side_of};
 ghost use Rattle.keyboard_record.specs.Record.{fresh};
@@ -52,21 +53,24 @@ fn call_by_value(
     script: &[u8],
     log: &mut [u8],
 ) -> KeyboardHandler
-    ensures { (result ≡ (handled keyboard_lamps side handler script.now log.old).handler) × (log.new ≡ log_left keyboard_lamps side handler.state script.now log.old) }
+    ensures { (result ≡ (handled keyboard_lamps side handler script.now log.old).handler)
+        × (log.new ≡ log_left keyboard_lamps side handler.state script.now log.old) }
 {
     handle(handler, side, script, log).handler
 }
 
 // A handler call on the state alone: whoever holds the places stores the event.
 fn call_on_state(mut state: HandlerState, side: Side, script: &[u8], log: &mut [u8]) -> HandlerState
-    ensures { (result ≡ (effects keyboard_lamps side state script.now log.old).state) × (log.new ≡ log_left keyboard_lamps side state script.now log.old) }
+    ensures { (result ≡ (effects keyboard_lamps side state script.now log.old).state)
+        × (log.new ≡ log_left keyboard_lamps side state script.now log.old) }
 {
     handle_state(&mut state, side, script, log);
     state
 }
 
-/// So many handler calls by value for a side, whose scripts are these two in turn, from a fresh record
-/// on for one keyboard or two, without the profile or with it; answers how many events then wait.
+/// So many handler calls by value for a side, whose scripts are these
+/// two in turn, from a fresh record on for one keyboard or two,
+/// without the profile or with it; answers how many events then wait.
 #[unsafe(no_mangle)]
 pub extern "C" fn vdt_handler_calls_by_value(
     script: &[u8],
@@ -77,7 +81,10 @@ pub extern "C" fn vdt_handler_calls_by_value(
     tournament: bool,
     second: bool,
 ) -> usize
-    ensures { (result ≡ (called (side_of second) times script.now other.now (left (fresh (table_of two tournament)) log.old)).handler.state.count) × (log.new ≡ (called (side_of second) times script.now other.now (left (fresh (table_of two tournament)) log.old)).log) }
+    ensures { (result ≡ (called (side_of second) times script.now other.now
+        (left (fresh (table_of two tournament)) log.old)).handler.state.count)
+        × (log.new ≡ (called (side_of second) times script.now other.now
+        (left (fresh (table_of two tournament)) log.old)).log) }
 {
     let side = side_of(second);
     let mut handler = KeyboardHandler::fresh(table_of(two, tournament));
@@ -98,7 +105,10 @@ pub extern "C" fn vdt_handler_calls_in_place(
     tournament: bool,
     second: bool,
 ) -> usize
-    ensures { (result ≡ (called (side_of second) times script.now other.now (left (fresh (table_of two tournament)) log.old)).handler.state.count) × (log.new ≡ (called (side_of second) times script.now other.now (left (fresh (table_of two tournament)) log.old)).log) }
+    ensures { (result ≡ (called (side_of second) times script.now other.now
+        (left (fresh (table_of two tournament)) log.old)).handler.state.count)
+        × (log.new ≡ (called (side_of second) times script.now other.now
+        (left (fresh (table_of two tournament)) log.old)).log) }
 {
     let side = side_of(second);
     let mut handler = KeyboardHandler::fresh(table_of(two, tournament));
@@ -120,7 +130,10 @@ pub extern "C" fn vdt_handler_calls_on_state(
     tournament: bool,
     second: bool,
 ) -> usize
-    ensures { (result ≡ (called (side_of second) times script.now other.now (left (fresh (table_of two tournament)) log.old)).handler.state.count) × (log.new ≡ (called (side_of second) times script.now other.now (left (fresh (table_of two tournament)) log.old)).log) }
+    ensures { (result ≡ (called (side_of second) times script.now other.now
+        (left (fresh (table_of two tournament)) log.old)).handler.state.count)
+        × (log.new ≡ (called (side_of second) times script.now other.now
+        (left (fresh (table_of two tournament)) log.old)).log) }
 {
     let side = side_of(second);
     let mut state = KeyboardHandler::fresh(table_of(two, tournament)).state;
@@ -138,7 +151,8 @@ fn one_step(
     mouse: &[u8],
     log: &mut [u8],
 ) -> Dispatcher
-    ensures { left_by_step result log.new ≡ one_more (scripts first.now second.now mouse.now) (left_by_step state log.old) }
+    ensures { left_by_step result log.new
+        ≡ one_more (scripts first.now second.now mouse.now) (left_by_step state log.old) }
 {
     state.step(first, second, mouse, log).state
 }
@@ -153,7 +167,9 @@ pub extern "C" fn vdt_dispatcher_steps(
     log: &mut [u8],
     times: usize,
 ) -> usize
-    ensures { let after = made times (scripts first.now second.now mouse.now) (left_by_step (new_dispatcher (fresh two_keyboards) fresh_mouse) log.old) in (result ≡ after.state.handler.state.count) × (log.new ≡ after.log) }
+    ensures { let after = made times (scripts first.now second.now mouse.now)
+        (left_by_step (new_dispatcher (fresh two_keyboards) fresh_mouse) log.old) in
+        (result ≡ after.state.handler.state.count) × (log.new ≡ after.log) }
 {
     let mut state = Dispatcher::new(
         KeyboardHandler::fresh(Table {

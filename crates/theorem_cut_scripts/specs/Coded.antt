@@ -1,4 +1,5 @@
--- Answers as the code gives them: its results and enums, with the records, the kept bytes and the count of dropped ones beside them.
+-- Answers as the code gives them: its results and enums, with the records, the kept bytes and the
+-- count of dropped ones beside them.
 use Rattle.std.specs.Prelude.{ℕ, Bool, false, List, Result, Ok, Err, ◌≡◌, Option, None}
 use Rattle.exchange.specs.Exchange.{Port, p60, p64, End}
 use Rattle.exchange.specs.Answer.{Answer}
@@ -28,7 +29,8 @@ no_byte p = Lack.Script (read_port p)
 abbrev pub lacking : Port → Refusal
 lacking p = Refusal.Lacking (no_byte p)
 
--- The code's answers X, by what says their meaning: no two of them say the same, and `coded p` is the one that says the answer 2 for want of a byte from p.
+-- The code's answers X, by what says their meaning: no two of them say the same, and `coded p` is
+-- the one that says the answer 2 for want of a byte from p.
 pub record Codes {X R : Type 0} (said : X → R) (two : Port → R) (coded : Port → X) : Type 0 where
   pub apart : (x x' : X) → said x ≡ said x' → x ≡ x'
   pub says_two : (p : Port) → said (coded p) ≡ two p
@@ -51,7 +53,8 @@ abbrev pub uncounted : {T : Type 0} → Result (Counted T) (Counted Refusal) →
 uncounted (Ok a) = Ok a.value
 uncounted (Err e) = Err e.value
 
-abbrev pub recounted : {T : Type 0} → Result T Refusal → ℕ → ℕ → Result (Counted T) (Counted Refusal)
+abbrev pub recounted : {T : Type 0} → Result T Refusal → ℕ → ℕ
+    → Result (Counted T) (Counted Refusal)
 recounted (Ok v) u w = Ok (counted v u w)
 recounted (Err e) u w = Err (counted e u w)
 
@@ -59,18 +62,22 @@ recounted (Err e) u w = Err (counted e u w)
 abbrev pub said_result : {T : Type 0} → Result T Refusal → End (Answer T)
 said_result x = ended (recounted x 0 0)
 
-abbrev pub said_turn : {T B : Type 0} → (T → Turn (Answer B)) → Result T Refusal → End (Turn (Answer B))
+abbrev pub said_turn : {T B : Type 0} → (T → Turn (Answer B)) → Result T Refusal
+    → End (Turn (Answer B))
 said_turn worth x = turn_end worth (recounted x 0 0)
 
 abbrev pub refused_for : {T : Type 0} → Port → Result T Refusal
 refused_for p = Err (lacking p)
 
 -- What such a call hands back: alone, and with kept bytes or a record beside the answer.
-abbrev pub handed_answer : {T : Type 0} → Result (Counted T) (Counted Refusal) → List ℕ → Handed (Result T Refusal)
+abbrev pub handed_answer : {T : Type 0} → Result (Counted T) (Counted Refusal) → List ℕ
+    → Handed (Result T Refusal)
 handed_answer r l = handed (uncounted r) (used_of r) (pairs_of r) l
 
-abbrev pub handed_beside : {K T : Type 0} → Result (Counted T) (Counted Refusal) → K → List ℕ → Handed (CodedWith K (Result T Refusal))
-handed_beside r k l = handed (record { answer = uncounted r; beside = k }) (used_of r) (pairs_of r) l
+abbrev pub handed_beside : {K T : Type 0} → Result (Counted T) (Counted Refusal) → K → List ℕ
+    → Handed (CodedWith K (Result T Refusal))
+handed_beside r k l =
+    handed (record { answer = uncounted r; beside = k }) (used_of r) (pairs_of r) l
 
 -- ---- what a handler call answers
 
@@ -89,13 +96,35 @@ pub record RecordCoded : Type 0 where
   pub dropped : ℕ
 
 abbrev pub said_state : StateCoded → StateBack
-said_state x = record { end = said_call x.answer; lamps = said_lamps x.failed; state = x.state; event = said_event x.event; dropped = x.dropped }
+said_state x = record {
+  end = said_call x.answer;
+  lamps = said_lamps x.failed;
+  state = x.state;
+  event = said_event x.event;
+  dropped = x.dropped;
+}
 
 abbrev pub said_record : RecordCoded → RecordBack
-said_record x = record { end = said_call x.answer; lamps = said_lamps x.failed; handler = x.handler; dropped = x.dropped }
+said_record x = record {
+  end = said_call x.answer;
+  lamps = said_lamps x.failed;
+  handler = x.handler;
+  dropped = x.dropped;
+}
 
 abbrev pub coded_state : HandlerState → Port → StateCoded
-coded_state passed p = record { answer = Err (HandlerRefusal.Lacking (no_byte p)); failed = false; state = passed; event = None; dropped = 0 }
+coded_state passed p = record {
+  answer = Err (HandlerRefusal.Lacking (no_byte p));
+  failed = false;
+  state = passed;
+  event = None;
+  dropped = 0;
+}
 
 abbrev pub coded_record : KeyboardHandler → Port → RecordCoded
-coded_record passed p = record { answer = Err (HandlerRefusal.Lacking (no_byte p)); failed = false; handler = passed; dropped = 0 }
+coded_record passed p = record {
+  answer = Err (HandlerRefusal.Lacking (no_byte p));
+  failed = false;
+  handler = passed;
+  dropped = 0;
+}

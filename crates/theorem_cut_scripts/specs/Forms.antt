@@ -1,5 +1,8 @@
--- What calls hand back beside their counts, by the forms of their contracts, and what that is with the answer 2: "after 2, 3 or 21 records are as passed in", nothing is kept, and 0 bytes are dropped.
--- An operation that hands back an answer and a value alone hands back the end of its play; with the answer 2 that is `lack p`.
+-- What calls hand back beside their counts, by the forms of their
+-- contracts, and what that is with the answer 2: "after 2, 3 or 21
+-- records are as passed in", nothing is kept, and 0 bytes are dropped.
+-- An operation that hands back an answer and a value alone hands back the end of its play; with the
+-- answer 2 that is `lack p`.
 use Rattle.std.specs.Prelude.{ℕ}
 use Rattle.std.proofs.Math.Option.{Option, none}
 use Rattle.exchange.specs.Exchange.{Port, no_script, End, lacks}
@@ -50,13 +53,15 @@ pub record RecordBack : Type 0 where
   pub dropped : ℕ
 
 abbrev pub state_back : Effects → StateBack
-state_back x = record { end = x.end; lamps = x.lamps; state = x.state; event = x.event; dropped = x.dropped }
+state_back x =
+    record { end = x.end; lamps = x.lamps; state = x.state; event = x.event; dropped = x.dropped }
 
 abbrev pub record_back : Called → RecordBack
 record_back x = record { end = x.end; lamps = x.lamps; handler = x.handler; dropped = x.dropped }
 
 abbrev pub lack_state : HandlerState → Port → StateBack
-lack_state passed p = record { end = lack p; lamps = gives success; state = passed; event = none; dropped = 0 }
+lack_state passed p =
+    record { end = lack p; lamps = gives success; state = passed; event = none; dropped = 0 }
 
 abbrev pub lack_record : KeyboardHandler → Port → RecordBack
 lack_record passed p = record { end = lack p; lamps = gives success; handler = passed; dropped = 0 }

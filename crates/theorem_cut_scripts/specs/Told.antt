@@ -1,4 +1,5 @@
--- What port operations hand back that answer by numbers: the counts, and the answer with the counts left out.
+-- What port operations hand back that answer by numbers:
+-- the counts, and the answer with the counts left out.
 use Rattle.std.specs.Prelude.{ℕ, List, ◌≡◌}
 use Rattle.exchange.specs.Exchange.{End}
 use Rattle.port_words.specs.declared.PortWords.{PortWords}
@@ -36,7 +37,8 @@ port_parts =
     record {
       used = λ r. r.used;
       pairs = λ r. r.pairs;
-      others = λ r. record { refusal = r.refusal; port = r.port; used = 0; pairs = 0; value = r.value };
+      others =
+          λ r. record { refusal = r.refusal; port = r.port; used = 0; pairs = 0; value = r.value };
     }
 
 abbrev pub kept_parts : Parts KeptWords
@@ -44,7 +46,15 @@ kept_parts =
     record {
       used = λ r. r.used;
       pairs = λ r. r.pairs;
-      others = λ r. record { refusal = r.refusal; port = r.port; used = 0; pairs = 0; count = r.count; others = r.others; bytes = r.bytes };
+      others = λ r. record {
+        refusal = r.refusal;
+        port = r.port;
+        used = 0;
+        pairs = 0;
+        count = r.count;
+        others = r.others;
+        bytes = r.bytes;
+      };
     }
 
 abbrev pub packet_parts : Parts PacketWords
@@ -52,7 +62,15 @@ packet_parts =
     record {
       used = λ r. r.used;
       pairs = λ _. 0;
-      others = λ r. record { refusal = r.refusal; port = r.port; used = 0; buttons = r.buttons; x = r.x; y = r.y; wheel = r.wheel };
+      others = λ r. record {
+        refusal = r.refusal;
+        port = r.port;
+        used = 0;
+        buttons = r.buttons;
+        x = r.x;
+        y = r.y;
+        wheel = r.wheel;
+      };
     }
 
 abbrev pub init_parts : Parts InitializedWords
@@ -60,7 +78,13 @@ init_parts =
     record {
       used = λ r. r.used;
       pairs = λ r. r.pairs;
-      others = λ r. record { refusal = r.refusal; port = r.port; used = 0; pairs = 0; controller = r.controller };
+      others = λ r. record {
+        refusal = r.refusal;
+        port = r.port;
+        used = 0;
+        pairs = 0;
+        controller = r.controller;
+      };
     }
 
 -- ---- an answer with a lent record's numbers beside it

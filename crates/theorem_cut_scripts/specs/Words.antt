@@ -1,4 +1,5 @@
--- What a handler call on a lent record's numbers hands back beside its counts: the numbers of its answer, and the record's as it leaves them.
+-- What a handler call on a lent record's numbers hands back beside its counts: the numbers of its
+-- answer, and the record's as it leaves them.
 use Rattle.std.specs.Prelude.{ℕ, List}
 use Rattle.exchange.specs.Exchange.{Port, number}
 use Rattle.handler_words.specs.declared.HandledWords.{HandledWords}
@@ -11,7 +12,8 @@ pub record WordsBack : Type 0 where
   pub words : List ℕ
 
 abbrev pub words_back : HandledWords → List ℕ → WordsBack
-words_back r ws = record { refusal = r.refusal; lamps = r.lamps; dropped = r.dropped; port = r.port; words = ws }
+words_back r ws =
+    record { refusal = r.refusal; lamps = r.lamps; dropped = r.dropped; port = r.port; words = ws }
 
 -- With the answer 2, for want of a byte from a port: the numbers are as they were lent.
 abbrev pub two_words : List ℕ → Port → WordsBack

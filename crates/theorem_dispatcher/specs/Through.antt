@@ -1,4 +1,5 @@
--- The history rule through the dispatcher: "The history rule holds through it." One statement about a list of steps and takings from a fresh state, with any scripts and logs.
+-- The history rule through the dispatcher: "The history rule holds through it." One statement about
+-- a list of steps and takings from a fresh state, with any scripts and logs.
 use Rattle.std.proofs.Math.Option.{Option}
 use Rattle.std.specs.Prelude.{◌≡◌, ℕ}
 use Rattle.exchange.specs.Exchange.{Exchange, End}
@@ -26,7 +27,8 @@ call_end past (keyed side a) = past ▸ a.end
 call_end past (packet a) = past
 call_end past idle = past
 
-module _ {A : Type 0} (table : Table) (lamps : Side → ℕ → Exchange (Answer A)) (mouse : PS2Mouse) where
+module _ {A : Type 0} (table : Table) (lamps : Side → ℕ → Exchange (Answer A))
+    (mouse : PS2Mouse) where
   -- The dispatcher after a list of steps and takings, from a fresh state on.
   unfoldable pub dispatched : Past Move → Dispatcher
   dispatched nothing = new_dispatcher (fresh table) mouse
@@ -35,7 +37,8 @@ module _ {A : Type 0} (table : Table) (lamps : Side → ℕ → Exchange (Answer
   -- What the handler calls of its steps answered, in order, and what the takings did.
   unfoldable pub call_answers : Past Move → Past (End (Answer Success))
   call_answers nothing = nothing
-  call_answers (past ▸ stepping s log) = call_end (call_answers past) (step_of lamps (dispatched past) s log).answer
+  call_answers (past ▸ stepping s log) =
+      call_end (call_answers past) (step_of lamps (dispatched past) s log).answer
   call_answers (past ▸ taking) = call_answers past
 
   unfoldable pub taking_answers : Past Move → Past (Answer (Option (Sided KeyEvent)))
@@ -48,7 +51,8 @@ module _ {A : Type 0} (table : Table) (lamps : Side → ℕ → Exchange (Answer
   calls_of moves = (told table lamps mouse.id moves).calls
 
   pub record HistoryThrough (moves : Past Move) : Type 0 where
-    -- The handler record is the one that these calls leave, each with the side and the bytes that the list says,
+    -- The handler record is the one that these calls leave,
+    -- each with the side and the bytes that the list says,
     pub handler : (dispatched moves).handler ≡ after table lamps (calls_of moves)
     -- and their answers, and those of the takings, are those given.
     pub answered : call_answers moves ≡ answers table lamps (calls_of moves)

@@ -1,4 +1,5 @@
--- The rule's sentences on flags, said of bytes, with nothing of strokes or of the table: what the laws of the words compare the rule with.
+-- The rule's sentences on flags, said of bytes, with nothing of strokes or of the table: what the
+-- laws of the words compare the rule with.
 use Rattle.std.specs.Prelude.{Bool, true, false, not, cond, ◌&&◌, List, [], ◌∷◌, ◌≡◌, ℕ, suc, ◌<◌, eqb, get_or}
 use Rattle.bits.specs.Bits.{odd}
 use Rattle.scancode_set1.specs.Set1.{release_of}
@@ -16,7 +17,8 @@ pub data AllBytes : Past ℕ → Type 0 where
 -- Every script of the calls holds bytes.
 pub data ByteCalls : Past Call → Type 0 where
   no_calls : ByteCalls nothing
-  one_handling : {past : Past Call} {side : Side} {script log : List ℕ} → ByteCalls past → ((n : ℕ) → get_or script n 0 < 256) → ByteCalls (past ▸ handling side script log)
+  one_handling : {past : Past Call} {side : Side} {script log : List ℕ} → ByteCalls past
+      → ((n : ℕ) → get_or script n 0 < 256) → ByteCalls (past ▸ handling side script log)
   one_taking : {past : Past Call} → ByteCalls past → ByteCalls (past ▸ taking)
 
 -- How many times the byte p came.
@@ -54,7 +56,9 @@ after_prefix bytes = those (λ x. x) bytes
 abbrev pub the_rest : Past ℕ → Past ℕ
 the_rest bytes = those not bytes
 
--- "A lock is on exactly when its press byte came an odd number of times; any other key is held exactly when the last byte of its own press and release pair was the press, right Control judging only bytes directly after E0 or E1, left Control the rest."
+-- "A lock is on exactly when its press byte came an odd number of times; any other key is held
+-- exactly when the last byte of its own press and release pair was the press, right Control judging
+-- only bytes directly after E0 or E1, left Control the rest."
 unfoldable pub demanded : Kind → ℕ → Past ℕ → Bool
 demanded lock press bytes = odd (times_byte press bytes)
 demanded held press bytes = last_of press (release_of press) bytes

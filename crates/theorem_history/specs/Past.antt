@@ -2,7 +2,8 @@
 use Rattle.std.specs.Prelude.{List, [], ◌∷◌}
 
 infixl 5 ◌▸◌
--- A list that grows at its right end: in `past ▸ x` the last that came is x, and past is all that came before it.
+-- A list that grows at its right end: in `past ▸ x` the
+-- last that came is x, and past is all that came before it.
 pub data Past (A : Type 0) : Type 0 where
   nothing : Past A
   ◌▸◌ : Past A → A → Past A

@@ -7,7 +7,8 @@ use Rattle.keyboard_scancodes.specs.declared.Profile.{Profile}
 use Rattle.keyboard_scancodes.specs.Profile.{allows}
 use Rattle.keyboard_sides.specs.Named.{Sided}
 
--- An event of a rated game: its key is inside the profile, and it has no lock's flag, since "under the profile the lock rule reads "off"".
+-- An event of a rated game: its key is inside the profile, and it has no lock's flag, since "under
+-- the profile the lock rule reads "off"".
 pub record Rated (e : KeyEvent) : Type 0 where
   pub key_inside : allows Profile.Tournament e.keycode ≡ true
   pub no_caps_lock : bit caps_lock e.modifiers.bits ≡ false
@@ -17,4 +18,5 @@ pub record Rated (e : KeyEvent) : Type 0 where
 -- Every event of a list is one.
 pub data AllRated : List (Sided KeyEvent) → Type 0 where
   no_event : AllRated []
-  one_event : {e : Sided KeyEvent} {es : List (Sided KeyEvent)} → Rated e.one → AllRated es → AllRated (e ∷ es)
+  one_event : {e : Sided KeyEvent} {es : List (Sided KeyEvent)} → Rated e.one → AllRated es
+      → AllRated (e ∷ es)

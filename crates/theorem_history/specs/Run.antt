@@ -1,4 +1,5 @@
--- The calls of a list made one after another, the first on a fresh record for a table and each other on the record that the last one left.
+-- The calls of a list made one after another, the first on a fresh record for a table and each
+-- other on the record that the last one left.
 use Rattle.std.specs.Prelude.{Bool, true, false, ◌&&◌, List, [], ◌∷◌, ◌++◌, ℕ}
 use Rattle.std.proofs.Math.Option.{Option, none, some}
 use Rattle.exchange.specs.Exchange.{Exchange, End}
@@ -42,7 +43,8 @@ module _ {A : Type 0} (table : Table) (lamps : Side → ℕ → Exchange (Answer
   -- What the handler calls answered, in order.
   unfoldable pub answers : Past Call → Past (End (Answer Success))
   answers nothing = nothing
-  answers (past ▸ handling side script log) = answers past ▸ (handled lamps side (after past) script log).end
+  answers (past ▸ handling side script log) =
+      answers past ▸ (handled lamps side (after past) script log).end
   answers (past ▸ taking) = answers past
 
   -- What the takings answered, in order.
@@ -58,5 +60,7 @@ module _ {A : Type 0} (table : Table) (lamps : Side → ℕ → Exchange (Answer
 
   unfoldable pub reported : Side → Past Call → Past ℕ
   reported side nothing = nothing
-  reported side (past ▸ handling s script log) = own_number (same_side side s && at_table table.keyboards s) (reported side past) (handled lamps s (after past) script log).dropped
+  reported side (past ▸ handling s script log) = own_number
+      (same_side side s && at_table table.keyboards s) (reported side past)
+      (handled lamps s (after past) script log).dropped
   reported side (past ▸ taking) = reported side past

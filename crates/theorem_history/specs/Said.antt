@@ -1,4 +1,5 @@
--- What a list of bytes says of the keys, by the history rule: the flags, and the events given. Which bytes are counted is said elsewhere.
+-- What a list of bytes says of the keys, by the history rule: the flags, and the events given.
+-- Which bytes are counted is said elsewhere.
 use Rattle.std.specs.Prelude.{Bool, false, cond, List, [], ◌∷◌, ◌++◌, ℕ, suc}
 use Rattle.bits.specs.Bits.{odd, put_bit}
 use Rattle.keycodes_ascii.specs.declared.KeyEvent.{KeyEvent}
@@ -33,7 +34,8 @@ unfoldable pub last_was_press : FlagRow → Past Stroke → Bool
 last_was_press r nothing = false
 last_was_press r (past ▸ s) = cond (is_of r s) s.pressed (last_was_press r past)
 
--- "A lock is on exactly when its press byte came an odd number of times; any other key is held exactly when the last byte of its own press and release pair was the press."
+-- "A lock is on exactly when its press byte came an odd number of times; any other key is held
+-- exactly when the last byte of its own press and release pair was the press."
 unfoldable pub said_of : Kind → FlagRow → Past Stroke → Bool
 said_of lock r past = odd (times r past)
 said_of held r past = last_was_press r past
@@ -48,7 +50,8 @@ unfoldable pub word_of : (FlagRow → Bool) → List FlagRow → ℕ
 word_of f [] = 0
 word_of f (r ∷ rows) = put_bit r.flag (f r) (word_of f rows)
 
--- The flags that the bytes say, those that the profile follows: "under the profile the lock rule reads "off"".
+-- The flags that the bytes say, those that the profile
+-- follows: "under the profile the lock rule reads "off"".
 unfoldable pub flags_said : Profile → Past ℕ → ℕ
 flags_said profile bytes = word_of (said (strokes bytes)) (followed profile)
 
@@ -56,7 +59,8 @@ flags_said profile bytes = word_of (said (strokes bytes)) (followed profile)
 
 -- The event, if any, that the byte b gives after the bytes of past, "with the flags just after it".
 unfoldable pub event_given : Profile → Past ℕ → ℕ → List KeyEvent
-event_given profile past b = cond (gives_event b) (event_of b (flags_said profile (past ▸ b)) ∷ []) []
+event_given profile past b =
+    cond (gives_event b) (event_of b (flags_said profile (past ▸ b)) ∷ []) []
 
 -- The events that the bytes give, in byte order.
 unfoldable pub events_given : Profile → Past ℕ → List KeyEvent

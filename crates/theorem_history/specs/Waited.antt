@@ -1,4 +1,5 @@
--- What became of the bytes that the lamp exchanges of one keyboard's calls threw away, kept from the calls alone.
+-- What became of the bytes that the lamp exchanges of one
+-- keyboard's calls threw away, kept from the calls alone.
 use Rattle.std.specs.Prelude.{List, [], ◌∷◌, ◌++◌, ℕ}
 use Rattle.std.proofs.Math.Option.{Option, none, some}
 use Rattle.keyboard.specs.Rules.{Rules}
@@ -12,21 +13,27 @@ from_waiting (some b) [] = []
 from_waiting (some b) (oldest ∷ waiting) = b ∷ []
 
 module _ {A : Type 0} (rules : Rules A) where
-  -- Of each call, the bytes that its lamp exchange threw away where it counted a scancode: all of them; those that found room to wait; and those that found none.
+  -- Of each call, the bytes that its lamp exchange threw away where it counted a scancode: all of
+  -- them; those that found room to wait; and those that found none.
   unfoldable pub thrown_away : Past Lent → Past (List ℕ)
   thrown_away nothing = nothing
-  thrown_away (past ▸ x) = thrown_away past ▸ thrown_after rules (counted rules past) (waits rules past) x.script x.log
+  thrown_away (past ▸ x) =
+      thrown_away past ▸ thrown_after rules (counted rules past) (waits rules past) x.script x.log
 
   unfoldable pub joined : Past Lent → Past (List ℕ)
   joined nothing = nothing
-  joined (past ▸ x) = joined past ▸ joined_after rules (counted rules past) (waits rules past) x.script x.log
+  joined (past ▸ x) =
+      joined past ▸ joined_after rules (counted rules past) (waits rules past) x.script x.log
 
   unfoldable pub dropped : Past Lent → Past (List ℕ)
   dropped nothing = nothing
-  dropped (past ▸ x) = dropped past ▸ dropped_after rules (counted rules past) (waits rules past) x.script x.log
+  dropped (past ▸ x) =
+      dropped past ▸ dropped_after rules (counted rules past) (waits rules past) x.script x.log
 
   -- The scancodes that calls took from the waiting bytes, in order.
   unfoldable pub taken_waiting : Past Lent → List ℕ
   taken_waiting nothing = []
   taken_waiting (past ▸ x) =
-      taken_waiting past ++ from_waiting (scancode_after rules (counted rules past) (waits rules past) x.script x.log) (waits rules past)
+      taken_waiting past ++ from_waiting
+      (scancode_after rules (counted rules past) (waits rules past) x.script x.log)
+      (waits rules past)

@@ -1,2 +1,3 @@
-// The history rule: what every list of handler calls and queue takings leaves, as one theorem. No code.
+// The history rule: what every list of handler calls and
+// queue takings leaves, as one theorem. No code.
 #![tactic(auto)]

@@ -1,4 +1,5 @@
--- The rule's sentences on flags, said of set 2 codes, with nothing of strokes, of the table of flags or of set 1: what the laws of the words compare the rule with.
+-- The rule's sentences on flags, said of set 2 codes, with nothing of strokes, of the table of
+-- flags or of set 1: what the laws of the words compare the rule with.
 use Rattle.std.specs.Prelude.{Bool, true, false, not, cond, List, [], ◌∷◌, ℕ, suc, eqb}
 use Rattle.bits.specs.Bits.{odd}
 use Rattle.keyboard_modifiers.specs.Flags.{shift_left, shift_right, control_left, control_right, alt, super_key_left, super_key_right, caps_lock, num_lock, scroll_lock, alt_right}
@@ -41,7 +42,10 @@ unfoldable pub those : (Bool → Bool) → Past Code → Past Code
 those f nothing = nothing
 those f (past ▸ c) = cond (f (prefix_set2 past)) (those f past ▸ c) (those f past)
 
--- "A lock is on exactly when its press byte came an odd number of times; any other key is held exactly when the last byte of its own press and release pair was the press, right Control judging only bytes directly after E0 or E1, left Control the rest": for a press byte the code by itself, for a release byte the code after F0.
+-- "A lock is on exactly when its press byte came an odd number of times; any other key is held
+-- exactly when the last byte of its own press and release pair was the press, right Control judging
+-- only bytes directly after E0 or E1, left Control the rest": for a press byte the code by itself,
+-- for a release byte the code after F0.
 unfoldable pub demanded_set2 : Kind → ℕ → Past Code → Bool
 demanded_set2 lock p codes = odd (times_alone p codes)
 demanded_set2 held p codes = last_alone p codes

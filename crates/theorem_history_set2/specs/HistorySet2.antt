@@ -1,4 +1,6 @@
--- The history rule read over a set 2 stream, for one side whatever the other sends, and for both. On the right of each equation stands what the streams and the list of calls say; on the left, the record after the calls and the answers given, as in `History`.
+-- The history rule read over a set 2 stream, for one side whatever the other sends, and for both.
+-- On the right of each equation stands what the streams and the list of calls say; on the left, the
+-- record after the calls and the answers given, as in `History`.
 use Rattle.std.specs.Prelude.{cond, List, ◌++◌, ◌≡◌, ℕ}
 use Rattle.exchange.specs.Exchange.{Exchange}
 use Rattle.exchange.specs.Answer.{Answer}
@@ -23,31 +25,46 @@ abbrev pub codes_of : List ℕ → Past Code
 codes_of stream = onto nothing (codes stream)
 
 module _ {A : Type 0} (table : Table) (lamps : Side → ℕ → Exchange (Answer A)) where
-  -- The row, "one for both sides", and what is taken from it, where the counted scancodes of each side give this.
+  -- The row, "one for both sides", and what is taken from
+  -- it, where the counted scancodes of each side give this.
   pub record RowSaid (calls : Past Call) (said : Side → Past (List KeyEvent)) : Type 0 where
     -- "Each taking answers the event removed, or "none" from an empty row."
     pub taking_answers : takings table lamps calls ≡ removed_of table (turns table lamps calls said)
     -- "After the list the record's queue, oldest first, equals the row."
     pub queue : waiting (after table lamps calls) ≡ row_of table (turns table lamps calls said)
-    -- "The events taken, then those still waiting, are exactly the events given, less those that met" 33, 31 or 20.
-    pub taken_then_waiting : events_taken (takings table lamps calls) ++ waiting (after table lamps calls) ≡ less_met (given_of table (turns table lamps calls said))
-    -- "20 is answered exactly where an event met 128 waiting", 31 exactly where it found 96 of its side, and 33 exactly where its key is outside the profile.
-    pub answers_20 : each (ends_with 20) (answers table lamps calls) ≡ meets_of table 20 (turns table lamps calls said)
-    pub answers_31 : each (ends_with 31) (answers table lamps calls) ≡ meets_of table 31 (turns table lamps calls said)
-    pub answers_33 : each (ends_with 33) (answers table lamps calls) ≡ meets_of table 33 (turns table lamps calls said)
+    -- "The events taken, then those still waiting, are exactly
+    -- the events given, less those that met" 33, 31 or 20.
+    pub taken_then_waiting : events_taken (takings table lamps calls)
+        ++ waiting (after table lamps calls)
+        ≡ less_met (given_of table (turns table lamps calls said))
+    -- "20 is answered exactly where an event met 128 waiting", 31 exactly where it found 96 of its
+    -- side, and 33 exactly where its key is outside the profile.
+    pub answers_20 : each (ends_with 20) (answers table lamps calls)
+        ≡ meets_of table 20 (turns table lamps calls said)
+    pub answers_31 : each (ends_with 31) (answers table lamps calls)
+        ≡ meets_of table 31 (turns table lamps calls said)
+    pub answers_33 : each (ends_with 33) (answers table lamps calls)
+        ≡ meets_of table 33 (turns table lamps calls said)
 
-  -- What the scancodes of each side give where those of one are read over a stream, "whatever the other sends".
+  -- What the scancodes of each side give where those of one
+  -- are read over a stream, "whatever the other sends".
   abbrev pub one_set2 : Side → List ℕ → Past Call → Side → Past (List KeyEvent)
-  one_set2 side stream calls t = cond (same_side side t) (each_set2 table.profile (codes_of stream)) (each_said table.profile (counted_of table lamps t calls))
+  one_set2 side stream calls t = cond (same_side side t) (each_set2 table.profile (codes_of stream))
+      (each_said table.profile (counted_of table lamps t calls))
 
   -- The rule for a side.
   pub record HistorySet2 (side : Side) (calls : Past Call) (stream : List ℕ) : Type 0 where
     -- "The flags after the list are what the bytes say", read over the codes.
-    pub flags : (keyboard_at side (after table lamps calls).state).modifiers.bits ≡ flags_set2 table.profile (codes_of stream)
+    pub flags : (keyboard_at side (after table lamps calls).state).modifiers.bits
+        ≡ flags_set2 table.profile (codes_of stream)
     -- The prefix is on exactly when the last code was E0 or E1, or counts as one.
-    pub prefix : (keyboard_at side (after table lamps calls).state).prefix ≡ prefix_set2 (codes_of stream)
-    -- Every code of a key up to 5D gives an event with the flags just after it, in the order of the codes, once each.
-    pub code_order : of_side side (events (given_of table (turns table lamps calls (one_set2 side stream calls)))) ≡ events_set2 table.profile (codes_of stream)
+    pub prefix : (keyboard_at side (after table lamps calls).state).prefix
+        ≡ prefix_set2 (codes_of stream)
+    -- Every code of a key up to 5D gives an event with the flags
+    -- just after it, in the order of the codes, once each.
+    pub code_order : of_side side
+        (events (given_of table (turns table lamps calls (one_set2 side stream calls))))
+        ≡ events_set2 table.profile (codes_of stream)
     pub row : RowSaid calls (one_set2 side stream calls)
 
   -- The rule where each side has a stream: the row comes from these alone.

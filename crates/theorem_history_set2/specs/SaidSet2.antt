@@ -1,4 +1,5 @@
--- What the codes of a set 2 stream say of the keys: strokes, and by them the flags and the events given.
+-- What the codes of a set 2 stream say of the keys:
+-- strokes, and by them the flags and the events given.
 use Rattle.std.specs.Prelude.{Bool, true, false, cond, ◌||◌, List, [], ◌∷◌, ◌++◌, ℕ, eqb, leb}
 use Rattle.keycodes_ascii.specs.declared.KeyAction.{KeyAction}
 use Rattle.keycodes_ascii.specs.declared.KeyEvent.{KeyEvent}
@@ -13,7 +14,8 @@ use Rattle.theorem_history.specs.Said.{said, word_of}
 
 -- ---- the strokes
 
--- Which codes are prefixes: E0 and E1, and "F0 47 and F0 4F, which become E0 and E1, count as these".
+-- Which codes are prefixes: E0 and E1, and "F0 47 and F0
+-- 4F, which become E0 and E1, count as these".
 abbrev pub is_prefix_code : Code → Bool
 is_prefix_code (alone c) = is_prefix c
 is_prefix_code (after_f0 c) = eqb c 0x47 || eqb c 0x4F
@@ -34,7 +36,8 @@ stroke_of (alone c) x = record { code = key_of c; pressed = true; prefixed = x }
 stroke_of (after_f0 c) x = record { code = key_of c; pressed = false; prefixed = x } ∷ []
 stroke_of ends_after_f0 x = []
 
--- The stroke, if any, of a code that came after these; a prefix is no key's. "F0 is passed over in "directly after"": it belongs to its code.
+-- The stroke, if any, of a code that came after these; a prefix is no key's. "F0 is passed over in
+-- "directly after"": it belongs to its code.
 unfoldable pub stroke_set2 : Past Code → Code → List Stroke
 stroke_set2 past c = cond (is_prefix_code c) [] (stroke_of c (prefix_set2 past))
 
@@ -42,7 +45,8 @@ unfoldable pub strokes_set2 : Past Code → Past Stroke
 strokes_set2 nothing = nothing
 strokes_set2 (past ▸ c) = onto (strokes_set2 past) (stroke_set2 past c)
 
--- ---- the flags and the events, as the rule has them of strokes, under a profile: with it the locks are off
+-- ---- the flags and the events, as the rule has them of
+-- strokes, under a profile: with it the locks are off
 
 unfoldable pub flags_set2 : Profile → Past Code → ℕ
 flags_set2 profile codes = word_of (said (strokes_set2 codes)) (followed profile)
@@ -51,7 +55,11 @@ flags_set2 profile codes = word_of (said (strokes_set2 codes)) (followed profile
 abbrev pub event_of_stroke : ℕ → Stroke → List KeyEvent
 event_of_stroke flags s =
     cond (leb s.code last_keycode)
-    (record { keycode = keycode_at s.code; action = cond s.pressed KeyAction.Pressed KeyAction.Released; modifiers = record { bits = flags } } ∷ [])
+    (record {
+      keycode = keycode_at s.code;
+      action = cond s.pressed KeyAction.Pressed KeyAction.Released;
+      modifiers = record { bits = flags };
+    } ∷ [])
     []
 
 abbrev pub event_of_strokes : ℕ → List Stroke → List KeyEvent

@@ -1,4 +1,5 @@
--- A list of calls, read over what the counted scancodes of each side say: what each call does to the row of waiting events, one for both sides.
+-- A list of calls, read over what the counted scancodes of each side say: what each call does to
+-- the row of waiting events, one for both sides.
 use Rattle.std.specs.Prelude.{Bool, false, cond, List, [], ◌++◌, ℕ}
 use Rattle.std.proofs.Math.Option.{Option}
 use Rattle.exchange.specs.Exchange.{Exchange}
@@ -54,7 +55,8 @@ last_counts nothing = false
 last_counts (past ▸ counts) = counts
 
 module _ {A : Type 0} (table : Table) (lamps : Side → ℕ → Exchange (Answer A)) where
-  -- What the calls do where the counted scancodes of each side give this: the last handler call of a side that counts one has the side's last.
+  -- What the calls do where the counted scancodes of each side give this: the last handler call of
+  -- a side that counts one has the side's last.
   unfoldable pub turns : Past Call → (Side → Past (List KeyEvent)) → Past Turn
   turns nothing said = nothing
   turns (past ▸ handling side script log) said =
@@ -66,7 +68,9 @@ module _ {A : Type 0} (table : Table) (lamps : Side → ℕ → Exchange (Answer
 -- ---- the row
 
 module _ (table : Table) where
-  -- "Empty at first; an event given joins its end if fewer than 128 wait there, otherwise it met 128 waiting and never joins; a taking removes the first"; "with two keyboards an event that finds 96 of its side there met 31 and never joins"; nor does one that met 33.
+  -- "Empty at first; an event given joins its end if fewer than 128 wait there, otherwise it met
+  -- 128 waiting and never joins; a taking removes the first"; "with two keyboards an event that
+  -- finds 96 of its side there met 31 and never joins"; nor does one that met 33.
   unfoldable pub row_of : Past Turn → List (Sided KeyEvent)
   row_of nothing = []
   row_of (past ▸ handled side es) = row_of past ++ less_met (given_to table side (row_of past) es)
@@ -81,7 +85,8 @@ module _ (table : Table) where
   -- Of each handler call, whether its event met what n refuses.
   unfoldable pub meets_of : ℕ → Past Turn → Past Bool
   meets_of n nothing = nothing
-  meets_of n (past ▸ handled side es) = meets_of n past ▸ any_met n (given_to table side (row_of past) es)
+  meets_of n (past ▸ handled side es) =
+      meets_of n past ▸ any_met n (given_to table side (row_of past) es)
   meets_of n (past ▸ took) = meets_of n past
 
   -- "Each taking answers the event removed, or "none" from an empty row."

@@ -1,2 +1,3 @@
-// The history rule read over a set 2 stream, where the counted scancodes are a converted one. No code.
+// The history rule read over a set 2 stream, where the
+// counted scancodes are a converted one. No code.
 #![tactic(auto)]

@@ -1,5 +1,8 @@
 -- Two runs from fresh handlers, in which a side's keys were the same.
--- The runs are two lists of calls. Each has a table of its own, with one keyboard or two, and lamp exchanges of its own; nothing is asked of the scripts, the logs, the takings, the bytes that lamp exchanges read, or the calls of the other side. Of the tables it is asked that their profile is the same.
+-- The runs are two lists of calls. Each has a table of its own, with one keyboard
+-- or two, and lamp exchanges of its own; nothing is asked of the scripts, the
+-- logs, the takings, the bytes that lamp exchanges read, or the calls of the
+-- other side. Of the tables it is asked that their profile is the same.
 use Rattle.std.specs.Prelude.{Bool, ◌≡◌, ℕ}
 use Rattle.exchange.specs.Exchange.{Exchange}
 use Rattle.exchange.specs.Answer.{Answer}
@@ -10,7 +13,8 @@ use Rattle.theorem_history.specs.Past.{Past}
 use Rattle.theorem_history.specs.Counted.{Call, counted_of}
 use Rattle.theorem_history.specs.Run.{after}
 
--- A run: a table, its lamp exchanges, and a list of calls, the first on a fresh handler for that table.
+-- A run: a table, its lamp exchanges, and a list of calls,
+-- the first on a fresh handler for that table.
 pub record Run (A : Type 0) : Type 0 where
   pub table : Table
   pub lamps : Side → ℕ → Exchange (Answer A)
@@ -20,7 +24,8 @@ pub record Run (A : Type 0) : Type 0 where
 abbrev pub counted_in : {A : Type 0} → Side → Run A → Past ℕ
 counted_in side r = counted_of r.table r.lamps side r.calls
 
--- "Two runs from fresh handlers under the same profile": one table may have one keyboard, and the other two.
+-- "Two runs from fresh handlers under the same profile":
+-- one table may have one keyboard, and the other two.
 abbrev pub SameProfile : {A B : Type 0} → Run A → Run B → Type 0
 SameProfile one other = one.table.profile ≡ other.table.profile
 

@@ -1,4 +1,5 @@
--- What can be run a byte at a time, by the definitions of the one call: each operation's tree, and the numbers that it hands back.
+-- What can be run a byte at a time, by the definitions of the one call: each operation's tree, and
+-- the numbers that it hands back.
 use Rattle.std.specs.Prelude.{ℕ}
 use Rattle.bits.specs.Bits.{weigh}
 use Rattle.exchange.specs.Exchange.{p60, Exchange, done, yields, bind}
@@ -28,7 +29,8 @@ use Rattle.sessions.specs.Operations.{words_told}
 
 -- The numbers of an answer: the refusal's, or 0 and the number of what is given.
 abbrev pub answer_numbers : {A : Type 0} → (A → ℕ) → Answer A → Ending
-answer_numbers worth (gives a) = record { refusal = 0; first = worth a; second = 0; third = 0; fourth = 0 }
+answer_numbers worth (gives a) =
+    record { refusal = 0; first = worth a; second = 0; third = 0; fourth = 0 }
 answer_numbers worth (refuses n) = record { refusal = n; first = 0; second = 0; third = 0; fourth = 0 }
 
 abbrev pub numbers : {A : Type 0} → (A → ℕ) → Exchange (Answer A) → Exchange Ending
@@ -36,7 +38,13 @@ numbers worth t = bind t (λ a. done (answer_numbers worth a))
 
 -- Those of an answer with a mouse's record, and with the controller's, as they are left.
 abbrev pub mouse_numbers : Left PS2Mouse Success → Ending
-mouse_numbers l = record { refusal = number_answered l.answer; first = mouse_id_byte l.now.id; second = 0; third = 0; fourth = 0 }
+mouse_numbers l = record {
+  refusal = number_answered l.answer;
+  first = mouse_id_byte l.now.id;
+  second = 0;
+  third = 0;
+  fourth = 0;
+}
 
 abbrev pub controller_numbers : Left PS2Controller Success → Ending
 controller_numbers l =
@@ -54,7 +62,8 @@ packet_numbers a = words_told (told_packet (yields a) 0 0)
 
 -- Each operation, as its one call is defined.
 unfoldable pub operation : Operation → Exchange Ending
-operation (InitializeController passed) = bind (initialize passed) (λ l. done (controller_numbers l))
+operation (InitializeController passed) =
+    bind (initialize passed) (λ l. done (controller_numbers l))
 operation InitializeKeyboard = numbers no_value keyboard_init
 operation ResetKeyboard = numbers no_value reset_keyboard
 operation (CommandKeyboard c) = numbers no_value (keyboard_command c)
@@ -69,7 +78,8 @@ operation ResetMouse = numbers no_value reset_mouse
 operation StartPackets = numbers no_value enable_packet_streaming
 operation StopPackets = numbers no_value disable_packet_streaming
 operation GetIdentity = numbers mouse_id_byte mouse_id
-operation (SetIdentity old) = bind (set_mouse_id (record { id = old })) (λ l. done (mouse_numbers l))
+operation (SetIdentity old) =
+    bind (set_mouse_id (record { id = old })) (λ l. done (mouse_numbers l))
 operation (CommandMouse c) = numbers no_value (mouse_command c)
 operation (SetSamplingRate rate) = numbers no_value (set_sampling_rate rate)
 operation (SetResolution resolution) = numbers no_value (set_resolution resolution)

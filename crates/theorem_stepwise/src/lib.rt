@@ -1,2 +1,3 @@
-// A session makes its operation's path, and hands back what the one call on the whole script does. No code.
+// A session makes its operation's path, and hands back what
+// the one call on the whole script does. No code.
 #![tactic(auto)]

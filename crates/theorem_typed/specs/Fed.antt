@@ -8,10 +8,14 @@ use Rattle.keyboard_sides.specs.declared.Side.{Side}
 use Rattle.theorem_history.specs.Past.{Past, nothing, ◌▸◌}
 use Rattle.theorem_history.specs.Counted.{Call, handling, taking}
 
--- The calls feed these bytes, one handler call of the side for each, and a taking follows each: "whose events are taken at once". Behind its byte a call's script may have more, and its log may have any room.
+-- The calls feed these bytes, one handler call of the side for each, and
+-- a taking follows each: "whose events are taken at once". Behind its
+-- byte a call's script may have more, and its log may have any room.
 pub data Feeds (side : Side) : Past ℕ → Past Call → Type 0 where
   nothing_fed : Feeds side nothing nothing
-  one_fed : {bytes : Past ℕ} {calls : Past Call} (b : ℕ) (more log : List ℕ) → Feeds side bytes calls → Feeds side (bytes ▸ b) (calls ▸ handling side (b ∷ more) log ▸ taking)
+  one_fed : {bytes : Past ℕ} {calls : Past Call} (b : ℕ) (more log : List ℕ)
+      → Feeds side bytes calls → Feeds side (bytes ▸ b)
+      (calls ▸ handling side (b ∷ more) log ▸ taking)
 
 -- "Press events whose characters, those without one passed over".
 abbrev pub or_passed_over : Option ℕ → List ℕ
@@ -24,4 +28,5 @@ of_press KeyAction.Released characters = []
 
 unfoldable pub characters : List KeyEvent → List ℕ
 characters [] = []
-characters (e ∷ es) = of_press e.action (or_passed_over (character_of e.keycode e.modifiers)) ++ characters es
+characters (e ∷ es) =
+    of_press e.action (or_passed_over (character_of e.keycode e.modifiers)) ++ characters es

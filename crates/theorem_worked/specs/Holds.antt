@@ -1,4 +1,5 @@
--- What it means that a worked position holds: the definitions of every layer, on its literals, come to what it says.
+-- What it means that a worked position holds: the definitions
+-- of every layer, on its literals, come to what it says.
 use Rattle.std.specs.Prelude.{List, [], ◌∷◌, ◌≡◌, ℕ, ◌+◌, ◌*◌, ◌^◌, take, replicate}
 use Rattle.std.proofs.Math.Option.{Option, none, some}
 use Prim.Native.Char.{code}
@@ -30,7 +31,8 @@ abbrev pub word : List ℕ → ℕ
 word [] = 0
 word (flag ∷ more) = 2 ^ flag + word more
 
--- A log of 16 free bytes, room for the 8 pairs that a handler call writes at most and the 5 of a mouse command; and the pairs that are written in it.
+-- A log of 16 free bytes, room for the 8 pairs that a handler call writes at most and the 5 of a
+-- mouse command; and the pairs that are written in it.
 abbrev pub free_log : List ℕ
 free_log = replicate 16 0
 
@@ -39,13 +41,17 @@ written pairs left = take (2 * pairs) left
 
 -- ---- handler calls
 
--- A call for the first side, with the keyboard's own lamp exchange: what it gives back, and the log that it leaves.
+-- A call for the first side, with the keyboard's own lamp
+-- exchange: what it gives back, and the log that it leaves.
 pub record Call : Type 0 where
   pub gives_back : Called
   pub leaves : List ℕ
 
 abbrev pub call_on : KeyboardHandler → List ℕ → Call
-call_on h script = record { gives_back = handled keyboard_lamps Side.First h script free_log; leaves = log_left keyboard_lamps Side.First h.state script free_log }
+call_on h script = record {
+  gives_back = handled keyboard_lamps Side.First h script free_log;
+  leaves = log_left keyboard_lamps Side.First h.state script free_log;
+}
 
 -- The last of some calls, each on the record that the one before it gave back.
 abbrev pub last_call : KeyboardHandler → List ℕ → List (List ℕ) → Call
@@ -66,7 +72,8 @@ character_of_event none = none
 character_of_event (some e) = some (character_of e.keycode e.modifiers)
 
 abbrev pub Sees : Call → Seen → Type 0
-Sees c (event key action carried) = newest_after c ≡ some (record { keycode = key; action = action; modifiers = record { bits = word carried } })
+Sees c (event key action carried) = newest_after c
+    ≡ some (record { keycode = key; action = action; modifiers = record { bits = word carried } })
 Sees c (writes sign) = character_of_event (newest_after c) ≡ some (Some (code sign))
 Sees c no_event = newest_after c ≡ none
 Sees c (flags set) = c.gives_back.handler.state.first.modifiers.bits ≡ word set
@@ -95,9 +102,11 @@ laid = record { keyboards = Keyboards.One; profile = Profile.Any }
 abbrev pub Holds : Position → Type 0
 Holds (scripts [] seen) = ⊥
 Holds (scripts (first ∷ more) seen) = All (Sees (last_call (fresh laid) first more)) seen
-Holds (x_is bytes x) = ReadAs (λ packet. x_movement (common packet) ≡ x) (play (read_mouse_packet Zero) bytes []).end
+Holds (x_is bytes x) =
+    ReadAs (λ packet. x_movement (common packet) ≡ x) (play (read_mouse_packet Zero) bytes []).end
 Holds (wheel_is id byte4 turns) =
-    (b1 b2 b3 : ℕ) → ReadAs (λ packet. wheel packet ≡ turns) (play (read_mouse_packet id) (b1 ∷ b2 ∷ b3 ∷ byte4 ∷ []) []).end
+    (b1 b2 b3 : ℕ) → ReadAs (λ packet. wheel packet ≡ turns)
+    (play (read_mouse_packet id) (b1 ∷ b2 ∷ b3 ∷ byte4 ∷ []) []).end
 Holds (character set key sign) = character_of key (record { bits = word set }) ≡ Some (code sign)
 Holds (mouse_sends command script pairs) =
     let o = play (mouse_command command) script free_log in

@@ -6,9 +6,11 @@ use Rattle.keycodes_ascii.specs.declared.Keycode.{Keycode}
 use Rattle.ps2_bytes.specs.declared.command.HostToMouseCommand.{HostToMouseCommand}
 use Rattle.ps2_bytes.specs.declared.response.MouseId.{MouseId}
 
--- What is seen after a handler call. Flags are given by their numbers; those that are not given are clear.
+-- What is seen after a handler call. Flags are given by
+-- their numbers; those that are not given are clear.
 pub data Seen : Type 0 where
-  -- the newest event that waits: its key, its action and its flags; the character that it writes; that none waits
+  -- the newest event that waits: its key, its action and its
+  -- flags; the character that it writes; that none waits
   event : Keycode → KeyAction → List ℕ → Seen
   writes : Char → Seen
   no_event : Seen
@@ -21,7 +23,8 @@ pub data Seen : Type 0 where
 
 -- A position by its literals, last of them what it must come to.
 pub data Position : Type 0 where
-  -- handler calls, one for each script, the first on a fresh record ("Flags start empty"); what is seen after the last
+  -- handler calls, one for each script, the first on a fresh
+  -- record ("Flags start empty"); what is seen after the last
   scripts : List (List ℕ) → List Seen → Position
   -- the bytes of a packet at identity 0; its movement in x
   x_is : List ℕ → ℤ → Position
@@ -36,7 +39,9 @@ pub data Position : Type 0 where
 pub data Row : Type 0 where
   row : ℕ → List Position → Row
 
--- Scancodes, a handler call for each. Behind its scancode each script has 00 01 FA 00 01 FA, as row 3's: a keyboard that accepts both bytes of a lamp exchange at once. Only the press of a lock reads that far.
+-- Scancodes, a handler call for each. Behind its scancode each script
+-- has 00 01 FA 00 01 FA, as row 3's: a keyboard that accepts both bytes
+-- of a lamp exchange at once. Only the press of a lock reads that far.
 abbrev pub script_of : ℕ → List ℕ
 script_of b = b ∷ 0x00 ∷ 0x01 ∷ 0xFA ∷ 0x00 ∷ 0x01 ∷ 0xFA ∷ []
 

@@ -27,7 +27,8 @@ use Rattle.theseus_calls.specs.declared.queue.InterruptWords.{InterruptWords}
 
 -- The character of a key under flags that have the Rust's numbers.
 abbrev pub character_under : Option OurKeycode → ℕ → ℕ
-character_under (Some k) flags = character_number (character_of k (record { bits = renumbered flags }))
+character_under (Some k) flags =
+    character_number (character_of k (record { bits = renumbered flags }))
 character_under None flags = invalid_argument
 
 -- ---- the queue of 128 places
@@ -36,7 +37,11 @@ abbrev pub waiting_in : Places → List KeyEvent
 waiting_in q = take q.count q.events
 
 abbrev pub empty_place : KeyEvent
-empty_place = record { keycode = Keycode.OverflowError; action = KeyAction.Pressed; modifiers = record { bits = 0 } }
+empty_place = record {
+  keycode = Keycode.OverflowError;
+  action = KeyAction.Pressed;
+  modifiers = record { bits = 0 };
+}
 
 -- So many places are filled; which events stand there is not asked.
 abbrev pub filled : ℕ → Places
@@ -49,14 +54,19 @@ action_number KeyAction.Pressed = 0
 action_number KeyAction.Released = 1
 
 abbrev pub event_numbers : KeyEvent → EventWords
-event_numbers e = record { keycode = number_of (ours e.keycode); released = action_number e.action; flags = e.modifiers.bits }
+event_numbers e = record {
+  keycode = number_of (ours e.keycode);
+  released = action_number e.action;
+  flags = e.modifiers.bits;
+}
 
 abbrev pub no_event : EventWords
 no_event = record { keycode = 0; released = 0; flags = 0 }
 
 -- The event that stands behind so many, where there is one.
 abbrev pub last_numbers : Places → ℕ → EventWords
-last_numbers q n = cond (ltb n q.count && ltb n 128) (event_numbers (get_or q.events n empty_place)) no_event
+last_numbers q n =
+    cond (ltb n q.count && ltb n 128) (event_numbers (get_or q.events n empty_place)) no_event
 
 -- ---- the interrupt
 
@@ -70,8 +80,10 @@ interrupt_numbers left prefix flags queue waited =
       event = last_numbers queue waited;
     }
 
--- The numbers tell what the Rust's handler leaves, of which `Interrupted` says all, on a recording of this script and this log; the log is the recording's.
-pub record InterruptMade (prefix : Bool) (flags waited : ℕ) (script log : List ℕ) (words : InterruptWords) (log' : List ℕ) : Type 0 where
+-- The numbers tell what the Rust's handler leaves, of which `Interrupted` says all, on a recording
+-- of this script and this log; the log is the recording's.
+pub record InterruptMade (prefix : Bool) (flags waited : ℕ) (script log : List ℕ)
+    (words : InterruptWords) (log' : List ℕ) : Type 0 where
   pub begun : PS2Controller Recording
   pub left : PS2Controller Recording
   pub prefix_left : Bool
@@ -80,7 +92,8 @@ pub record InterruptMade (prefix : Bool) (flags waited : ℕ) (script log : List
   pub before : Places
   pub starts : Starts script log begun.hardware
   pub filled_are : before ≡ filled waited
-  pub interrupted : Interrupted (on_controller recording) begun prefix (renumbered flags) (our_events (waiting_in before))
+  pub interrupted : Interrupted (on_controller recording) begun prefix (renumbered flags)
+      (our_events (waiting_in before))
       left prefix_left (renumbered flags_left) (our_events (waiting_in queue))
   pub answered : words ≡ interrupt_numbers left.hardware prefix_left flags_left queue waited
   pub logged : log' ≡ left.hardware.log.now

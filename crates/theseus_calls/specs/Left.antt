@@ -27,7 +27,8 @@ use Rattle.theseus_calls.specs.declared.initialization.InitializedNotedWords.{In
 use Rattle.theseus_calls.specs.Recorded.{with_bytes, refusing_noted, told_recorded, told_noted}
 
 -- What the operation answers, without its record.
-abbrev pub answer_kept : {R : Type 0} → Kept KeptBytes (Left R Success) → Kept KeptBytes (Answer Success)
+abbrev pub answer_kept : {R : Type 0} → Kept KeptBytes (Left R Success)
+    → Kept KeptBytes (Answer Success)
 answer_kept k = kept k.value.answer k.bytes
 
 -- ---- the mouse's identity is the value, after a refusal too
@@ -35,23 +36,37 @@ answer_kept k = kept k.value.answer k.bytes
 abbrev pub identified_recorded : MouseId → Answer Success → MouseId → Recording → NotedWords
 identified_recorded passed answer id left =
     let words = told_recorded no_value answer left in
-    record words { answer = record words.answer { value = mouse_id_byte (cond left.short passed id) } }
+    record words {
+      answer = record words.answer
+          { value = mouse_id_byte (cond left.short passed id) };
+    }
 
-abbrev pub told_identified : MouseId → End (Kept KeptBytes (Left PS2Mouse Success)) → ℕ → ℕ → NotedWords
+abbrev pub told_identified : MouseId → End (Kept KeptBytes (Left PS2Mouse Success)) → ℕ → ℕ
+    → NotedWords
 told_identified passed end used pairs =
-    with_bytes (left_numbers (told_end (λ k. k.value.answer) end) used pairs (record_after (record { id = passed }) (told_end (λ k. k.value) end))) (bytes_kept end)
+    with_bytes (left_numbers (told_end (λ k. k.value.answer) end) used pairs
+    (record_after (record { id = passed }) (told_end (λ k. k.value) end))) (bytes_kept end)
 
 abbrev pub TellsIdentifiedAt : Option MouseId → List ℕ → List ℕ → NotedWords → List ℕ → Type 0
 TellsIdentifiedAt argument script log answer log' =
     AtArgument argument ((answer ≡ refusing_noted invalid_argument) × (log' ≡ log))
-    (λ id. Tells (told_identified id) (keeping_onto nothing_kept (set_mouse_id (record { id = id }))) script log answer log')
+    (λ id. Tells (told_identified id)
+    (keeping_onto nothing_kept (set_mouse_id (record { id = id }))) script log answer log')
 
 -- ---- the controller
 
-abbrev pub initialized_recorded : ControllerWords → Answer Success → PS2Controller → Recording → InitializedNotedWords
+abbrev pub initialized_recorded : ControllerWords → Answer Success → PS2Controller → Recording
+    → InitializedNotedWords
 initialized_recorded passed answer now left =
-    record { run = told_recorded no_value answer left; controller = cond left.short passed (numbers_by passed answer now) }
+    record {
+      run = told_recorded no_value answer left;
+      controller = cond left.short passed (numbers_by passed answer now);
+    }
 
-abbrev pub told_initialized : ControllerWords → End (Kept KeptBytes (Left PS2Controller Success)) → ℕ → ℕ → InitializedNotedWords
+abbrev pub told_initialized : ControllerWords → End (Kept KeptBytes (Left PS2Controller Success))
+    → ℕ → ℕ → InitializedNotedWords
 told_initialized passed end used pairs =
-    record { run = told_noted no_value (told_end answer_kept end) used pairs; controller = numbers_left passed (told_end (λ k. k.value) end) }
+    record {
+      run = told_noted no_value (told_end answer_kept end) used pairs;
+      controller = numbers_left passed (told_end (λ k. k.value) end);
+    }

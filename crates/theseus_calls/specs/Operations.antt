@@ -45,4 +45,5 @@ abbrev pub commanding_rate : MouseSampleRate → Exchange (Answer Success)
 commanding_rate rate = command_to_mouse (HostToMouseCommandOrData.SampleRate rate)
 
 abbrev pub commanding_resolution : MouseResolution → Exchange (Answer Success)
-commanding_resolution resolution = command_to_mouse (HostToMouseCommandOrData.MouseResolution resolution)
+commanding_resolution resolution =
+    command_to_mouse (HostToMouseCommandOrData.MouseResolution resolution)

@@ -21,10 +21,17 @@ use Rattle.theseus_calls.specs.declared.identity.PacketFields.{PacketFields}
 use Rattle.theseus_calls.specs.declared.identity.PacketNotedWords.{PacketNotedWords}
 use Rattle.theseus_calls.specs.Recorded.{refusing_noted, told_recorded, told_noted}
 
--- The buttons, the bit that is always one, and the movements, of which the wheel is the Rust's: unsigned at identity 4.
+-- The buttons, the bit that is always one, and the movements,
+-- of which the wheel is the Rust's: unsigned at identity 4.
 abbrev pub packet_numbers : MousePacket → PacketFields
 packet_numbers p =
-    record { buttons = buttons_of p; always_one = weigh (bit always_one (common p).byte1); x = x_movement (common p); y = y_movement (common p); wheel = wheel p }
+    record {
+      buttons = buttons_of p;
+      always_one = weigh (bit always_one (common p).byte1);
+      x = x_movement (common p);
+      y = y_movement (common p);
+      wheel = wheel p;
+    }
 
 abbrev pub no_packet : PacketFields
 no_packet = record { buttons = 0; always_one = 0; x = pos 0; y = pos 0; wheel = pos 0 }
@@ -34,15 +41,22 @@ abbrev pub packet_value : MousePacket → ℕ
 packet_value p = 0
 
 abbrev pub packet_recorded : MousePacket → Recording → PacketNotedWords
-packet_recorded packet left = record { run = told_recorded packet_value (gives packet) left; packet = cond left.short no_packet (packet_numbers packet) }
+packet_recorded packet left = record {
+  run = told_recorded packet_value (gives packet) left;
+  packet = cond left.short no_packet (packet_numbers packet);
+}
 
 abbrev pub told_packet_noted : End (Kept KeptBytes (Answer MousePacket)) → ℕ → ℕ → PacketNotedWords
 told_packet_noted end used pairs =
-    record { run = told_noted packet_value end used pairs; packet = given_or no_packet packet_numbers (told_end (λ k. k.value) end) }
+    record {
+      run = told_noted packet_value end used pairs;
+      packet = given_or no_packet packet_numbers (told_end (λ k. k.value) end);
+    }
 
 abbrev pub refusing_packet_noted : ℕ → PacketNotedWords
 refusing_packet_noted n = record { run = refusing_noted n; packet = no_packet }
 
 abbrev pub TellsPacketAt : Option MouseId → List ℕ → List ℕ → PacketNotedWords → List ℕ → Type 0
 TellsPacketAt argument script log answer log' =
-    TellsAt (refusing_packet_noted invalid_argument) told_packet_noted (λ id. keeping_onto nothing_kept (read_mouse_packet id)) argument script log answer log'
+    TellsAt (refusing_packet_noted invalid_argument) told_packet_noted
+    (λ id. keeping_onto nothing_kept (read_mouse_packet id)) argument script log answer log'

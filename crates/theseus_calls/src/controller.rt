@@ -19,7 +19,8 @@ use theseus_ps2::Recording;
 use theseus_ps2::both_controller::{rusts_polling_receive, rusts_polling_send};
 
 fn controller_test<'a>(script: &'a [u8], log: &'a mut [u8]) -> Run<'a, NotedWords>
-    ensures told { TellsNoted no_value test_controller script.now log.old result.words result.log.now }
+    ensures told { TellsNoted no_value test_controller script.now log.old result.words
+        result.log.now }
     ensures same_log { result.log.ghost_name ≡ log.entry.ghost_name }
 {
     let mut controller = begun(script, log);
@@ -37,7 +38,8 @@ pub extern "C" fn vdr_controller_test(script: &[u8], log: &mut [u8]) -> NotedWor
 }
 
 fn port1_test<'a>(script: &'a [u8], log: &'a mut [u8]) -> Run<'a, NotedWords>
-    ensures told { TellsNoted no_value (test_port TestPort1) script.now log.old result.words result.log.now }
+    ensures told { TellsNoted no_value (test_port TestPort1) script.now log.old result.words
+        result.log.now }
     ensures same_log { result.log.ghost_name ≡ log.entry.ghost_name }
 {
     let mut controller = begun(script, log);
@@ -55,7 +57,8 @@ pub extern "C" fn vdr_port1_test(script: &[u8], log: &mut [u8]) -> NotedWords
 }
 
 fn port2_test<'a>(script: &'a [u8], log: &'a mut [u8]) -> Run<'a, NotedWords>
-    ensures told { TellsNoted no_value (test_port TestPort2) script.now log.old result.words result.log.now }
+    ensures told { TellsNoted no_value (test_port TestPort2) script.now log.old result.words
+        result.log.now }
     ensures same_log { result.log.ghost_name ≡ log.entry.ghost_name }
 {
     let mut controller = begun(script, log);
@@ -80,7 +83,8 @@ fn configuration_words(config: ControllerConfigurationByte, left: &Recording<'_>
 }
 
 fn configuration_read<'a>(script: &'a [u8], log: &'a mut [u8]) -> Run<'a, NotedWords>
-    ensures told { TellsNoted configuration_value read_config script.now log.old result.words result.log.now }
+    ensures told { TellsNoted configuration_value read_config script.now log.old result.words
+        result.log.now }
     ensures same_log { result.log.ghost_name ≡ log.entry.ghost_name }
 {
     let mut controller = begun(script, log);
@@ -98,7 +102,8 @@ pub extern "C" fn vdr_configuration_read(script: &[u8], log: &mut [u8]) -> Noted
 }
 
 fn written<'a>(configuration: u8, script: &'a [u8], log: &'a mut [u8]) -> Run<'a, NotedWords>
-    ensures told { TellsNoted no_value (write_config (record { bits = configuration })) script.now log.old result.words result.log.now }
+    ensures told { TellsNoted no_value (write_config (record { bits = configuration })) script.now
+        log.old result.words result.log.now }
     ensures same_log { result.log.ghost_name ≡ log.entry.ghost_name }
 {
     let mut controller = begun(script, log);
@@ -114,13 +119,15 @@ pub extern "C" fn vdr_configuration_write(
     script: &[u8],
     log: &mut [u8],
 ) -> NotedWords
-    ensures { TellsNoted no_value (write_config (record { bits = configuration })) script.now log.old result log.new }
+    ensures { TellsNoted no_value (write_config (record { bits = configuration })) script.now
+        log.old result log.new }
 {
     written(configuration, script, log).words
 }
 
 fn polling_send<'a>(set: ScancodeSet, script: &'a [u8], log: &'a mut [u8]) -> Run<'a, NotedWords>
-    ensures told { TellsNoted no_value (sending_set set) script.now log.old result.words result.log.now }
+    ensures told { TellsNoted no_value (sending_set set) script.now log.old result.words
+        result.log.now }
     ensures same_log { result.log.ghost_name ≡ log.entry.ghost_name }
 {
     let mut controller = begun(script, log);
@@ -142,7 +149,8 @@ pub extern "C" fn vdr_polling_send(set: u32, script: &[u8], log: &mut [u8]) -> N
 }
 
 fn received<'a>(script: &'a [u8], log: &'a mut [u8]) -> Run<'a, NotedWords>
-    ensures told { TellsNoted response_byte polling_receive script.now log.old result.words result.log.now }
+    ensures told { TellsNoted response_byte polling_receive script.now log.old result.words
+        result.log.now }
     ensures same_log { result.log.ghost_name ≡ log.entry.ghost_name }
 {
     let mut controller = begun(script, log);

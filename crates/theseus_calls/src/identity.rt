@@ -45,7 +45,9 @@ fn identified_words(
 }
 
 fn set_identity<'a>(id: MouseId, script: &'a [u8], log: &'a mut [u8]) -> Run<'a, NotedWords>
-    ensures told { Tells (told_identified id) (keeping_onto nothing_kept (set_mouse_id (record { id = id }))) script.now log.old result.words result.log.now }
+    ensures told { Tells (told_identified id)
+        (keeping_onto nothing_kept (set_mouse_id (record { id = id }))) script.now log.old
+        result.words result.log.now }
     ensures same_log { result.log.ghost_name ≡ log.entry.ghost_name }
 {
     let mut controller = begun(script, log);
@@ -125,7 +127,8 @@ fn packet_noted_words(packet: MousePacket, left: &Recording<'_>) -> PacketNotedW
 }
 
 fn read_packet<'a>(id: MouseId, script: &'a [u8], log: &'a mut [u8]) -> Run<'a, PacketNotedWords>
-    ensures told { Tells told_packet_noted (keeping_onto nothing_kept (read_mouse_packet id)) script.now log.old result.words result.log.now }
+    ensures told { Tells told_packet_noted (keeping_onto nothing_kept (read_mouse_packet id))
+        script.now log.old result.words result.log.now }
     ensures same_log { result.log.ghost_name ≡ log.entry.ghost_name }
 {
     let mut controller = begun(script, log);

@@ -47,7 +47,8 @@ fn initialized<'a>(
     script: &'a [u8],
     log: &'a mut [u8],
 ) -> Run<'a, InitializedNotedWords>
-    ensures told { Tells (told_initialized numbers) (keeping_onto nothing_kept (initialize passed)) script.now log.old result.words result.log.now }
+    ensures told { Tells (told_initialized numbers) (keeping_onto nothing_kept (initialize passed))
+        script.now log.old result.words result.log.now }
     ensures same_log { result.log.ghost_name ≡ log.entry.ghost_name }
 {
     let mut rusts = PS2Controller {
@@ -73,7 +74,9 @@ pub extern "C" fn vdr_controller_init(
     script: &[u8],
     log: &mut [u8],
 ) -> InitializedNotedWords
-    ensures { Tells (told_initialized controller) (keeping_onto nothing_kept (initialize (controller_of controller))) script.now log.old result log.new }
+    ensures { Tells (told_initialized controller)
+        (keeping_onto nothing_kept (initialize (controller_of controller))) script.now log.old
+        result log.new }
 {
     initialized(Ours::from(controller), controller, script, log).words
 }

@@ -29,7 +29,8 @@ use theseus_ps2::both_keyboard::{
 use theseus_ps2::{Hardware, PS2Controller, PS2Keyboard};
 
 fn keyboard_reset<'a>(script: &'a [u8], log: &'a mut [u8]) -> Run<'a, NotedWords>
-    ensures told { TellsNoted no_value reset_keyboard script.now log.old result.words result.log.now }
+    ensures told { TellsNoted no_value reset_keyboard script.now log.old result.words
+        result.log.now }
     ensures same_log { result.log.ghost_name ≡ log.entry.ghost_name }
 {
     let mut controller = begun(script, log);
@@ -52,7 +53,8 @@ fn command<'a>(
     script: &'a [u8],
     log: &'a mut [u8],
 ) -> Run<'a, NotedWords>
-    ensures told { TellsNoted no_value (to_keyboard value) script.now log.old result.words result.log.now }
+    ensures told { TellsNoted no_value (to_keyboard value) script.now log.old result.words
+        result.log.now }
     ensures same_log { result.log.ghost_name ≡ log.entry.ghost_name }
 {
     let mut controller = begun(script, log);
@@ -91,7 +93,8 @@ pub extern "C" fn vdr_keyboard_data_set(set: u32, script: &[u8], log: &mut [u8])
 /// Sends lamps, 0 to 7, as a command's data byte.
 #[unsafe(no_mangle)]
 pub extern "C" fn vdr_keyboard_data_lamps(lamps: u32, script: &[u8], log: &mut [u8]) -> NotedWords
-    ensures { TellsNotedAt no_value commanding_lamps (lamps_at lamps) script.now log.old result log.new }
+    ensures { TellsNotedAt no_value commanding_lamps (lamps_at lamps) script.now log.old result
+        log.new }
 {
     match lamps_of(lamps) {
         Some(leds) => command(HostToKeyboardCommandOrData::LEDState(leds), script, log).words,
@@ -100,7 +103,8 @@ pub extern "C" fn vdr_keyboard_data_lamps(lamps: u32, script: &[u8], log: &mut [
 }
 
 fn set_lamps<'a>(leds: LEDState, script: &'a [u8], log: &'a mut [u8]) -> Run<'a, NotedWords>
-    ensures told { TellsNoted no_value (set_keyboard_led leds) script.now log.old result.words result.log.now }
+    ensures told { TellsNoted no_value (set_keyboard_led leds) script.now log.old result.words
+        result.log.now }
     ensures same_log { result.log.ghost_name ≡ log.entry.ghost_name }
 {
     let mut controller = begun(script, log);
@@ -112,7 +116,8 @@ fn set_lamps<'a>(leds: LEDState, script: &'a [u8], log: &'a mut [u8]) -> Run<'a,
 /// Sets the lamps: scroll 1, number 2, caps 4 added.
 #[unsafe(no_mangle)]
 pub extern "C" fn vdr_keyboard_lamps(lamps: u32, script: &[u8], log: &mut [u8]) -> NotedWords
-    ensures { TellsNotedAt no_value set_keyboard_led (lamps_at lamps) script.now log.old result log.new }
+    ensures { TellsNotedAt no_value set_keyboard_led (lamps_at lamps) script.now log.old result
+        log.new }
 {
     match lamps_of(lamps) {
         Some(leds) => set_lamps(leds, script, log).words,
@@ -121,7 +126,8 @@ pub extern "C" fn vdr_keyboard_lamps(lamps: u32, script: &[u8], log: &mut [u8]) 
 }
 
 fn set_set<'a>(set: ScancodeSet, script: &'a [u8], log: &'a mut [u8]) -> Run<'a, NotedWords>
-    ensures told { TellsNoted no_value (set_scancode_set set) script.now log.old result.words result.log.now }
+    ensures told { TellsNoted no_value (set_scancode_set set) script.now log.old result.words
+        result.log.now }
     ensures same_log { result.log.ghost_name ≡ log.entry.ghost_name }
 {
     let mut controller = begun(script, log);
@@ -137,7 +143,8 @@ pub extern "C" fn vdr_keyboard_set_scancode_set(
     script: &[u8],
     log: &mut [u8],
 ) -> NotedWords
-    ensures { TellsNotedAt no_value set_scancode_set (set_at set) script.now log.old result log.new }
+    ensures { TellsNotedAt no_value set_scancode_set (set_at set) script.now log.old result
+        log.new }
 {
     match set_of(set) {
         Some(known) => set_set(known, script, log).words,
@@ -146,7 +153,8 @@ pub extern "C" fn vdr_keyboard_set_scancode_set(
 }
 
 fn scancode_set<'a>(script: &'a [u8], log: &'a mut [u8]) -> Run<'a, NotedWords>
-    ensures told { TellsNoted scancode_set_byte get_scancode_set script.now log.old result.words result.log.now }
+    ensures told { TellsNoted scancode_set_byte get_scancode_set script.now log.old result.words
+        result.log.now }
     ensures same_log { result.log.ghost_name ≡ log.entry.ghost_name }
 {
     let mut controller = begun(script, log);
@@ -164,7 +172,8 @@ pub extern "C" fn vdr_keyboard_scancode_set(script: &[u8], log: &mut [u8]) -> No
 }
 
 fn detected<'a>(script: &'a [u8], log: &'a mut [u8]) -> Run<'a, NotedWords>
-    ensures told { TellsNoted type_number keyboard_detect script.now log.old result.words result.log.now }
+    ensures told { TellsNoted type_number keyboard_detect script.now log.old result.words
+        result.log.now }
     ensures same_log { result.log.ghost_name ≡ log.entry.ghost_name }
 {
     let mut controller = begun(script, log);
@@ -182,7 +191,8 @@ pub extern "C" fn vdr_keyboard_detect(script: &[u8], log: &mut [u8]) -> NotedWor
 }
 
 fn keyboard_waits<'a>(script: &'a [u8], log: &'a mut [u8]) -> Run<'a, NotedWords>
-    ensures told { TellsNoted weigh keyboard_output_buffer_full script.now log.old result.words result.log.now }
+    ensures told { TellsNoted weigh keyboard_output_buffer_full script.now log.old result.words
+        result.log.now }
     ensures same_log { result.log.ghost_name ≡ log.entry.ghost_name }
 {
     let mut controller = begun(script, log);
@@ -200,7 +210,8 @@ pub extern "C" fn vdr_keyboard_waits(script: &[u8], log: &mut [u8]) -> NotedWord
 }
 
 fn read_byte<'a>(script: &'a [u8], log: &'a mut [u8]) -> Run<'a, NotedWords>
-    ensures told { TellsNoted byte_value read_scancode script.now log.old result.words result.log.now }
+    ensures told { TellsNoted byte_value read_scancode script.now log.old result.words
+        result.log.now }
     ensures same_log { result.log.ghost_name ≡ log.entry.ghost_name }
 {
     let mut controller = begun(script, log);
@@ -219,14 +230,16 @@ pub extern "C" fn vdr_keyboard_read_scancode(script: &[u8], log: &mut [u8]) -> N
 
 // The Rust's keyboard initialisation, at a keyboard of this controller.
 fn initialized<H: Hardware + Drop>(controller: &mut PS2Controller<H>) -> Result<(), &'static str>
-    ensures { ran (said result) controller.new ≡ run (on_controller H.device) keyboard_init controller.old }
+    ensures { ran (said result) controller.new
+        ≡ run (on_controller H.device) keyboard_init controller.old }
 {
     let mut keyboard = PS2Keyboard::new(controller);
     init(&mut keyboard)
 }
 
 fn initialization<'a>(script: &'a [u8], log: &'a mut [u8]) -> Run<'a, NotedWords>
-    ensures told { TellsNoted no_value keyboard_init script.now log.old result.words result.log.now }
+    ensures told { TellsNoted no_value keyboard_init script.now log.old result.words
+        result.log.now }
     ensures same_log { result.log.ghost_name ≡ log.entry.ghost_name }
 {
     let mut controller = begun(script, log);

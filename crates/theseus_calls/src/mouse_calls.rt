@@ -38,7 +38,8 @@ pub extern "C" fn vdr_mouse_reset(script: &[u8], log: &mut [u8]) -> NotedWords
 }
 
 fn mouse_start_packets<'a>(script: &'a [u8], log: &'a mut [u8]) -> Run<'a, NotedWords>
-    ensures told { TellsNoted no_value enable_packet_streaming script.now log.old result.words result.log.now }
+    ensures told { TellsNoted no_value enable_packet_streaming script.now log.old result.words
+        result.log.now }
     ensures same_log { result.log.ghost_name ≡ log.entry.ghost_name }
 {
     let mut controller = begun(script, log);
@@ -56,7 +57,8 @@ pub extern "C" fn vdr_mouse_start_packets(script: &[u8], log: &mut [u8]) -> Note
 }
 
 fn mouse_stop_packets<'a>(script: &'a [u8], log: &'a mut [u8]) -> Run<'a, NotedWords>
-    ensures told { TellsNoted no_value disable_packet_streaming script.now log.old result.words result.log.now }
+    ensures told { TellsNoted no_value disable_packet_streaming script.now log.old result.words
+        result.log.now }
     ensures same_log { result.log.ghost_name ≡ log.entry.ghost_name }
 {
     let mut controller = begun(script, log);
@@ -74,7 +76,8 @@ pub extern "C" fn vdr_mouse_stop_packets(script: &[u8], log: &mut [u8]) -> Noted
 }
 
 fn mouse_identity<'a>(script: &'a [u8], log: &'a mut [u8]) -> Run<'a, NotedWords>
-    ensures told { TellsNoted mouse_id_byte mouse_id_rule script.now log.old result.words result.log.now }
+    ensures told { TellsNoted mouse_id_byte mouse_id_rule script.now log.old result.words
+        result.log.now }
     ensures same_log { result.log.ghost_name ≡ log.entry.ghost_name }
 {
     let mut controller = begun(script, log);
@@ -97,7 +100,8 @@ fn command<'a>(
     script: &'a [u8],
     log: &'a mut [u8],
 ) -> Run<'a, NotedWords>
-    ensures told { TellsNoted no_value (command_to_mouse value) script.now log.old result.words result.log.now }
+    ensures told { TellsNoted no_value (command_to_mouse value) script.now log.old result.words
+        result.log.now }
     ensures same_log { result.log.ghost_name ≡ log.entry.ghost_name }
 {
     let mut controller = begun(script, log);
@@ -109,7 +113,8 @@ fn command<'a>(
 /// Sends a command, by the byte that the wiki lists it with.
 #[unsafe(no_mangle)]
 pub extern "C" fn vdr_mouse_command(byte: u32, script: &[u8], log: &mut [u8]) -> NotedWords
-    ensures { TellsNotedAt no_value commanding_mouse (command_at byte) script.now log.old result log.new }
+    ensures { TellsNotedAt no_value commanding_mouse (command_at byte) script.now log.old result
+        log.new }
 {
     match mouse_command_of(byte) {
         Some(known) => command(HostToMouseCommandOrData::MouseCommand(known), script, log).words,
@@ -120,7 +125,8 @@ pub extern "C" fn vdr_mouse_command(byte: u32, script: &[u8], log: &mut [u8]) ->
 /// Sends a sampling rate as a command's data byte.
 #[unsafe(no_mangle)]
 pub extern "C" fn vdr_mouse_data_rate(rate: u32, script: &[u8], log: &mut [u8]) -> NotedWords
-    ensures { TellsNotedAt no_value commanding_rate (rate_at rate) script.now log.old result log.new }
+    ensures { TellsNotedAt no_value commanding_rate (rate_at rate) script.now log.old result
+        log.new }
 {
     match rate_of(rate) {
         Some(known) => command(HostToMouseCommandOrData::SampleRate(known), script, log).words,
@@ -135,7 +141,8 @@ pub extern "C" fn vdr_mouse_data_resolution(
     script: &[u8],
     log: &mut [u8],
 ) -> NotedWords
-    ensures { TellsNotedAt no_value commanding_resolution (resolution_at resolution) script.now log.old result log.new }
+    ensures { TellsNotedAt no_value commanding_resolution (resolution_at resolution) script.now
+        log.old result log.new }
 {
     match resolution_of(resolution) {
         Some(known) => command(
@@ -149,7 +156,8 @@ pub extern "C" fn vdr_mouse_data_resolution(
 }
 
 fn set_rate<'a>(rate: MouseSampleRate, script: &'a [u8], log: &'a mut [u8]) -> Run<'a, NotedWords>
-    ensures told { TellsNoted no_value (set_sampling_rate rate) script.now log.old result.words result.log.now }
+    ensures told { TellsNoted no_value (set_sampling_rate rate) script.now log.old result.words
+        result.log.now }
     ensures same_log { result.log.ghost_name ≡ log.entry.ghost_name }
 {
     let mut controller = begun(script, log);
@@ -161,7 +169,8 @@ fn set_rate<'a>(rate: MouseSampleRate, script: &'a [u8], log: &'a mut [u8]) -> R
 /// Sets the mouse's sampling rate.
 #[unsafe(no_mangle)]
 pub extern "C" fn vdr_mouse_sampling_rate(rate: u32, script: &[u8], log: &mut [u8]) -> NotedWords
-    ensures { TellsNotedAt no_value set_sampling_rate (rate_at rate) script.now log.old result log.new }
+    ensures { TellsNotedAt no_value set_sampling_rate (rate_at rate) script.now log.old result
+        log.new }
 {
     match rate_of(rate) {
         Some(known) => set_rate(known, script, log).words,
@@ -174,7 +183,8 @@ fn set_resolution<'a>(
     script: &'a [u8],
     log: &'a mut [u8],
 ) -> Run<'a, NotedWords>
-    ensures told { TellsNoted no_value (set_resolution resolution) script.now log.old result.words result.log.now }
+    ensures told { TellsNoted no_value (set_resolution resolution) script.now log.old result.words
+        result.log.now }
     ensures same_log { result.log.ghost_name ≡ log.entry.ghost_name }
 {
     let mut controller = begun(script, log);
@@ -186,7 +196,8 @@ fn set_resolution<'a>(
 /// Sets the mouse's resolution.
 #[unsafe(no_mangle)]
 pub extern "C" fn vdr_mouse_resolution(resolution: u32, script: &[u8], log: &mut [u8]) -> NotedWords
-    ensures { TellsNotedAt no_value set_resolution (resolution_at resolution) script.now log.old result log.new }
+    ensures { TellsNotedAt no_value set_resolution (resolution_at resolution) script.now log.old
+        result log.new }
 {
     match resolution_of(resolution) {
         Some(known) => set_resolution(known, script, log).words,
@@ -195,7 +206,8 @@ pub extern "C" fn vdr_mouse_resolution(resolution: u32, script: &[u8], log: &mut
 }
 
 fn mouse_waits<'a>(script: &'a [u8], log: &'a mut [u8]) -> Run<'a, NotedWords>
-    ensures told { TellsNoted weigh mouse_output_buffer_full script.now log.old result.words result.log.now }
+    ensures told { TellsNoted weigh mouse_output_buffer_full script.now log.old result.words
+        result.log.now }
     ensures same_log { result.log.ghost_name ≡ log.entry.ghost_name }
 {
     let mut controller = begun(script, log);

@@ -142,7 +142,9 @@ fn interrupted<H: Hardware + Drop, Q: Queue>(
     modifiers: &mut KeyboardModifiers,
     extended: &mut bool,
 )
-    ensures { Interrupted (on_controller H.device) controller.old extended.old (renumbered modifiers.old.bits) (our_events (Q.waiting queue.old)) controller.new extended.new (renumbered modifiers.new.bits) (our_events (Q.waiting queue.new)) }
+    ensures { Interrupted (on_controller H.device) controller.old extended.old
+        (renumbered modifiers.old.bits) (our_events (Q.waiting queue.old)) controller.new
+        extended.new (renumbered modifiers.new.bits) (our_events (Q.waiting queue.new)) }
 {
     let mut keyboard = PS2Keyboard::new(controller);
     ps2_keyboard_handler(&mut keyboard, queue, modifiers, extended);
@@ -156,7 +158,8 @@ fn interrupt<'a>(
     script: &'a [u8],
     log: &'a mut [u8],
 ) -> Run<'a, InterruptWords>
-    ensures told { InterruptMade prefix flags waiting script.now log.old result.words result.log.now }
+    ensures told { InterruptMade prefix flags waiting script.now log.old result.words
+        result.log.now }
     ensures same_log { result.log.ghost_name ≡ log.entry.ghost_name }
 {
     let mut controller = begun(script, log);

@@ -46,7 +46,8 @@ pushed waiting e = cond (ltb (length waiting) 128) (waiting ++ (e ∷ [])) waiti
 abbrev pub our_events : List Theirs → List KeyEvent
 our_events events = map our_event events
 
--- The hardware after the lamp exchange of these flags, and after the one that a byte has, if it has one.
+-- The hardware after the lamp exchange of these flags, and
+-- after the one that a byte has, if it has one.
 abbrev pub lamps_of : {S : Type 0} → Device S → ℕ → S → S
 lamps_of d flags s = (run d (set_keyboard_led (record { bits = lamps_lit flags })) s).now
 
@@ -63,7 +64,8 @@ key_answer b waiting = cond (is_known b) (room_in waiting) (refuses 19)
 abbrev pub key_queue : ℕ → ℕ → List KeyEvent → List KeyEvent
 key_queue b flags waiting = cond (is_known b) (pushed waiting (event_of b flags)) waiting
 
--- The byte that an interrupt takes, and the hardware after it; E0, E1, 00 and FA change nothing but the prefix.
+-- The byte that an interrupt takes, and the hardware after
+-- it; E0, E1, 00 and FA change nothing but the prefix.
 abbrev pub next_byte : {S : Type 0} → Device S → S → ℕ
 next_byte d s = d.brings s p60
 
@@ -80,7 +82,9 @@ abbrev pub queue_of_byte : ℕ → ℕ → List KeyEvent → List KeyEvent
 queue_of_byte b flags waiting = cond (is_silent b) waiting (key_queue b flags waiting)
 
 -- What an interrupt leaves: the prefix, the flags, the hardware after the lamp exchange, the queue.
-abbrev pub Interrupted : {S : Type 0} → Device S → S → Bool → ℕ → List KeyEvent → S → Bool → ℕ → List KeyEvent → Type 0
+abbrev pub Interrupted : {S : Type 0} → Device S → S → Bool → ℕ → List KeyEvent → S → Bool → ℕ
+    → List KeyEvent → Type 0
 Interrupted d s x m q s' x' m' q' =
     (x' ≡ is_prefix (next_byte d s)) × (m' ≡ flags_of_byte (next_byte d s) x m)
-    × (s' ≡ lit_by_byte d (next_byte d s) m' (past_byte d s)) × (q' ≡ queue_of_byte (next_byte d s) m' q)
+    × (s' ≡ lit_by_byte d (next_byte d s) m' (past_byte d s))
+    × (q' ≡ queue_of_byte (next_byte d s) m' q)

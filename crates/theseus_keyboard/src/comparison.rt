@@ -34,7 +34,10 @@ fn rusts_handle<H: Hardware + Drop, Q: Queue>(
     kbd_modifiers: &mut KeyboardModifiers,
     extended_scancode: &mut bool,
 )
-    ensures { Interrupted (on_controller H.device) controller.old extended_scancode.old (renumbered kbd_modifiers.old.bits) (our_events (Q.waiting queue.old)) controller.new extended_scancode.new (renumbered kbd_modifiers.new.bits) (our_events (Q.waiting queue.new)) }
+    ensures { Interrupted (on_controller H.device) controller.old extended_scancode.old
+        (renumbered kbd_modifiers.old.bits) (our_events (Q.waiting queue.old)) controller.new
+        extended_scancode.new (renumbered kbd_modifiers.new.bits)
+        (our_events (Q.waiting queue.new)) }
 {
     let mut keyboard = PS2Keyboard::new(controller);
     ps2_keyboard_handler(&mut keyboard, queue, kbd_modifiers, extended_scancode);
@@ -51,7 +54,12 @@ pub fn both_handle<'a, Q: Queue>(
     kbd_modifiers: &mut KeyboardModifiers,
     extended_scancode: &mut bool,
 ) -> BothCalls<'a>
-    ensures { log.old ≡ rusts_log.old → Base handler → Alike handler extended_scancode.old (renumbered kbd_modifiers.old.bits) (our_events (Q.waiting queue.old)) → AgreeCall (said_handled result.ours) log.new (answer_to (first_of script.now) (our_events (Q.waiting queue.old))) extended_scancode.new (renumbered kbd_modifiers.new.bits) (our_events (Q.waiting queue.new)) result.left }
+    ensures { log.old ≡ rusts_log.old → Base handler
+        → Alike handler extended_scancode.old (renumbered kbd_modifiers.old.bits)
+        (our_events (Q.waiting queue.old))
+        → AgreeCall (said_handled result.ours) log.new
+        (answer_to (first_of script.now) (our_events (Q.waiting queue.old))) extended_scancode.new
+        (renumbered kbd_modifiers.new.bits) (our_events (Q.waiting queue.new)) result.left }
 {
     let mut controller = start(script, rusts_log);
     rusts_handle(&mut controller, queue, kbd_modifiers, extended_scancode);
@@ -75,10 +83,26 @@ pub fn both_handle_alone<'a, Q: Queue>(
     kbd_modifiers: &mut KeyboardModifiers,
     extended_scancode: &mut bool,
 ) -> BothCalls<'a>
-    ensures followed { BaseAlone side handler script.now rusts_script.now extended_scancode.old (renumbered kbd_modifiers.old.bits) → AgreeFollowed side (said_handled result.ours) extended_scancode.new (renumbered kbd_modifiers.new.bits) }
-    ensures queued { BaseAlone side handler script.now rusts_script.now extended_scancode.old (renumbered kbd_modifiers.old.bits) → BothRoom side handler (our_events (Q.waiting queue.old)) → AlikeQueue side handler (our_events (Q.waiting queue.old)) → AgreeQueued side (profile_of handler) (first_of rusts_script.now) (our_events (Q.waiting queue.old)) (said_handled result.ours) (our_events (Q.waiting queue.new)) }
-    ensures sent { BaseAlone side handler script.now rusts_script.now extended_scancode.old (renumbered kbd_modifiers.old.bits) → LampsAlike (profile_of handler) (first_of rusts_script.now) → AgreeSent (waiting_at side handler) (said_handled result.ours) log.new result.left }
-    ensures ports { BaseAlone side handler script.now rusts_script.now extended_scancode.old (renumbered kbd_modifiers.old.bits) → LampsAlike (profile_of handler) (first_of rusts_script.now) → side ≡ Side.First → log.old ≡ rusts_log.old → AgreePorts (waiting_at side handler) (said_handled result.ours) log.new result.left }
+    ensures followed { BaseAlone side handler script.now rusts_script.now extended_scancode.old
+        (renumbered kbd_modifiers.old.bits)
+        → AgreeFollowed side (said_handled result.ours) extended_scancode.new
+        (renumbered kbd_modifiers.new.bits) }
+    ensures queued { BaseAlone side handler script.now rusts_script.now extended_scancode.old
+        (renumbered kbd_modifiers.old.bits)
+        → BothRoom side handler (our_events (Q.waiting queue.old))
+        → AlikeQueue side handler (our_events (Q.waiting queue.old))
+        → AgreeQueued side (profile_of handler) (first_of rusts_script.now)
+        (our_events (Q.waiting queue.old)) (said_handled result.ours)
+        (our_events (Q.waiting queue.new)) }
+    ensures sent { BaseAlone side handler script.now rusts_script.now extended_scancode.old
+        (renumbered kbd_modifiers.old.bits)
+        → LampsAlike (profile_of handler) (first_of rusts_script.now)
+        → AgreeSent (waiting_at side handler) (said_handled result.ours) log.new result.left }
+    ensures ports { BaseAlone side handler script.now rusts_script.now extended_scancode.old
+        (renumbered kbd_modifiers.old.bits)
+        → LampsAlike (profile_of handler) (first_of rusts_script.now) → side ≡ Side.First
+        → log.old ≡ rusts_log.old
+        → AgreePorts (waiting_at side handler) (said_handled result.ours) log.new result.left }
 {
     let mut controller = start(rusts_script, rusts_log);
     rusts_handle(&mut controller, queue, kbd_modifiers, extended_scancode);
@@ -91,7 +115,8 @@ pub fn both_handle_alone<'a, Q: Queue>(
 
 // The Rust's initialisation, at a keyboard of this controller.
 fn rusts_init<H: Hardware + Drop>(controller: &mut PS2Controller<H>) -> Result<(), &'static str>
-    ensures { ran (said result) controller.new ≡ run (on_controller H.device) keyboard_init controller.old }
+    ensures { ran (said result) controller.new
+        ≡ run (on_controller H.device) keyboard_init controller.old }
 {
     let mut keyboard = PS2Keyboard::new(controller);
     init(&mut keyboard)
@@ -104,7 +129,8 @@ pub fn both_keyboard_init<'a>(
     log: &mut [u8],
     rusts_log: &'a mut [u8],
 ) -> Both<'a, KeyboardInitialized, Result<(), &'static str>>
-    ensures agree { log.old ≡ rusts_log.old → Agree result.ours.answer log.new (said result.rusts) result.left }
+    ensures agree { log.old ≡ rusts_log.old
+        → Agree result.ours.answer log.new (said result.rusts) result.left }
     ensures fresh { FreshAlike result.ours.handler }
 {
     let mut controller = start(script, rusts_log);

@@ -60,7 +60,8 @@ pub trait Queue {
 ///    will push new keyboard events when a key action occurs.
 pub fn init<H: Hardware + Drop>(keyboard: &mut PS2Keyboard<'_, H>) -> Result<(), &'static str>
     ensures same { keyboard.new.controller.ghost_name ≡ keyboard.old.controller.ghost_name }
-    ensures ran { ran (said result) keyboard.new.controller.now ≡ run (on_controller H.device) keyboard_init keyboard.old.controller.now }
+    ensures ran { ran (said result) keyboard.new.controller.now
+        ≡ run (on_controller H.device) keyboard_init keyboard.old.controller.now }
 {
     // Detect which kind of keyboard is connected.
     // TODO: actually do something with the keyboard type.
@@ -98,7 +99,10 @@ pub fn ps2_keyboard_handler<H: Hardware + Drop, Q: Queue>(
     extended_scancode: &mut bool,
 )
     ensures same { keyboard.new.controller.ghost_name ≡ keyboard.old.controller.ghost_name }
-    ensures handled { Interrupted (on_controller H.device) keyboard.old.controller.now extended_scancode.old (renumbered kbd_modifiers.old.bits) (our_events (Q.waiting queue.old)) keyboard.new.controller.now extended_scancode.new (renumbered kbd_modifiers.new.bits) (our_events (Q.waiting queue.new)) }
+    ensures handled { Interrupted (on_controller H.device) keyboard.old.controller.now
+        extended_scancode.old (renumbered kbd_modifiers.old.bits) (our_events (Q.waiting queue.old))
+        keyboard.new.controller.now extended_scancode.new (renumbered kbd_modifiers.new.bits)
+        (our_events (Q.waiting queue.new)) }
 {
     // Some of the scancodes are "extended", which means they generate two different interrupts,
     // the first handling the E0 byte, the second handling their second byte.
@@ -151,10 +155,15 @@ fn handle_keyboard_input<H: Hardware + Drop, Q: Queue>(
     extended: bool,
 ) -> Result<(), &'static str>
     ensures same { keyboard.new.controller.ghost_name ≡ keyboard.old.controller.ghost_name }
-    ensures flags { renumbered kbd_modifiers.new.bits ≡ flags_after rusts_table (stroke scan_code extended) (renumbered kbd_modifiers.old.bits) }
-    ensures lamps { keyboard.new.controller.now ≡ lit (on_controller H.device) scan_code (renumbered kbd_modifiers.new.bits) keyboard.old.controller.now }
+    ensures flags { renumbered kbd_modifiers.new.bits
+        ≡ flags_after rusts_table (stroke scan_code extended) (renumbered kbd_modifiers.old.bits) }
+    ensures lamps { keyboard.new.controller.now
+        ≡ lit (on_controller H.device) scan_code (renumbered kbd_modifiers.new.bits)
+        keyboard.old.controller.now }
     ensures answer { said_key result ≡ key_answer scan_code (our_events (Q.waiting queue.old)) }
-    ensures queue { our_events (Q.waiting queue.new) ≡ key_queue scan_code (renumbered kbd_modifiers.new.bits) (our_events (Q.waiting queue.old)) }
+    ensures queue { our_events (Q.waiting queue.new)
+        ≡ key_queue scan_code (renumbered kbd_modifiers.new.bits)
+        (our_events (Q.waiting queue.old)) }
 {
     // SAFE: no real race conditions with keyboard presses
     let modifiers = kbd_modifiers;
@@ -250,7 +259,9 @@ fn set_keyboard_led<H: Hardware + Drop>(
     modifiers: &KeyboardModifiers,
 )
     ensures same { keyboard.new.controller.ghost_name ≡ keyboard.old.controller.ghost_name }
-    ensures lamps { keyboard.new.controller.now ≡ lamps_of (on_controller H.device) (renumbered modifiers.now.bits) keyboard.old.controller.now }
+    ensures lamps { keyboard.new.controller.now
+        ≡ lamps_of (on_controller H.device) (renumbered modifiers.now.bits)
+        keyboard.old.controller.now }
 {
     if let Err(e) = keyboard.set_keyboard_led(
         LEDState::new()

@@ -11,4 +11,8 @@ our_action KeyAction.Pressed = OurAction.Pressed
 our_action KeyAction.Released = OurAction.Released
 
 abbrev pub our_event : KeyEvent → OurEvent
-our_event e = record { keycode = ours e.keycode; action = our_action e.action; modifiers = ours_modifiers e.modifiers }
+our_event e = record {
+  keycode = ours e.keycode;
+  action = our_action e.action;
+  modifiers = ours_modifiers e.modifiers;
+}

@@ -53,7 +53,8 @@ flag_numbers =
     (num_lock, Ours.num_lock) ∷
     (scroll_lock, Ours.scroll_lock) ∷ []
 
--- The word of flags in which each flag has our number: a flag is set in it if the Rust's word has it.
+-- The word of flags in which each flag has our number: a
+-- flag is set in it if the Rust's word has it.
 unfoldable pub renumbered_by : List (ℕ × ℕ) → ℕ → ℕ
 renumbered_by [] flags = 0
 renumbered_by (row ∷ rows) flags = put_bit row.1 (bit row.0 flags) (renumbered_by rows flags)

@@ -69,7 +69,8 @@ pub fn both_to_ascii(
     keycode: Keycode,
     modifiers: KeyboardModifiers,
 ) -> BothCharacters
-    ensures { our_keycode ≡ ours keycode → our_modifiers ≡ ours_modifiers modifiers → result.ours ≡ result.rusts }
+    ensures { our_keycode ≡ ours keycode → our_modifiers ≡ ours_modifiers modifiers → result.ours
+        ≡ result.rusts }
 {
     BothCharacters {
         ours: our_keycode.to_ascii(our_modifiers),
@@ -110,7 +111,8 @@ pub fn both_new_event(
     action: KeyAction,
     modifiers: KeyboardModifiers,
 ) -> BothEvents
-    ensures { our_keycode ≡ ours keycode → our_press ≡ our_action action → our_modifiers ≡ ours_modifiers modifiers → result.ours ≡ our_event result.rusts }
+    ensures { our_keycode ≡ ours keycode → our_press ≡ our_action action
+        → our_modifiers ≡ ours_modifiers modifiers → result.ours ≡ our_event result.rusts }
 {
     BothEvents {
         ours: OurEvent::new(our_keycode, our_press, our_modifiers),
@@ -120,14 +122,21 @@ pub fn both_new_event(
 
 /// What is asked of flags.
 pub fn both_questions(our_modifiers: OurModifiers, modifiers: KeyboardModifiers) -> BothQuestions
-    ensures shift { our_modifiers ≡ ours_modifiers modifiers → result.shift.ours ≡ result.shift.rusts }
-    ensures control { our_modifiers ≡ ours_modifiers modifiers → result.control.ours ≡ result.control.rusts }
+    ensures shift { our_modifiers ≡ ours_modifiers modifiers → result.shift.ours
+        ≡ result.shift.rusts }
+    ensures control { our_modifiers ≡ ours_modifiers modifiers → result.control.ours
+        ≡ result.control.rusts }
     ensures alt { our_modifiers ≡ ours_modifiers modifiers → result.alt.ours ≡ result.alt.rusts }
-    ensures alt_gr { our_modifiers ≡ ours_modifiers modifiers → result.alt_gr.ours ≡ result.alt_gr.rusts }
-    ensures super_key { our_modifiers ≡ ours_modifiers modifiers → result.super_key.ours ≡ result.super_key.rusts }
-    ensures caps_lock { our_modifiers ≡ ours_modifiers modifiers → result.caps_lock.ours ≡ result.caps_lock.rusts }
-    ensures num_lock { our_modifiers ≡ ours_modifiers modifiers → result.num_lock.ours ≡ result.num_lock.rusts }
-    ensures scroll_lock { our_modifiers ≡ ours_modifiers modifiers → result.scroll_lock.ours ≡ result.scroll_lock.rusts }
+    ensures alt_gr { our_modifiers ≡ ours_modifiers modifiers → result.alt_gr.ours
+        ≡ result.alt_gr.rusts }
+    ensures super_key { our_modifiers ≡ ours_modifiers modifiers → result.super_key.ours
+        ≡ result.super_key.rusts }
+    ensures caps_lock { our_modifiers ≡ ours_modifiers modifiers → result.caps_lock.ours
+        ≡ result.caps_lock.rusts }
+    ensures num_lock { our_modifiers ≡ ours_modifiers modifiers → result.num_lock.ours
+        ≡ result.num_lock.rusts }
+    ensures scroll_lock { our_modifiers ≡ ours_modifiers modifiers → result.scroll_lock.ours
+        ≡ result.scroll_lock.rusts }
 {
     BothQuestions {
         shift: BothAnswers {

@@ -207,7 +207,8 @@ pub struct KeyEvent {
 
 impl KeyEvent {
     pub fn new(keycode: Keycode, action: KeyAction, modifiers: KeyboardModifiers) -> KeyEvent
-        ensures { (result.keycode ≡ keycode) × (result.action ≡ action) × (result.modifiers ≡ modifiers) }
+        ensures { (result.keycode ≡ keycode) × (result.action ≡ action)
+            × (result.modifiers ≡ modifiers) }
     {
         KeyEvent {
             keycode,

@@ -209,7 +209,8 @@ pub fn both_polling_send_receive<'a>(
     rusts_log: &'a mut [u8],
     value: HostToDevice,
 ) -> Both<'a, Received, Result<DeviceToHostResponse, &'static str>>
-    ensures { log.old ≡ rusts_log.old → AgreeKept result.ours.answer result.ours.kept log.new (said result.rusts) result.left }
+    ensures { log.old ≡ rusts_log.old
+        → AgreeKept result.ours.answer result.ours.kept log.new (said result.rusts) result.left }
 {
     let mut controller = start(script, rusts_log);
     let rusts = controller.polling_send_receive(value);
@@ -227,7 +228,8 @@ pub fn rusts_polling_send<H: Hardware + Drop>(
     controller: &mut PS2Controller<H>,
     value: HostToDevice,
 ) -> Result<(), &'static str>
-    ensures { ran (said result) controller.new ≡ run (on_controller H.device) (polling_send_rule value) controller.old }
+    ensures { ran (said result) controller.new
+        ≡ run (on_controller H.device) (polling_send_rule value) controller.old }
 {
     controller.polling_send(value)
 }
@@ -255,7 +257,8 @@ pub fn both_polling_send<'a>(
 pub fn rusts_polling_receive<H: Hardware + Drop>(
     controller: &mut PS2Controller<H>,
 ) -> Result<DeviceToHostResponse, &'static str>
-    ensures { ran (said result) controller.new ≡ run (on_controller H.device) polling_receive_rule controller.old }
+    ensures { ran (said result) controller.new
+        ≡ run (on_controller H.device) polling_receive_rule controller.old }
 {
     controller.polling_receive()
 }
@@ -265,7 +268,8 @@ pub fn both_polling_receive<'a>(
     script: &'a [u8],
     rusts_log: &'a mut [u8],
 ) -> Both<'a, Received, Result<DeviceToHostResponse, &'static str>>
-    ensures { AgreeKept result.ours.answer result.ours.kept rusts_log.old (said result.rusts) result.left }
+    ensures { AgreeKept result.ours.answer result.ours.kept rusts_log.old (said result.rusts)
+        result.left }
 {
     let mut controller = start(script, rusts_log);
     let rusts = controller.polling_receive();

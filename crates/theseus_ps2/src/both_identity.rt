@@ -23,7 +23,8 @@ pub fn rusts_read_mouse_packet<H: Hardware + Drop>(
     controller: &mut PS2Controller<H>,
     id: MouseId,
 ) -> MousePacket
-    ensures { ran (gives result) controller.new ≡ run (on_controller H.device) (read_mouse_packet id) controller.old }
+    ensures { ran (gives result) controller.new
+        ≡ run (on_controller H.device) (read_mouse_packet id) controller.old }
 {
     PS2Mouse { controller, id }.read_mouse_packet()
 }
@@ -58,7 +59,8 @@ pub fn rusts_set_mouse_id<H: Hardware + Drop>(
     controller: &mut PS2Controller<H>,
     id: MouseId,
 ) -> Identified
-    ensures { ran (left (said result.answer) (record { id = result.id })) controller.new ≡ run (on_controller H.device) (set_mouse_id (record { id = id })) controller.old }
+    ensures { ran (left (said result.answer) (record { id = result.id })) controller.new
+        ≡ run (on_controller H.device) (set_mouse_id (record { id = id })) controller.old }
 {
     let mut mouse = PS2Mouse { controller, id };
     let answer = mouse.set_mouse_id();
@@ -75,7 +77,9 @@ pub fn both_set_mouse_id<'a>(
     rusts_log: &'a mut [u8],
     mouse: Mouse,
 ) -> Both<'a, MouseLeft, Identified>
-    ensures { log.old ≡ rusts_log.old → AgreeLeft mouse result.ours.answer result.ours.mouse log.new (said result.rusts.answer) (record { id = result.rusts.id }) result.left }
+    ensures { log.old ≡ rusts_log.old
+        → AgreeLeft mouse result.ours.answer result.ours.mouse log.new (said result.rusts.answer)
+        (record { id = result.rusts.id }) result.left }
 {
     let mut controller = start(script, rusts_log);
     let rusts = rusts_set_mouse_id(&mut controller, mouse.id);

@@ -28,7 +28,9 @@ pub fn both_init<'a>(
     rusts_log: &'a mut [u8],
     controller: Ours,
 ) -> Both<'a, Initialized, Completed>
-    ensures { log.old ≡ rusts_log.old → AgreeLeft controller result.ours.answer result.ours.controller log.new (said result.rusts.answer) (record_left controller result.rusts) result.left }
+    ensures { log.old ≡ rusts_log.old
+        → AgreeLeft controller result.ours.answer result.ours.controller log.new
+        (said result.rusts.answer) (record_left controller result.rusts) result.left }
 {
     let mut rusts = PS2Controller {
         hardware: Recording::new(script, rusts_log),
@@ -55,7 +57,8 @@ pub fn both_keyboard_ref<'c, H: Hardware + Drop>(
     ours: Ours,
     rusts: &'c mut PS2Controller<H>,
 ) -> (Option<Keyboard>, Option<PS2Keyboard<'c, H>>)
-    ensures { ours.keyboard_attached ≡ rusts.old.keyboard_attached → present result.0 ≡ present result.1 }
+    ensures { ours.keyboard_attached ≡ rusts.old.keyboard_attached → present result.0
+        ≡ present result.1 }
 {
     (ours.keyboard_ref(), rusts.keyboard_ref())
 }
@@ -65,7 +68,8 @@ pub fn both_mouse_ref<'c, H: Hardware + Drop>(
     ours: Ours,
     rusts: &'c mut PS2Controller<H>,
 ) -> (Option<Mouse>, Option<PS2Mouse<'c, H>>)
-    ensures { ours.mouse_attached ≡ rusts.old.mouse_attached → identity result.0 ≡ identity_lent result.1 }
+    ensures { ours.mouse_attached ≡ rusts.old.mouse_attached → identity result.0
+        ≡ identity_lent result.1 }
 {
     (ours.mouse_ref(), rusts.mouse_ref())
 }

@@ -26,7 +26,8 @@ use ps2_layouts::LEDState;
 pub fn rusts_reset_keyboard<H: Hardware + Drop>(
     controller: &mut PS2Controller<H>,
 ) -> Result<(), &'static str>
-    ensures { ran (said result) controller.new ≡ run (on_controller H.device) reset_keyboard controller.old }
+    ensures { ran (said result) controller.new
+        ≡ run (on_controller H.device) reset_keyboard controller.old }
 {
     PS2Keyboard::new(controller).reset()
 }
@@ -54,7 +55,8 @@ pub fn rusts_command_to_keyboard<H: Hardware + Drop>(
     controller: &mut PS2Controller<H>,
     value: HostToKeyboardCommandOrData,
 ) -> Result<(), &'static str>
-    ensures { ran (said result) controller.new ≡ run (on_controller H.device) (command_rule (Keyboard value)) controller.old }
+    ensures { ran (said result) controller.new
+        ≡ run (on_controller H.device) (command_rule (Keyboard value)) controller.old }
 {
     PS2Keyboard::new(controller).command_to_keyboard(value)
 }
@@ -66,7 +68,8 @@ pub fn both_command_to_keyboard<'a>(
     rusts_log: &'a mut [u8],
     value: HostToKeyboardCommandOrData,
 ) -> Both<'a, Commanded, Result<(), &'static str>>
-    ensures { log.old ≡ rusts_log.old → AgreeKept result.ours.answer result.ours.kept log.new (said result.rusts) result.left }
+    ensures { log.old ≡ rusts_log.old
+        → AgreeKept result.ours.answer result.ours.kept log.new (said result.rusts) result.left }
 {
     let mut controller = start(script, rusts_log);
     let rusts = rusts_command_to_keyboard(&mut controller, value);
@@ -83,7 +86,8 @@ pub fn rusts_set_keyboard_led<H: Hardware + Drop>(
     controller: &mut PS2Controller<H>,
     value: LEDState,
 ) -> Result<(), &'static str>
-    ensures { ran (said result) controller.new ≡ run (on_controller H.device) (set_keyboard_led value) controller.old }
+    ensures { ran (said result) controller.new
+        ≡ run (on_controller H.device) (set_keyboard_led value) controller.old }
 {
     PS2Keyboard::new(controller).set_keyboard_led(value)
 }
@@ -95,7 +99,8 @@ pub fn both_set_keyboard_led<'a>(
     rusts_log: &'a mut [u8],
     value: LEDState,
 ) -> Both<'a, Commanded, Result<(), &'static str>>
-    ensures { log.old ≡ rusts_log.old → AgreeKept result.ours.answer result.ours.kept log.new (said result.rusts) result.left }
+    ensures { log.old ≡ rusts_log.old
+        → AgreeKept result.ours.answer result.ours.kept log.new (said result.rusts) result.left }
 {
     let mut controller = start(script, rusts_log);
     let rusts = rusts_set_keyboard_led(&mut controller, value);
@@ -112,7 +117,8 @@ pub fn rusts_set_keyboard_scancode_set<H: Hardware + Drop>(
     controller: &mut PS2Controller<H>,
     value: ScancodeSet,
 ) -> Result<(), &'static str>
-    ensures { ran (said result) controller.new ≡ run (on_controller H.device) (set_scancode_set value) controller.old }
+    ensures { ran (said result) controller.new
+        ≡ run (on_controller H.device) (set_scancode_set value) controller.old }
 {
     PS2Keyboard::new(controller).set_keyboard_scancode_set(value)
 }
@@ -141,7 +147,8 @@ pub fn both_set_keyboard_scancode_set<'a>(
 pub fn rusts_get_keyboard_scancode_set<H: Hardware + Drop>(
     controller: &mut PS2Controller<H>,
 ) -> Result<ScancodeSet, &'static str>
-    ensures { ran (said result) controller.new ≡ run (on_controller H.device) get_scancode_set controller.old }
+    ensures { ran (said result) controller.new
+        ≡ run (on_controller H.device) get_scancode_set controller.old }
 {
     PS2Keyboard::new(controller).get_keyboard_scancode_set()
 }
@@ -169,7 +176,8 @@ pub fn both_get_keyboard_scancode_set<'a>(
 pub fn rusts_keyboard_detect<H: Hardware + Drop>(
     controller: &mut PS2Controller<H>,
 ) -> Result<KeyboardType, &'static str>
-    ensures { ran (said result) controller.new ≡ run (on_controller H.device) keyboard_detect controller.old }
+    ensures { ran (said result) controller.new
+        ≡ run (on_controller H.device) keyboard_detect controller.old }
 {
     PS2Keyboard::new(controller).keyboard_detect()
 }
@@ -196,7 +204,8 @@ pub fn both_keyboard_detect<'a>(
 pub fn rusts_keyboard_output_buffer_full<H: Hardware + Drop>(
     controller: &mut PS2Controller<H>,
 ) -> bool
-    ensures { ran (gives result) controller.new ≡ run (on_controller H.device) keyboard_output_buffer_full controller.old }
+    ensures { ran (gives result) controller.new
+        ≡ run (on_controller H.device) keyboard_output_buffer_full controller.old }
 {
     PS2Keyboard::new(controller).is_output_buffer_full()
 }
@@ -221,7 +230,8 @@ pub fn both_keyboard_output_buffer_full<'a>(
 
 /// The Rust's `read_scancode`, over any hardware.
 pub fn rusts_read_scancode<H: Hardware + Drop>(controller: &mut PS2Controller<H>) -> u8
-    ensures { ran (gives result) controller.new ≡ run (on_controller H.device) read_scancode controller.old }
+    ensures { ran (gives result) controller.new
+        ≡ run (on_controller H.device) read_scancode controller.old }
 {
     PS2Keyboard::new(controller).read_scancode()
 }

@@ -18,7 +18,8 @@ use ps2_mouse::PS2Mouse as Mouse;
 pub fn rusts_reset_mouse<H: Hardware + Drop>(
     controller: &mut PS2Controller<H>,
 ) -> Result<(), &'static str>
-    ensures { ran (said result) controller.new ≡ run (on_controller H.device) reset_mouse controller.old }
+    ensures { ran (said result) controller.new
+        ≡ run (on_controller H.device) reset_mouse controller.old }
 {
     PS2Mouse::new(controller).reset()
 }
@@ -46,7 +47,8 @@ pub fn rusts_command_to_mouse<H: Hardware + Drop>(
     controller: &mut PS2Controller<H>,
     value: HostToMouseCommandOrData,
 ) -> Result<(), &'static str>
-    ensures { ran (said result) controller.new ≡ run (on_controller H.device) (command_to_mouse value) controller.old }
+    ensures { ran (said result) controller.new
+        ≡ run (on_controller H.device) (command_to_mouse value) controller.old }
 {
     PS2Mouse::new(controller).command_to_mouse(value)
 }
@@ -58,7 +60,8 @@ pub fn both_command_to_mouse<'a>(
     rusts_log: &'a mut [u8],
     value: HostToMouseCommandOrData,
 ) -> Both<'a, Commanded, Result<(), &'static str>>
-    ensures { log.old ≡ rusts_log.old → AgreeKept result.ours.answer result.ours.kept log.new (said result.rusts) result.left }
+    ensures { log.old ≡ rusts_log.old
+        → AgreeKept result.ours.answer result.ours.kept log.new (said result.rusts) result.left }
 {
     let mut controller = start(script, rusts_log);
     let rusts = rusts_command_to_mouse(&mut controller, value);
@@ -75,7 +78,8 @@ pub fn rusts_set_mouse_sampling_rate<H: Hardware + Drop>(
     controller: &mut PS2Controller<H>,
     value: MouseSampleRate,
 ) -> Result<(), &'static str>
-    ensures { ran (said result) controller.new ≡ run (on_controller H.device) (set_sampling_rate value) controller.old }
+    ensures { ran (said result) controller.new
+        ≡ run (on_controller H.device) (set_sampling_rate value) controller.old }
 {
     PS2Mouse::new(controller).set_mouse_sampling_rate(value)
 }
@@ -104,7 +108,8 @@ pub fn both_set_mouse_sampling_rate<'a>(
 pub fn rusts_mouse_id<H: Hardware + Drop>(
     controller: &mut PS2Controller<H>,
 ) -> Result<MouseId, &'static str>
-    ensures { ran (said result) controller.new ≡ run (on_controller H.device) mouse_id controller.old }
+    ensures { ran (said result) controller.new
+        ≡ run (on_controller H.device) mouse_id controller.old }
 {
     PS2Mouse::new(controller).mouse_id()
 }
@@ -131,7 +136,8 @@ pub fn both_mouse_id<'a>(
 pub fn rusts_enable_mouse_packet_streaming<H: Hardware + Drop>(
     controller: &mut PS2Controller<H>,
 ) -> Result<(), &'static str>
-    ensures { ran (said result) controller.new ≡ run (on_controller H.device) enable_packet_streaming controller.old }
+    ensures { ran (said result) controller.new
+        ≡ run (on_controller H.device) enable_packet_streaming controller.old }
 {
     PS2Mouse::new(controller).enable_mouse_packet_streaming()
 }
@@ -159,7 +165,8 @@ pub fn both_enable_mouse_packet_streaming<'a>(
 pub fn rusts_disable_mouse_packet_streaming<H: Hardware + Drop>(
     controller: &mut PS2Controller<H>,
 ) -> Result<(), &'static str>
-    ensures { ran (said result) controller.new ≡ run (on_controller H.device) disable_packet_streaming controller.old }
+    ensures { ran (said result) controller.new
+        ≡ run (on_controller H.device) disable_packet_streaming controller.old }
 {
     PS2Mouse::new(controller).disable_mouse_packet_streaming()
 }
@@ -188,7 +195,8 @@ pub fn rusts_mouse_resolution<H: Hardware + Drop>(
     controller: &mut PS2Controller<H>,
     value: MouseResolution,
 ) -> Result<(), &'static str>
-    ensures { ran (said result) controller.new ≡ run (on_controller H.device) (set_resolution value) controller.old }
+    ensures { ran (said result) controller.new
+        ≡ run (on_controller H.device) (set_resolution value) controller.old }
 {
     PS2Mouse::new(controller).mouse_resolution(value)
 }
@@ -214,7 +222,8 @@ pub fn both_mouse_resolution<'a>(
 
 /// The Rust's `mouse_output_buffer_full`, over any hardware.
 pub fn rusts_mouse_output_buffer_full<H: Hardware + Drop>(controller: &mut PS2Controller<H>) -> bool
-    ensures { ran (gives result) controller.new ≡ run (on_controller H.device) mouse_output_buffer_full controller.old }
+    ensures { ran (gives result) controller.new
+        ≡ run (on_controller H.device) mouse_output_buffer_full controller.old }
 {
     PS2Mouse::new(controller).is_output_buffer_full()
 }

@@ -103,8 +103,11 @@ pub fn init<H: Hardware + Drop>(
     is_completed: &mut bool,
     controller: &mut PS2Controller<H>,
 ) -> Result<(), &'static str>
-    ensures already { is_completed.old ≡ true → (said result ≡ refuses 1) × (controller.new ≡ controller.old) }
-    ensures ran { is_completed.old ≡ false → ran (ready (said result) controller.new) controller.new.hardware ≡ run H.device set_up controller.old.hardware }
+    ensures already { is_completed.old ≡ true
+        → (said result ≡ refuses 1) × (controller.new ≡ controller.old) }
+    ensures ran { is_completed.old ≡ false
+        → ran (ready (said result) controller.new) controller.new.hardware
+        ≡ run H.device set_up controller.old.hardware }
     ensures completed { is_completed.new ≡ is_completed.old || given (said result) }
 {
     if *is_completed {
@@ -217,7 +220,8 @@ impl<H: Hardware + Drop> PS2Controller<H> {
     }
 
     pub fn write_command(&mut self, value: HostToControllerCommand)
-        ensures { ran (gives success) self.new ≡ run (on_controller H.device) (write_command_rule value) self.old }
+        ensures { ran (gives success) self.new
+            ≡ run (on_controller H.device) (write_command_rule value) self.old }
     {
         self.hardware.write(IoPort::CommandAndStatus, value as u8);
     }
@@ -232,7 +236,8 @@ impl<H: Hardware + Drop> PS2Controller<H> {
 
     /// Writes the given config `value` to the PS/2 controller.
     pub fn write_config(&mut self, value: ControllerConfigurationByte)
-        ensures { ran (gives success) self.new ≡ run (on_controller H.device) (write_config value) self.old }
+        ensures { ran (gives success) self.new
+            ≡ run (on_controller H.device) (write_config value) self.old }
     {
         self.write_command(WriteToInternalRAMByte0);
         self.write_data(WritableData::Configuration(value));
@@ -251,14 +256,16 @@ impl<H: Hardware + Drop> PS2Controller<H> {
     }
 
     pub fn test(&mut self) -> Result<(), &'static str>
-        ensures { ran (said result) self.new ≡ run (on_controller H.device) test_controller self.old }
+        ensures { ran (said result) self.new
+            ≡ run (on_controller H.device) test_controller self.old }
     {
         self.write_command(TestController);
         self.read_controller_test_result()
     }
 
     pub fn test_port1(&mut self) -> Result<(), &'static str>
-        ensures { ran (said result) self.new ≡ run (on_controller H.device) (test_port Command.TestPort1) self.old }
+        ensures { ran (said result) self.new
+            ≡ run (on_controller H.device) (test_port Command.TestPort1) self.old }
     {
         self.write_command(TestPort1);
         map_err!(self.match_port_test_result(), |e| {
@@ -268,7 +275,8 @@ impl<H: Hardware + Drop> PS2Controller<H> {
     }
 
     pub fn test_port2(&mut self) -> Result<(), &'static str>
-        ensures { ran (said result) self.new ≡ run (on_controller H.device) (test_port Command.TestPort2) self.old }
+        ensures { ran (said result) self.new
+            ≡ run (on_controller H.device) (test_port Command.TestPort2) self.old }
     {
         self.write_command(TestPort2);
         map_err!(self.match_port_test_result(), |e| {
@@ -278,7 +286,8 @@ impl<H: Hardware + Drop> PS2Controller<H> {
     }
 
     fn match_port_test_result(&mut self) -> Result<(), &'static str>
-        ensures { ran (said result) self.new ≡ run (on_controller H.device) port_test_result self.old }
+        ensures { ran (said result) self.new
+            ≡ run (on_controller H.device) port_test_result self.old }
     {
         const VERY_ARBITRARY_TIMEOUT_VALUE: u16 = u16::MAX;
         for _ in 0..VERY_ARBITRARY_TIMEOUT_VALUE {
@@ -301,7 +310,8 @@ impl<H: Hardware + Drop> PS2Controller<H> {
     /// must only be called after writing the [TestController] command
     /// otherwise would read bogus data
     pub fn read_controller_test_result(&mut self) -> Result<(), &'static str>
-        ensures { ran (said result) self.new ≡ run (on_controller H.device) controller_test_result self.old }
+        ensures { ran (said result) self.new
+            ≡ run (on_controller H.device) controller_test_result self.old }
     {
         const CONTROLLER_TEST_PASSED: u8 = 0x55;
 
@@ -319,14 +329,16 @@ impl<H: Hardware + Drop> PS2Controller<H> {
         &mut self,
         value: HostToDevice,
     ) -> Result<DeviceToHostResponse, &'static str>
-        ensures { ran (said result) self.new ≡ run (on_controller H.device) (polling_send_receive value) self.old }
+        ensures { ran (said result) self.new
+            ≡ run (on_controller H.device) (polling_send_receive value) self.old }
     {
         self.polling_send(value)?;
         self.polling_receive()
     }
 
     fn polling_send(&mut self, value: HostToDevice) -> Result<(), &'static str>
-        ensures { ran (said result) self.new ≡ run (on_controller H.device) (polling_send value) self.old }
+        ensures { ran (said result) self.new
+            ≡ run (on_controller H.device) (polling_send value) self.old }
     {
         const VERY_ARBITRARY_TIMEOUT_VALUE: u8 = u8::MAX;
         for _ in 0..VERY_ARBITRARY_TIMEOUT_VALUE {
@@ -340,7 +352,8 @@ impl<H: Hardware + Drop> PS2Controller<H> {
     }
 
     fn polling_receive(&mut self) -> Result<DeviceToHostResponse, &'static str>
-        ensures { ran (said result) self.new ≡ run (on_controller H.device) polling_receive self.old }
+        ensures { ran (said result) self.new
+            ≡ run (on_controller H.device) polling_receive self.old }
     {
         const VERY_ARBITRARY_TIMEOUT_VALUE: u16 = u16::MAX;
         for _ in 0..VERY_ARBITRARY_TIMEOUT_VALUE {
@@ -355,13 +368,15 @@ impl<H: Hardware + Drop> PS2Controller<H> {
     }
 
     fn read_data(&mut self) -> u8
-        ensures { ran (gives result) self.new ≡ run (on_controller H.device) read_data_rule self.old }
+        ensures { ran (gives result) self.new
+            ≡ run (on_controller H.device) read_data_rule self.old }
     {
         self.hardware.read(IoPort::Data)
     }
 
     fn write_data(&mut self, value: WritableData)
-        ensures { ran (gives success) self.new ≡ run (on_controller H.device) (write_data_rule value) self.old }
+        ensures { ran (gives success) self.new
+            ≡ run (on_controller H.device) (write_data_rule value) self.old }
     {
         self.hardware.write(IoPort::Data, value.into());
     }
@@ -390,7 +405,8 @@ impl<'c, H: Hardware + Drop> PS2Mouse<'c, H> {
     pub fn reset(&mut self) -> Result<(), &'static str>
         ensures same { self.new.controller.ghost_name ≡ self.old.controller.ghost_name }
         ensures id { self.new.id ≡ self.old.id }
-        ensures ran { ran (said result) self.new.controller.now ≡ run (on_controller H.device) reset_mouse self.old.controller.now }
+        ensures ran { ran (said result) self.new.controller.now
+            ≡ run (on_controller H.device) reset_mouse self.old.controller.now }
     {
         self.command_to_mouse(HostToMouseCommandOrData::MouseCommand(Reset))?;
         const VERY_ARBITRARY_TIMEOUT_VALUE: u32 = u16::MAX as u32 * 3;
@@ -408,7 +424,8 @@ impl<'c, H: Hardware + Drop> PS2Mouse<'c, H> {
     fn command_to_mouse(&mut self, value: HostToMouseCommandOrData) -> Result<(), &'static str>
         ensures same { self.new.controller.ghost_name ≡ self.old.controller.ghost_name }
         ensures id { self.new.id ≡ self.old.id }
-        ensures ran { ran (said result) self.new.controller.now ≡ run (on_controller H.device) (command_to_mouse value) self.old.controller.now }
+        ensures ran { ran (said result) self.new.controller.now
+            ≡ run (on_controller H.device) (command_to_mouse value) self.old.controller.now }
     {
         self.controller.write_command(WriteByteToPort2InputBuffer);
         const RETRIES: u8 = 3;
@@ -435,7 +452,8 @@ impl<'c, H: Hardware + Drop> PS2Mouse<'c, H> {
     fn set_mouse_sampling_rate(&mut self, value: MouseSampleRate) -> Result<(), &'static str>
         ensures same { self.new.controller.ghost_name ≡ self.old.controller.ghost_name }
         ensures id { self.new.id ≡ self.old.id }
-        ensures ran { ran (said result) self.new.controller.now ≡ run (on_controller H.device) (set_sampling_rate value) self.old.controller.now }
+        ensures ran { ran (said result) self.new.controller.now
+            ≡ run (on_controller H.device) (set_sampling_rate value) self.old.controller.now }
     {
         map_err!(
             and_then!(
@@ -449,7 +467,9 @@ impl<'c, H: Hardware + Drop> PS2Mouse<'c, H> {
     /// set `self.id` to the highest possible [MouseId] by magic sequence
     pub fn set_mouse_id(&mut self) -> Result<(), &'static str>
         ensures same { self.new.controller.ghost_name ≡ self.old.controller.ghost_name }
-        ensures ran { ran (left (said result) (record { id = self.new.id })) self.new.controller.now ≡ run (on_controller H.device) (set_mouse_id (record { id = self.old.id })) self.old.controller.now }
+        ensures ran { ran (left (said result) (record { id = self.new.id })) self.new.controller.now
+            ≡ run (on_controller H.device) (set_mouse_id (record { id = self.old.id }))
+            self.old.controller.now }
     {
         self.disable_mouse_packet_streaming()?;
 
@@ -488,7 +508,8 @@ impl<'c, H: Hardware + Drop> PS2Mouse<'c, H> {
     fn mouse_id(&mut self) -> Result<MouseId, &'static str>
         ensures same { self.new.controller.ghost_name ≡ self.old.controller.ghost_name }
         ensures id { self.new.id ≡ self.old.id }
-        ensures ran { ran (said result) self.new.controller.now ≡ run (on_controller H.device) mouse_id self.old.controller.now }
+        ensures ran { ran (said result) self.new.controller.now
+            ≡ run (on_controller H.device) mouse_id self.old.controller.now }
     {
         self.command_to_mouse(HostToMouseCommandOrData::MouseCommand(GetDeviceID))?;
 
@@ -508,7 +529,8 @@ impl<'c, H: Hardware + Drop> PS2Mouse<'c, H> {
     fn enable_mouse_packet_streaming(&mut self) -> Result<(), &'static str>
         ensures same { self.new.controller.ghost_name ≡ self.old.controller.ghost_name }
         ensures id { self.new.id ≡ self.old.id }
-        ensures ran { ran (said result) self.new.controller.now ≡ run (on_controller H.device) enable_packet_streaming self.old.controller.now }
+        ensures ran { ran (said result) self.new.controller.now
+            ≡ run (on_controller H.device) enable_packet_streaming self.old.controller.now }
     {
         map_err!(
             self.command_to_mouse(HostToMouseCommandOrData::MouseCommand(EnableDataReporting)),
@@ -520,7 +542,8 @@ impl<'c, H: Hardware + Drop> PS2Mouse<'c, H> {
     fn disable_mouse_packet_streaming(&mut self) -> Result<(), &'static str>
         ensures same { self.new.controller.ghost_name ≡ self.old.controller.ghost_name }
         ensures id { self.new.id ≡ self.old.id }
-        ensures ran { ran (said result) self.new.controller.now ≡ run (on_controller H.device) disable_packet_streaming self.old.controller.now }
+        ensures ran { ran (said result) self.new.controller.now
+            ≡ run (on_controller H.device) disable_packet_streaming self.old.controller.now }
     {
         map_err!(
             self.command_to_mouse(HostToMouseCommandOrData::MouseCommand(DisableDataReporting)),
@@ -532,7 +555,8 @@ impl<'c, H: Hardware + Drop> PS2Mouse<'c, H> {
     fn mouse_resolution(&mut self, value: MouseResolution) -> Result<(), &'static str>
         ensures same { self.new.controller.ghost_name ≡ self.old.controller.ghost_name }
         ensures id { self.new.id ≡ self.old.id }
-        ensures ran { ran (said result) self.new.controller.now ≡ run (on_controller H.device) (set_resolution value) self.old.controller.now }
+        ensures ran { ran (said result) self.new.controller.now
+            ≡ run (on_controller H.device) (set_resolution value) self.old.controller.now }
     {
         map_err!(
             and_then!(
@@ -547,7 +571,8 @@ impl<'c, H: Hardware + Drop> PS2Mouse<'c, H> {
     pub fn read_mouse_packet(&mut self) -> MousePacket
         ensures same { self.new.controller.ghost_name ≡ self.old.controller.ghost_name }
         ensures id { self.new.id ≡ self.old.id }
-        ensures ran { ran (gives result) self.new.controller.now ≡ run (on_controller H.device) (read_mouse_packet self.old.id) self.old.controller.now }
+        ensures ran { ran (gives result) self.new.controller.now
+            ≡ run (on_controller H.device) (read_mouse_packet self.old.id) self.old.controller.now }
     {
         let mut read_data = || self.controller.read_data();
         match self.id {
@@ -574,7 +599,8 @@ impl<'c, H: Hardware + Drop> PS2Mouse<'c, H> {
     pub fn is_output_buffer_full(&mut self) -> bool
         ensures same { self.new.controller.ghost_name ≡ self.old.controller.ghost_name }
         ensures id { self.new.id ≡ self.old.id }
-        ensures ran { ran (gives result) self.new.controller.now ≡ run (on_controller H.device) mouse_output_buffer_full self.old.controller.now }
+        ensures ran { ran (gives result) self.new.controller.now
+            ≡ run (on_controller H.device) mouse_output_buffer_full self.old.controller.now }
     {
         let sr = self.controller.status_register();
         sr.output_buffer_full() && sr.mouse_output_buffer_full()
@@ -598,7 +624,8 @@ impl<'c, H: Hardware + Drop> PS2Keyboard<'c, H> {
     /// Reset the keyboard.
     pub fn reset(&mut self) -> Result<(), &'static str>
         ensures same { self.new.controller.ghost_name ≡ self.old.controller.ghost_name }
-        ensures ran { ran (said result) self.new.controller.now ≡ run (on_controller H.device) reset_keyboard self.old.controller.now }
+        ensures ran { ran (said result) self.new.controller.now
+            ≡ run (on_controller H.device) reset_keyboard self.old.controller.now }
     {
         self.command_to_keyboard(HostToKeyboardCommandOrData::KeyboardCommand(
             ResetAndStartSelfTest,
@@ -619,7 +646,8 @@ impl<'c, H: Hardware + Drop> PS2Keyboard<'c, H> {
         value: HostToKeyboardCommandOrData,
     ) -> Result<(), &'static str>
         ensures same { self.new.controller.ghost_name ≡ self.old.controller.ghost_name }
-        ensures ran { ran (said result) self.new.controller.now ≡ run (on_controller H.device) (command_rule (Keyboard value)) self.old.controller.now }
+        ensures ran { ran (said result) self.new.controller.now
+            ≡ run (on_controller H.device) (command_rule (Keyboard value)) self.old.controller.now }
     {
         const RETRIES: u8 = 3;
         for _ in 0..=RETRIES { // four attempts
@@ -644,7 +672,8 @@ impl<'c, H: Hardware + Drop> PS2Keyboard<'c, H> {
     /// Set the status LEDs on the keyboard.
     pub fn set_keyboard_led(&mut self, value: LEDState) -> Result<(), &'static str>
         ensures same { self.new.controller.ghost_name ≡ self.old.controller.ghost_name }
-        ensures ran { ran (said result) self.new.controller.now ≡ run (on_controller H.device) (set_keyboard_led value) self.old.controller.now }
+        ensures ran { ran (said result) self.new.controller.now
+            ≡ run (on_controller H.device) (set_keyboard_led value) self.old.controller.now }
     {
         map_err!(
             and_then!(
@@ -660,7 +689,8 @@ impl<'c, H: Hardware + Drop> PS2Keyboard<'c, H> {
     /// Set the active scancode set currently used by the keyboard.
     pub fn set_keyboard_scancode_set(&mut self, value: ScancodeSet) -> Result<(), &'static str>
         ensures same { self.new.controller.ghost_name ≡ self.old.controller.ghost_name }
-        ensures ran { ran (said result) self.new.controller.now ≡ run (on_controller H.device) (set_scancode_set value) self.old.controller.now }
+        ensures ran { ran (said result) self.new.controller.now
+            ≡ run (on_controller H.device) (set_scancode_set value) self.old.controller.now }
     {
         map_err!(
             and_then!(
@@ -682,7 +712,8 @@ impl<'c, H: Hardware + Drop> PS2Keyboard<'c, H> {
     // The body of the closure that ends `set_keyboard_scancode_set`.
     fn compare_scancode_set(&mut self, value: ScancodeSet) -> Result<(), &'static str>
         ensures same { self.new.controller.ghost_name ≡ self.old.controller.ghost_name }
-        ensures ran { ran (said result) self.new.controller.now ≡ run (on_controller H.device) scancode_set_compared self.old.controller.now }
+        ensures ran { ran (said result) self.new.controller.now
+            ≡ run (on_controller H.device) scancode_set_compared self.old.controller.now }
     {
         if self.get_keyboard_scancode_set()? == value {
             //Note: this does not mean it supports the scancode set,
@@ -696,7 +727,8 @@ impl<'c, H: Hardware + Drop> PS2Keyboard<'c, H> {
 
     fn get_keyboard_scancode_set(&mut self) -> Result<ScancodeSet, &'static str>
         ensures same { self.new.controller.ghost_name ≡ self.old.controller.ghost_name }
-        ensures ran { ran (said result) self.new.controller.now ≡ run (on_controller H.device) get_scancode_set self.old.controller.now }
+        ensures ran { ran (said result) self.new.controller.now
+            ≡ run (on_controller H.device) get_scancode_set self.old.controller.now }
     {
         map_err!(
             and_then!(
@@ -720,7 +752,8 @@ impl<'c, H: Hardware + Drop> PS2Keyboard<'c, H> {
     // The body of the closure that ends `get_keyboard_scancode_set`.
     fn poll_scancode_set(&mut self) -> Result<ScancodeSet, &'static str>
         ensures same { self.new.controller.ghost_name ≡ self.old.controller.ghost_name }
-        ensures ran { ran (said result) self.new.controller.now ≡ run (on_controller H.device) set_search self.old.controller.now }
+        ensures ran { ran (said result) self.new.controller.now
+            ≡ run (on_controller H.device) set_search self.old.controller.now }
     {
         const VERY_ARBITRARY_TIMEOUT_VALUE: u16 = u16::MAX;
         for _ in 0..VERY_ARBITRARY_TIMEOUT_VALUE {
@@ -736,7 +769,8 @@ impl<'c, H: Hardware + Drop> PS2Keyboard<'c, H> {
     /// Detect the [KeyboardType].
     pub fn keyboard_detect(&mut self) -> Result<KeyboardType, &'static str>
         ensures same { self.new.controller.ghost_name ≡ self.old.controller.ghost_name }
-        ensures ran { ran (said result) self.new.controller.now ≡ run (on_controller H.device) keyboard_detect self.old.controller.now }
+        ensures ran { ran (said result) self.new.controller.now
+            ≡ run (on_controller H.device) keyboard_detect self.old.controller.now }
     {
         self.command_to_keyboard(HostToKeyboardCommandOrData::KeyboardCommand(DisableScanning))?;
         self.command_to_keyboard(HostToKeyboardCommandOrData::KeyboardCommand(IdentifyKeyboard))?;
@@ -775,7 +809,8 @@ impl<'c, H: Hardware + Drop> PS2Keyboard<'c, H> {
     /// Convenience method to see if the keyboard can be polled
     fn is_output_buffer_full(&mut self) -> bool
         ensures same { self.new.controller.ghost_name ≡ self.old.controller.ghost_name }
-        ensures ran { ran (gives result) self.new.controller.now ≡ run (on_controller H.device) keyboard_output_buffer_full self.old.controller.now }
+        ensures ran { ran (gives result) self.new.controller.now
+            ≡ run (on_controller H.device) keyboard_output_buffer_full self.old.controller.now }
     {
         self.controller.status_register().output_buffer_full()
     }
@@ -783,7 +818,8 @@ impl<'c, H: Hardware + Drop> PS2Keyboard<'c, H> {
     /// Reads a raw scancode value from the PS/2 controller's data port.
     pub fn read_scancode(&mut self) -> u8
         ensures same { self.new.controller.ghost_name ≡ self.old.controller.ghost_name }
-        ensures ran { ran (gives result) self.new.controller.now ≡ run (on_controller H.device) read_scancode self.old.controller.now }
+        ensures ran { ran (gives result) self.new.controller.now
+            ≡ run (on_controller H.device) read_scancode self.old.controller.now }
     {
         self.controller.read_data()
     }

@@ -45,7 +45,8 @@ impl<'a> Recording<'a> {
 impl Recording<'_> {
     // A byte of data that is no response is noted.
     fn note(&mut self, port: IoPort, byte: u8)
-        ensures { self.new ≡ record self.old { thrown = noted added_thrown (io_port port) self.old.thrown byte } }
+        ensures { self.new ≡ record self.old
+            { thrown = noted added_thrown (io_port port) self.old.thrown byte } }
     {
         if let IoPort::Data = port {
             if let Err(_) = DeviceToHostResponse::try_from(byte) {

@@ -14,9 +14,13 @@ pub data Keyless : List ℕ → Type 0 where
 -- "25 if a character has no key; 26 if the output is too short; 25 is asked first."
 pub data Answered (room : ℕ) (text : List ℕ) : Answer (List ℕ) → Type 0 where
   a_25 : Keyless text → Answered room text (refuses 25)
-  a_26 : (keys : List Key) → keys_of text ≡ some keys → room < widths keys → Answered room text (refuses 26)
-  done : (keys : List Key) → keys_of text ≡ some keys → widths keys ≤ room → Answered room text (gives (scancodes keys))
+  a_26 : (keys : List Key) → keys_of text ≡ some keys → room < widths keys
+      → Answered room text (refuses 26)
+  done : (keys : List Key) → keys_of text ≡ some keys → widths keys ≤ room
+      → Answered room text (gives (scancodes keys))
 
--- The characters that have a key: backspace, tab, line feed, escape, and those from the space to the tilde.
+-- The characters that have a key: backspace, tab, line
+-- feed, escape, and those from the space to the tilde.
 abbrev pub is_typable : ℕ → Bool
-is_typable c = eqb c 0x08 || (eqb c 0x09 || (eqb c 0x0A || (eqb c 0x1B || (leb 0x20 c && leb c 0x7E))))
+is_typable c =
+    eqb c 0x08 || (eqb c 0x09 || (eqb c 0x0A || (eqb c 0x1B || (leb 0x20 c && leb c 0x7E))))

@@ -1,4 +1,5 @@
--- What is asked of a key: "Where several keys give a character, one without Shift comes first, then the lowest keycode."
+-- What is asked of a key: "Where several keys give a character,
+-- one without Shift comes first, then the lowest keycode."
 use Rattle.std.specs.Prelude.{Bool, true, false, ◌≡◌, ℕ, ◌≤◌}
 use Rattle.keycodes_ascii.specs.declared.Keycode.{Keycode}
 use Rattle.keycodes_ascii.specs.Keycode.{number_of}

@@ -42,9 +42,11 @@ abbrev pub or_else : Option Keycode → Bool → Option Key → Option Key
 or_else (some k) shift other = some (record { keycode = k; shift = shift })
 or_else none shift other = other
 
--- The key of a character, if it has one: "Where several keys give a character, one without Shift comes first, then the lowest keycode."
+-- The key of a character, if it has one: "Where several keys give a character, one without Shift
+-- comes first, then the lowest keycode."
 unfoldable pub key_of : ℕ → Option Key
-key_of c = or_else (lowest (gives_it false c) keycodes) false (or_else (lowest (gives_it true c) keycodes) true none)
+key_of c = or_else (lowest (gives_it false c) keycodes) false
+    (or_else (lowest (gives_it true c) keycodes) true none)
 
 -- ---- the keys of a text
 

@@ -63,7 +63,8 @@ abbrev pub refusal_number : TypingRefusal → ℕ
 refusal_number NoKey = 25
 refusal_number OutputShort = 26
 
--- What the code's answer says of an output: the count of bytes written, or a refusal's number and no byte.
+-- What the code's answer says of an output: the count of
+-- bytes written, or a refusal's number and no byte.
 abbrev pub told : Result ℕ TypingRefusal → List ℕ → Outcome
 told (Ok count) out = outcome (gives success) count out
 told (Err r) out = outcome (refuses (refusal_number r)) 0 out

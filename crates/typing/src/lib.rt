@@ -31,7 +31,8 @@ const SHIFT_RELEASED: u8 = 0xAA;
 // In set 1 a key's release is its press with the top bit set.
 const RELEASED: u8 = 0x80;
 
-// What the table adds to the keycode of a key that needs Shift, and what it has for a character without a key.
+// What the table adds to the keycode of a key that needs
+// Shift, and what it has for a character without a key.
 const NEEDS_SHIFT: u8 = 0x80;
 
 const NO_KEY: u8 = 0x00;
@@ -97,7 +98,8 @@ fn count_shifted(text: &[u8]) -> Option<usize>
     Some(shifted)
 }
 
-// Writes the scancodes of a text that is accepted, and answers how many they are. The table has every character of it.
+// Writes the scancodes of a text that is accepted, and answers
+// how many they are. The table has every character of it.
 fn put_keys(text: &[u8], out: &mut [u8]) -> usize
     requires { Accepted (length out.old) text.now }
     ensures { told (Ok result) out.new ≡ leaves out.old (typed (length out.old) text.now) }

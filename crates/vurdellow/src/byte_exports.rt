@@ -1,4 +1,5 @@
-// Operations on bytes: a key's character, an event for a report, conversion from set 2, typing, salvage.
+// Operations on bytes: a key's character, an event for a
+// report, conversion from set 2, typing, salvage.
 ghost use Rattle.std.specs.Prelude.{◌≡◌};
 ghost use Rattle.argument_words.specs.Arguments.{identity_at};
 ghost use Rattle.keycodes_ascii.specs.Keycode.{keycode_of};
@@ -50,7 +51,8 @@ pub extern "C" fn vd_salvage(
     packets: &mut [u8],
     positions: &mut [u64],
 ) -> SalvagedWords
-    ensures { RecordingSalvaged (identity_at identity) bytes.now packets.old positions.old result packets.new positions.new }
+    ensures { RecordingSalvaged (identity_at identity) bytes.now packets.old positions.old result
+        packets.new positions.new }
 {
     salvage(identity, bytes, packets, positions)
 }

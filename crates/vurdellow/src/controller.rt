@@ -13,7 +13,8 @@ pub extern "C" fn vd_controller_init(
     script: &[u8],
     log: &mut [u8],
 ) -> InitializedWords
-    ensures { Tells (told_init controller) (initialize (controller_of controller)) script.now log.old result log.new }
+    ensures { Tells (told_init controller) (initialize (controller_of controller)) script.now
+        log.old result log.new }
 {
     controller_init(controller, script, log)
 }

@@ -1,4 +1,5 @@
-// The dispatcher lent as numbers: a fresh one and the step. The first 144 of its numbers are the handler's record, from which `vd_take` takes.
+// The dispatcher lent as numbers: a fresh one and the step. The first 144 of its numbers are the
+// handler's record, from which `vd_take` takes.
 ghost use Rattle.dispatcher_words.specs.Steps.{StepMade};
 ghost use Rattle.dispatcher_words.specs.Fresh.{MadeFresh};
 

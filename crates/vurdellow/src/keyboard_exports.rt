@@ -29,7 +29,8 @@ pub extern "C" fn vd_keyboard_init(
     script: &[u8],
     log: &mut [u8],
 ) -> PortWords
-    ensures { KeyboardInitialized words.old keyboards profile script.now log.old result words.new log.new }
+    ensures { KeyboardInitialized words.old keyboards profile script.now log.old result words.new
+        log.new }
 {
     keyboard_init(words, keyboards, profile, script, log)
 }
@@ -45,7 +46,8 @@ pub extern "C" fn vd_keyboard_reset(script: &[u8], log: &mut [u8]) -> PortWords
 /// Sends one of the keyboard's commands, by the byte that the wiki lists it with.
 #[unsafe(no_mangle)]
 pub extern "C" fn vd_keyboard_command(byte: u32, script: &[u8], log: &mut [u8]) -> KeptWords
-    ensures { TellsAt (refusing_kept invalid_argument) told_kept sending_command (command_at byte) script.now log.old result log.new }
+    ensures { TellsAt (refusing_kept invalid_argument) told_kept sending_command (command_at byte)
+        script.now log.old result log.new }
 {
     keyboard_command(byte, script, log)
 }
@@ -53,7 +55,8 @@ pub extern "C" fn vd_keyboard_command(byte: u32, script: &[u8], log: &mut [u8]) 
 /// Sets the lamps: scroll 1, number 2, caps 4 added.
 #[unsafe(no_mangle)]
 pub extern "C" fn vd_keyboard_set_lamps(lamps: u32, script: &[u8], log: &mut [u8]) -> KeptWords
-    ensures { TellsAt (refusing_kept invalid_argument) told_kept setting_lamps (lamps_at lamps) script.now log.old result log.new }
+    ensures { TellsAt (refusing_kept invalid_argument) told_kept setting_lamps (lamps_at lamps)
+        script.now log.old result log.new }
 {
     keyboard_set_lamps(lamps, script, log)
 }
@@ -61,7 +64,8 @@ pub extern "C" fn vd_keyboard_set_lamps(lamps: u32, script: &[u8], log: &mut [u8
 /// Sets the scancode set, 1 to 3.
 #[unsafe(no_mangle)]
 pub extern "C" fn vd_keyboard_set_scancode_set(set: u32, script: &[u8], log: &mut [u8]) -> PortWords
-    ensures { TellsAt (refusing invalid_argument) (told no_value) set_scancode_set (scancode_set_at set) script.now log.old result log.new }
+    ensures { TellsAt (refusing invalid_argument) (told no_value) set_scancode_set
+        (scancode_set_at set) script.now log.old result log.new }
 {
     keyboard_set_scancode_set(set, script, log)
 }
@@ -85,7 +89,8 @@ pub extern "C" fn vd_keyboard_detect(script: &[u8], log: &mut [u8]) -> PortWords
 /// Sends the byte of repeat rate and delay.
 #[unsafe(no_mangle)]
 pub extern "C" fn vd_keyboard_set_repeat(byte: u32, script: &[u8], log: &mut [u8]) -> PortWords
-    ensures { TellsAt (refusing invalid_argument) (told no_value) set_keyboard_repeat (byte_at byte) script.now log.old result log.new }
+    ensures { TellsAt (refusing invalid_argument) (told no_value) set_keyboard_repeat (byte_at byte)
+        script.now log.old result log.new }
 {
     keyboard_set_repeat(byte, script, log)
 }

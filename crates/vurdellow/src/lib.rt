@@ -1,4 +1,5 @@
-// The library that others link: every operation that a table needs, for C or Rust. Each function is one of a layer below, with its contract.
+// The library that others link: every operation that a table needs, for C or Rust. Each function is
+// one of a layer below, with its contract.
 // No proof of it assumes anything (docs/TRUST.md).
 // C passes numbers, and pointers with lengths; so kinds are numbers here, and scripts, logs and
 // records slices. Each export stands by itself, and once for each report, since C has no generics

@@ -63,7 +63,9 @@ pub extern "C" fn vd_mouse_set_identity(identity: u32, script: &[u8], log: &mut 
 /// Sends a command to the mouse.
 #[unsafe(no_mangle)]
 pub extern "C" fn vd_mouse_command(byte: u32, script: &[u8], log: &mut [u8]) -> KeptWords
-    ensures { TellsAt (refusing_kept invalid_argument) told_kept (λ c. keeping_thrown (mouse_command c)) (command_at byte) script.now log.old result log.new }
+    ensures { TellsAt (refusing_kept invalid_argument) told_kept
+        (λ c. keeping_thrown (mouse_command c)) (command_at byte) script.now log.old result
+        log.new }
 {
     mouse_command(byte, script, log)
 }
@@ -71,7 +73,8 @@ pub extern "C" fn vd_mouse_command(byte: u32, script: &[u8], log: &mut [u8]) -> 
 /// Sets the mouse's sampling rate.
 #[unsafe(no_mangle)]
 pub extern "C" fn vd_mouse_set_sampling_rate(rate: u32, script: &[u8], log: &mut [u8]) -> PortWords
-    ensures { TellsAt (refusing invalid_argument) (told no_value) set_sampling_rate (rate_at rate) script.now log.old result log.new }
+    ensures { TellsAt (refusing invalid_argument) (told no_value) set_sampling_rate (rate_at rate)
+        script.now log.old result log.new }
 {
     mouse_set_sampling_rate(rate, script, log)
 }
@@ -83,7 +86,8 @@ pub extern "C" fn vd_mouse_set_resolution(
     script: &[u8],
     log: &mut [u8],
 ) -> PortWords
-    ensures { TellsAt (refusing invalid_argument) (told no_value) set_resolution (resolution_at resolution) script.now log.old result log.new }
+    ensures { TellsAt (refusing invalid_argument) (told no_value) set_resolution
+        (resolution_at resolution) script.now log.old result log.new }
 {
     mouse_set_resolution(resolution, script, log)
 }
@@ -99,7 +103,8 @@ pub extern "C" fn vd_mouse_waits(script: &[u8]) -> PortWords
 /// Reads the packet that a mouse of this identity sends, its wheel signed.
 #[unsafe(no_mangle)]
 pub extern "C" fn vd_mouse_read_packet(identity: u32, script: &[u8]) -> PacketWords
-    ensures { TellsReadingAt (refusing_packet invalid_argument) told_packet read_signed_packet (identity_at identity) script.now result }
+    ensures { TellsReadingAt (refusing_packet invalid_argument) told_packet read_signed_packet
+        (identity_at identity) script.now result }
 {
     mouse_read_packet(identity, script)
 }

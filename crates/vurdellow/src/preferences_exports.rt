@@ -51,7 +51,8 @@ pub extern "C" fn vd_preferences_apply(
     script: &[u8],
     log: &mut [u8],
 ) -> PortWords
-    ensures { TellsAt (refusing invalid_argument) (told no_value) apply_preferences (preferences_at preferences) script.now log.old result log.new }
+    ensures { TellsAt (refusing invalid_argument) (told no_value) apply_preferences
+        (preferences_at preferences) script.now log.old result log.new }
 {
     apply(preferences, script, log)
 }
