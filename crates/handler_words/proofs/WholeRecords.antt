@@ -8,13 +8,13 @@ use native.Mathlib.Omega.{arith}
 use lib.Dec.{eqb, ltb}
 use lib.ListN.{length, get_or, set, take, drop, length-set}
 use borrow.Author.Tests.{lt-ltb, le-ltb, ltb-true, ltb-false}
-use Rattle.std.specs.Prelude.{Option as Maybe, Result, Err, Some, None}
+use Rattle.std.specs.Prelude.{Option as Maybe, Result, Ok, Err, Some, None}
 use Rattle.std.proofs.lemmas.List.{ext_get_or, get_or-map, get_or_append_left, get_or-append_right, get_or_default, get_or-set_same, get_or-set_other, get_or-take, get_or-drop, length-take-le, length-drop, length-map, length-append}
 use Rattle.keycodes_ascii.specs.declared.Keycode.{Keycode}
 use Rattle.keycodes_ascii.specs.declared.KeyEvent.{KeyEvent}
 use Rattle.keycodes_ascii.specs.declared.NoKeycode.{NoKeycode}
 use Rattle.keycodes_ascii.specs.Keycode.{keycode_of, keycode_read}
-use Rattle.keycodes_ascii.proofs.Codes.{read_err}
+use Rattle.keycodes_ascii.proofs.Codes.{read_ok, read_err}
 use Rattle.keyboard_scancodes.specs.Events.{the_keycode, keycode_at}
 use Rattle.keyboard_scancodes.proofs.Tests.{which}
 use Rattle.keyboard_scancodes.specs.declared.KeyboardState.{KeyboardState}
@@ -28,7 +28,11 @@ use Rattle.handler_words.specs.Records.{holds_keyboard, holds_table, table_in, h
 use Rattle.handler_words.proofs.Passing.{Passed, passed, second_passes}
 use Rattle.handler_words.proofs.Words.{by_numbers}
 
--- ---- a place whose number has no keycode is empty
+-- ---- a place has the keycode of its number, and is empty where that has none
+
+pub key_in : (w : ℕ) {f : Result Keycode NoKeycode} {b : ℕ} → f ≡ keycode_read b → b ≡ w % 256 → {k : Keycode} → f ≡ Ok k → k ≡ (event_at w).keycode
+unfolding event_at keycode_at
+key_in w q r e = ap the_keycode (read_ok _ q e ∙ ap keycode_of r)
 
 pub empty_in : (w : ℕ) {f : Result Keycode NoKeycode} {b : ℕ} → f ≡ keycode_read b → b ≡ w % 256 → {x : NoKeycode} → f ≡ Err x → Keycode.OverflowError ≡ (event_at w).keycode
 unfolding event_at keycode_at
