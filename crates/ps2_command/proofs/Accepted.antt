@@ -8,7 +8,10 @@ use native.Mathlib.Omega.{arith}
 use lib.Dec.{eqb, leb}
 use Rattle.std.specs.Prelude.{Option, Some, None}
 use Rattle.std.specs.Option.{option_map}
+use Rattle.std.specs.List.{list_any}
 use Rattle.std.proofs.lemmas.Option.{none-some, cond_some}
+use Rattle.std.proofs.lemmas.List.{get_or-take, get_or-drop, length-take-le}
+use Rattle.std.proofs.lemmas.List.Folds.{list_any_at}
 use lib.ListN.{length, get_or, take, drop, length-drop}
 use borrow.Author.Tests.{leb-true, leb-false, le-leb, lt-leb, eqb-true}
 use Rattle.bits.specs.Bits.{bit}
@@ -149,6 +152,26 @@ module _ (s : List ℕ) (i : ℕ) (w : Waits s i) where
 
   pub waits_over : (i < poll_limit → length s ≤ suc i) → heard_within poll_limit s ≡ None
   waits_over h = w ∙ ap (λ o. option_map (λ u. i + u) o) (over_by (leb poll_limit i) refl h)
+
+-- and so do n more, where no status of theirs says that there are data
+further_waits : (s : List ℕ) (i n : ℕ) → Waits s i → i + n < length s → i + n ≤ poll_limit → ((k : ℕ) → k < n → bit output_buffer_full (get_or s (i + k) 0) ≡ false) → Waits s (i + n)
+further_waits s i zero w h l q = let e : i + 0 ≡ i = omega arith in rw e w
+further_waits s i (suc n) w h l q =
+    waits_next s (i + n) (further_waits s i n w (omega (arith, h)) (omega (arith, l)) (λ k b. q k (omega (arith, b)))) (omega (arith, h)) (omega (arith, l)) (q n (omega arith)) (i + suc n)
+    (omega arith)
+
+silent_at : (l : List ℕ) (k : ℕ) → list_any (bit output_buffer_full) l ≡ false → k < length l → (b : Bool) → bit output_buffer_full (get_or l k 0) ≡ b → bit output_buffer_full (get_or l k 0) ≡ false
+silent_at l k none h true q = let e : true ≡ false = sym (list_any_at (bit output_buffer_full) l k 0 h q) ∙ none in cc
+silent_at l k none h false q = q
+
+-- the same of a part of the script that is asked as one list
+pub waits_block : (s l : List ℕ) (i n m : ℕ) → Waits s i → i + n < length s → i + n ≤ poll_limit → m ≡ n → l ≡ take m (drop i s) → list_any (bit output_buffer_full) l ≡ false → Waits s (i + n)
+waits_block s l i n m w h b e same none =
+    let long : length l ≡ m = ap length same ∙ length-take-le m (drop i s) (omega (arith, length-drop i s, h, e)) in
+    further_waits s i n w h b
+    (λ k q.
+    let at : get_or l k 0 ≡ get_or s (i + k) 0 = ap (λ (t : List ℕ). get_or t k 0) same ∙ get_or-take m (drop i s) k 0 (omega (arith, q, e)) ∙ get_or-drop i s k 0 in
+    ap (bit output_buffer_full) (sym at) ∙ silent_at l k none (omega (arith, q, e, long)) (bit output_buffer_full (get_or l k 0)) refl)
 
 -- ---- one command
 

@@ -3,9 +3,12 @@
 #![tactic(auto)]
 
 ghost use Rattle.std.specs.Prelude.{ℕ, true, Some, None, ◌≡◌, ◌/◌, ◌<◌, ◌≤◌, ◌++◌, length, drop};
+ghost use Rattle.std.specs.List.{list_any};
 ghost use Rattle.exchange.specs.Exchange.{told_end, played, play};
 ghost use Rattle.exchange.specs.Answer.{and_then, renumbered};
 ghost use Rattle.exchange.specs.Keeping.{kept_end};
+ghost use Rattle.bits.specs.Bits.{bit};
+ghost use Rattle.ps2_layouts.specs.Status.{output_buffer_full};
 ghost use Rattle.ps2_answers.specs.Refusals.{number_of};
 ghost use Rattle.ps2_answers.specs.Answers.{ended, turn_end, used_of, pairs_of, ReadsTold};
 ghost use Rattle.ps2_kept.specs.Kept.{keeping_thrown};
@@ -33,6 +36,9 @@ const SELF_TEST_PASSED: u8 = 0xAA;
 
 // A device's byte for a command that it accepts.
 const ACKNOWLEDGE: u8 = 0xFA;
+
+// How many polls' statuses are asked together.
+const BLOCK: usize = 32;
 
 /// What a command comes to, with the bytes that its whole run threw away.
 pub type Commanded = Handed<()>;
@@ -170,6 +176,18 @@ pub fn command_pair_onto(
     }
 }
 
+// Whether one of these statuses says that there are data.
+// Joined and asked once, a silent poll takes a quarter of an instruction; asked alone, six.
+fn any_full(statuses: &[u8; BLOCK]) -> bool
+    ensures { result ≡ list_any (bit output_buffer_full) statuses.now }
+{
+    let mut joined = 0;
+    for status in statuses {
+        joined |= *status;
+    }
+    ControllerToHostStatus::from(joined).output_buffer_full()
+}
+
 // The bytes of polls that find nothing, and of the one after them that brings FA. `None` where it
 // brings another byte, or none of them brings one.
 fn heard(script: &[u8]) -> Option<usize>
@@ -177,7 +195,15 @@ fn heard(script: &[u8]) -> Option<usize>
     ensures within { (used : ℕ) → result ≡ Some used → used ≤ length script.now }
 {
     let polls = script.len().saturating_sub(1).min(POLL_LIMIT as usize);
-    for silent in 0..polls {
+    let mut begin = 0;
+    while begin + BLOCK <= polls {
+        let block = script[begin..begin + BLOCK].as_array::<BLOCK>().unwrap();
+        if any_full(block) {
+            break;
+        }
+        begin += BLOCK;
+    }
+    for silent in begin..polls {
         if ControllerToHostStatus::from(script[silent]).output_buffer_full() {
             return if script[silent + 1] == ACKNOWLEDGE {
                 Some(silent + 2)
