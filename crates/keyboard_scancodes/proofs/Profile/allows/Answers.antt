@@ -18,8 +18,10 @@ tournament_allows e key = rw e
 
 pub returns-then-matches : goal.returns-then-matches
 returns-then-matches c =
-    c.if-matches.true
-    ∙ elim c.match-matches.branch [ in-Any w ↦ any_allows w.in-Any.is _ | in_default w ↦ absurd (true≢false (sym c.if-matches.true ∙ w.matches-is)) ]
+    let any : true ≡ allows c.args.self c.args.keycode =
+    elim c.match-matches.branch [ in-Any w ↦ any_allows w.in-Any.is _ | in_default w ↦ absurd (true≢false (sym c.if-matches.true ∙ w.matches-is)) ]
+    in
+    search (any, c.if-matches.true ∙ any)
 
 pub returns-else-matches : goal.returns-else-matches
 returns-else-matches c =
