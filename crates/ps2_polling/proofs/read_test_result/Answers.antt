@@ -1,5 +1,6 @@
 -- `read_test_result` meets its contract: the invariant is how far the definition's repetition has come.
 use native.Mathlib.Omega.{arith}
+use Rattle.std.proofs.Common.{rules}
 use Rattle.ps2_answers.proofs.Then.{exit}
 use Rattle.ps2_answers.proofs.Reading.{turns_over, turn_again, turn_found, turn_stops}
 use Rattle.ps2_polling.specs.Polling.{passed_turn}
@@ -30,4 +31,4 @@ loop-left-preserved c =
     let v = c.args in
     let r = c.take_turn.ensures in
     turn_again (omega (arith, c.well_formed)) c.loop-left.at _ _ _ c.loop-left.invariant (of_poll (passed_turn v.passed)) _ (taken_turn (passed_turn v.passed) v.waiting _ _ r) r.no_pairs
-    _ c.in_ok-at.ensures _ (omega arith) (passed_unheard v.passed _ c.if-eq.ensures)
+    _ c.in_ok-at.ensures _ (omega arith) (passed_unheard v.passed _ (search rules))
