@@ -1,6 +1,6 @@
 -- `MousePacket::side_flag` meets its contract: the bit of byte 4, which identity 4 alone has.
-use mathlib.Core.Path.{sym}
+use Rattle.std.proofs.Common.{rules}
 use Rattle.ps2_packet.proofs.MousePacket.side_flag.Goals as goal
 
 pub returns-in-Four : goal.returns-in-Four
-returns-in-Four c = rw (c.in-Four.is, sym c.has.ensures) cc
+returns-in-Four c = rw c.in-Four.is (search rules)
