@@ -73,6 +73,10 @@ put_holds text buffer e =
     let n = ap (λ (p : Place). p.at) w ∙ zero-add (length (take (length buffer) text)) in
     record { counted = n; bytes = ap (λ (p : Place). p.bytes) w ∙ ap (λ (k : ℕ). take (length buffer) text ++ drop k buffer) (sym n) }
 
+-- no more bytes are counted than the buffer has
+pub holds_le : {text buffer : List ℕ} {count : ℕ} {after : List ℕ} → Holds text buffer count after → count ≤ length after
+holds_le {text} {buffer} {count} h = omega (arith, h.counted, ap length h.bytes, length-append (take (length buffer) text) (drop count buffer))
+
 -- and by a writer that was made at the start of a buffer
 pub puts_holds : {text buffer after : List ℕ} {w x : Writer} → Puts text w x → w.next ≡ 0 → w.out.now ≡ buffer → after ≡ x.out.now → Holds text buffer x.next after
 puts_holds {text} {buffer} p s b a = put_holds text buffer (rw a (p.puts ∙ rw (s, b)))

@@ -3,27 +3,32 @@
 // is told on standard error, with the place of the code that was refused.
 #![tactic(auto)]
 
-use program_status::ended;
-use std::io::{Eprint, Read, Result, Write};
+use program_status::{ended, read_full};
+use std::io::{Eprint, Result, Write};
 use std::process::ExitCode;
 
-const STREAM_LIMIT: u64 = 65536;
+const STREAM_LIMIT: usize = 65536;
 
+// A refusal is told where the output can't be written, too.
+fn write_converted(rt: &HostRuntime, stream: &[u8], out: &mut [u8]) -> Result<()> {
+    let conversion = scancode_set2::convert(stream, out);
+    let done = rt.stdout().write_all(&out[..conversion.written]);
+    if let Err(refusal) = conversion.answer {
+        let number = refusal.number();
+        let place = conversion.used;
+        eprintln!(rt; "refused {number} at byte {place}")?;
+    }
+    done
+}
+
+// What came before a read that fails is converted too.
 fn convert_input(rt: &HostRuntime) -> Result<()> {
-    let mut stream = Vec::new(rt.alloc());
-    rt.stdin().take(STREAM_LIMIT).read_to_end(&mut stream)?;
+    let mut stream = [0; STREAM_LIMIT];
+    let (count, read) = read_full(&mut rt.stdin(), &mut stream);
     // The output is never longer than the stream.
-    let mut out = Vec::new(rt.alloc());
-    out.resize(stream.len(), 0)?;
-    let conversion = scancode_set2::convert(stream.as_slice(), out.as_mut_slice());
-    out.truncate(conversion.written);
-    rt.stdout().write_all(out.as_slice())?;
-    let Err(refusal) = conversion.answer else {
-        return Ok(());
-    };
-    let number = refusal.number();
-    let place = conversion.used;
-    eprintln!(rt; "refused {number} at byte {place}")
+    let mut out = [0; STREAM_LIMIT];
+    write_converted(rt, &stream[..count], &mut out)?;
+    read
 }
 
 fn main(rt: HostRuntime) -> ExitCode {
