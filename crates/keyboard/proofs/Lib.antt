@@ -1,4 +1,4 @@
--- Laws of a handler call: its courses and its ends, what refused calls leave, what waits after one, its bounds.
+-- Laws of a handler call: its courses and its ends, what refused calls leave, what waits after one, its bounds; and of a step by hand through a struct of many fields.
 pub mod Ways
 pub mod Courses
 pub mod Waiting
@@ -11,3 +11,4 @@ pub mod Formed
 pub mod Bounds
 pub mod Effects
 pub mod OtherSide
+pub mod FieldOf
