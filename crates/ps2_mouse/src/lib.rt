@@ -55,7 +55,7 @@ impl PS2Mouse {
     }
 
     /// Sends a byte to the mouse by the command rule.
-    /// Each attempt writes D4 to port 64 first. Refused: 2 to 7.
+    /// D4 goes to port 64 once, before the attempts. Refused: 2 to 7.
     pub fn command_to_mouse(
         script: &[u8],
         log: &mut [u8],
