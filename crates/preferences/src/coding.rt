@@ -106,7 +106,10 @@ fn accepts_fifth(checks_range: bool, value: u32) -> bool
     !checks_range || is_repeat_byte(value)
 }
 
-// Reads the number at a place, and answers it with the place behind it.
+// Reads the number at a place, and answers it with the place behind it. In line, as `read_number`
+// is, for speed: by calls a reading of version 1 took 158 instructions in place of 133, and of
+// version 2 171 in place of 151.
+#[inline(always)]
 fn number_at(input: &[u8], at: usize) -> Result<(u32, usize), ReadRefusal>
     ensures { Takes input.now at any_number result }
 {

@@ -63,6 +63,7 @@ const FIVE_GROUPS: u32 = 0x1000_0000;
 
 /// Reads the number that stands in a string from a place on, which may lie past its end: the number
 /// is cut short there.
+#[inline(always)]
 pub fn read_number(input: &[u8], at: usize) -> Result<Number, Malformed>
     ensures { said_number result ≡ read_number (drop at input.now) }
 {
