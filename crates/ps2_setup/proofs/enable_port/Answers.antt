@@ -1,18 +1,15 @@
 -- `ps2_setup::enable_port` meets its contract: a command where the port passed, and nothing where it did not.
-use mathlib.Core.Bool.{true}
-use mathlib.Core.Path.{◌≡◌, refl, ap, ◌∙◌}
-use Rattle.bits.specs.Bits.{put_bit}
+use mathlib.Core.Path.{◌≡◌, refl}
+use Rattle.std.proofs.Common.{rules}
 use Rattle.exchange.specs.Exchange.{Exchange, done, play}
 use Rattle.exchange.specs.Answer.{Answer, gives}
 use Rattle.ps2_bytes.specs.declared.command.HostToControllerCommand.{HostToControllerCommand}
-use Rattle.ps2_bytes.specs.declared.command.HostToControllerCommand.TheVariants.{EnablePort1, EnablePort2}
 use Rattle.ps2_layouts.specs.declared.configuration.ControllerConfigurationByte.{ControllerConfigurationByte}
-use Rattle.ps2_layouts.specs.Configuration.{port1_interrupt, port2_interrupt}
 use Rattle.ps2_answers.specs.Refusals.{Success}
 use Rattle.ps2_ports.specs.declared.DevicePort.{DevicePort}
 use Rattle.ps2_answers.proofs.Then.{exit, writes_first_stops}
 use Rattle.ps2_ports.specs.Ports.{write_command}
-use Rattle.ps2_setup.specs.SetUp.{config, running}
+use Rattle.ps2_setup.specs.SetUp.{running}
 use Rattle.ps2_setup.specs.Answers.{enable_of, clock_of, interrupt_of}
 use Rattle.ps2_setup.proofs.Writing.{write_first, write_here}
 use Rattle.ps2_setup.proofs.enable_port.Goals as goal
@@ -24,10 +21,8 @@ of_port port c = (enable_of port, running (clock_of port) (interrupt_of port) c)
 
 chosen : (c : After-write_command) → c.match-port.enable ≡ of_port c.args.port c.args.config
 chosen c = elim c.match-port.branch [
-  | in-Port1 w ↦ rw (w.enable-is, w.in-Port1.is)
-      (ap (λ b. (EnablePort1, config b)) (w.set_port1_interrupt_enabled.ensures ∙ ap (put_bit port1_interrupt true) w.set_port1_clock_disabled.ensures))
-  | in-Port2 w ↦ rw (w.enable-is, w.in-Port2.is)
-      (ap (λ b. (EnablePort2, config b)) (w.set_port2_interrupt_enabled.ensures ∙ ap (put_bit port2_interrupt true) w.set_port2_clock_disabled.ensures))
+  | in-Port1 w ↦ rw (w.enable-is, w.in-Port1.is) (search rules)
+  | in-Port2 w ↦ rw (w.enable-is, w.in-Port2.is) (search rules)
 ]
 
 abbrev enabled : DevicePort → ControllerConfigurationByte → Success → Exchange (Answer ControllerConfigurationByte)
