@@ -1,6 +1,5 @@
-// How the programs read and end. Input comes into an array, so that none can run out of memory.
-// They end with status 0, or with another and a word on standard error that says what failed;
-// quietly where the reader of their output went away.
+// How the programs read and end: with status 0, or with another and a word on standard error that
+// says what failed; quietly where the reader of their output went away.
 #![tactic(auto)]
 
 ghost use Rattle.std.specs.Prelude.{◌≡◌, ◌<◌, ◌≤◌, length, take, OnOk};

@@ -11,22 +11,15 @@ const SCRIPT_LIMIT: usize = 65536;
 // Room for every listing: 13 bytes for each script byte are enough (`listing_fits` of key_listing).
 const LISTING_ROOM: usize = 851968;
 
-fn print_listing(rt: &HostRuntime, script: &[u8], listing: &mut [u8]) -> Result<()> {
-    let count = key_listing::list_keys(script, listing);
-    rt.stdout().write_all(&listing[..count])
-}
-
-// Takes the room as an array, whose length its type says, and hands it on as a slice.
-fn print_in(rt: &HostRuntime, script: &[u8], room: &mut [u8; LISTING_ROOM]) -> Result<()> {
-    print_listing(rt, script, room)
-}
-
 // What came before a read that fails is listed too.
 fn list_input(rt: &HostRuntime) -> Result<()> {
     let mut script = [0; SCRIPT_LIMIT];
     let (count, read) = read_full(&mut rt.stdin(), &mut script);
-    let mut room = [0; LISTING_ROOM];
-    print_in(rt, &script[..count], &mut room)?;
+    let mut listing = Vec::new(rt.alloc());
+    listing.resize(LISTING_ROOM, 0)?;
+    let length = key_listing::list_keys(&script[..count], listing.as_mut_slice());
+    listing.truncate(length);
+    rt.stdout().write_all(listing.as_slice())?;
     read
 }
 

@@ -11,27 +11,22 @@ const TEXT_LIMIT: usize = 65536;
 // Room for every text: a character takes four bytes at the most.
 const SCANCODE_ROOM: usize = 262144;
 
-fn write_typed(rt: &HostRuntime, text: &[u8], scancodes: &mut [u8]) -> Result<()> {
-    match typing::type_text(text, scancodes) {
-        Ok(written) => rt.stdout().write_all(&scancodes[..written]),
-        Err(refusal) => {
-            let number = refusal.number();
-            eprintln!(rt; "refused {number}")
-        }
-    }
-}
-
-// Takes the room as an array, whose length its type says, and hands it on as a slice.
-fn type_in(rt: &HostRuntime, text: &[u8], room: &mut [u8; SCANCODE_ROOM]) -> Result<()> {
-    write_typed(rt, text, room)
-}
-
 // What came before a read that fails is typed too.
 fn type_input(rt: &HostRuntime) -> Result<()> {
     let mut text = [0; TEXT_LIMIT];
     let (count, read) = read_full(&mut rt.stdin(), &mut text);
-    let mut room = [0; SCANCODE_ROOM];
-    type_in(rt, &text[..count], &mut room)?;
+    let mut scancodes = Vec::new(rt.alloc());
+    scancodes.resize(SCANCODE_ROOM, 0)?;
+    match typing::type_text(&text[..count], scancodes.as_mut_slice()) {
+        Ok(written) => {
+            scancodes.truncate(written);
+            rt.stdout().write_all(scancodes.as_slice())?;
+        }
+        Err(refusal) => {
+            let number = refusal.number();
+            eprintln!(rt; "refused {number}")?;
+        }
+    }
     read
 }
 
