@@ -1,7 +1,7 @@
 -- Which numbers have a keycode, and that a keycode that a number has is that number's.
 use mathlib.Core.Bool.{true, false, cond, false≢true}
 use mathlib.Core.List.{[], ◌∷◌, List}
-use mathlib.Core.Path.{◌≡◌, sym, ap, ◌∙◌}
+use mathlib.Core.Path.{◌≡◌, refl, sym, ap, ◌∙◌}
 use Prim.Native.Nat.{ℕ, ◌<◌, ◌≤◌}
 use native.Mathlib.Omega.{arith}
 use native.Mathlib.Decide.{dec_lt}
@@ -16,6 +16,7 @@ use Rattle.keycodes_ascii.specs.declared.Keycode.{Keycode}
 use Rattle.keycodes_ascii.specs.declared.KeyAction.{KeyAction}
 use Rattle.keycodes_ascii.specs.Keycode.{keycodes, numbered, keycode_of}
 use Rattle.keycodes_ascii.proofs.Codes.{Has, keycode_has}
+use Rattle.argument_words.specs.Arguments.{invalid_argument}
 use Rattle.report.specs.Events.{code_of}
 use Rattle.bytes_words.specs.Keys.{event_code_at}
 use Rattle.bytes_words.specs.Parts.{is_found}
@@ -47,3 +48,8 @@ has_event n None a h e = absurd (false≢true e)
 
 pub number_event : (n : ℕ) (a : KeyAction) → is_found (keycode_of n) ≡ true → code_of a n ≡ event_code_at (keycode_of n) (Some a)
 number_event n a e = has_event n (keycode_of n) a (keycode_has n) e
+
+-- what is answered where an action stands for nothing
+pub no_action_event : (f : Option Keycode) → invalid_argument ≡ event_code_at f None
+no_action_event (Some k) = refl
+no_action_event None = refl

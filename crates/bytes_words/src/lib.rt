@@ -129,9 +129,12 @@ fn code_of(action: KeyAction, number: u32) -> u32
 pub fn event_code(keycode: u32, action: u32) -> u32
     ensures { result ≡ event_code_at (keycode_of keycode) (action_at action) }
 {
+    if !is_keycode(keycode) {
+        return INVALID_ARGUMENT;
+    }
     match action_of(action) {
-        Some(done) if is_keycode(keycode) => code_of(done, keycode),
-        _ => INVALID_ARGUMENT,
+        Some(done) => code_of(done, keycode),
+        None => INVALID_ARGUMENT,
     }
 }
 
