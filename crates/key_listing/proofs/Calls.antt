@@ -232,7 +232,7 @@ is_over true n e = refl
 is_over false n e = cc
 
 module _ (h : KeyboardHandler) (s : List ℕ) where
-  abbrev answer : prelude.Option ℕ
+  abbrev pub answer : prelude.Option ℕ
   answer = cond (ends2_3_21 (call_on h s).end) None (Some (call_on h s).used)
 
   went_on : {u : ℕ} → Some u ≡ answer → (ends2_3_21 (call_on h s).end ≡ false) × (u ≡ (call_on h s).used)
@@ -245,9 +245,15 @@ module _ (h : KeyboardHandler) (s : List ℕ) where
   turn_fewer {u} e = rw (part_drop u s, (went_on e).1) (fewer_left h s (went_on e).0)
 
   module _ (i : 0 < bytes_left h s) where
+    pub last_is : None ≡ answer → listing_from h s ≡ call_text h s
+    last_is e = listing_last h s i (is_over (ends2_3_21 (call_on h s).end) (call_on h s).used e)
+
+    pub more_is : {u : ℕ} → Some u ≡ answer → listing_from h s ≡ call_text h s ++ listing_from (record_after h s) (part u s)
+    more_is {u} e = rw (part_drop u s, (went_on e).1) (listing_more h s i (went_on e).0)
+
+    -- what it prints put by a writer
     pub turn_last : {p q : Writer} → None ≡ answer → Puts (call_text h s) p q → Puts (listing_from h s) p q
-    turn_last e t = rw (listing_last h s i (is_over (ends2_3_21 (call_on h s).end) (call_on h s).used e)) t
+    turn_last e t = rw (last_is e) t
 
     pub turn_more : {p q w : Writer} {u : ℕ} → Some u ≡ answer → Puts (call_text h s) p q → Puts (listing_from (record_after h s) (part u s)) q w → Puts (listing_from h s) p w
-    turn_more {u = u} e t r =
-        rw (listing_more h s i (went_on e).0) (puts_then t (rw (part_drop u s, (went_on e).1) at r))
+    turn_more e t r = rw (more_is e) (puts_then t r)

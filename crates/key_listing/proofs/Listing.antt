@@ -14,7 +14,7 @@ use Rattle.keycodes_ascii.specs.declared.KeyAction.{KeyAction}
 use Rattle.keycodes_ascii.specs.declared.KeyEvent.{KeyEvent}
 use Rattle.keycodes_ascii.specs.Characters.{character_of}
 use Rattle.exchange.specs.Exchange.{End}
-use Rattle.exchange.specs.Answer.{Answer, gives, number_ended}
+use Rattle.exchange.specs.Answer.{Answer, gives, refuses, number_ended}
 use Rattle.ps2_answers.specs.Refusals.{Success}
 use Rattle.keyboard_record.specs.declared.KeyboardHandler.{KeyboardHandler}
 use Rattle.keyboard.specs.Answers.{ends2_3_21}
@@ -33,7 +33,7 @@ use Rattle.theorem_history.proofs.AsKeyboard.{as_bytes, as_then}
 use Rattle.theorem_history.proofs.Row.{sided}
 use Rattle.key_listing.specs.Text.{ascii, digits, decimal}
 use Rattle.key_listing.specs.Lines.{action_text, character_text, event_line, taken_line, refusal_line}
-use Rattle.key_listing.specs.Listing.{script_limit, table, free_log, at_first, call_on, record_after, bytes_left, calls_text, listing}
+use Rattle.key_listing.specs.Listing.{script_limit, table, free_log, at_first, call_on, call_text, record_after, bytes_left, calls_text, listing}
 use Rattle.key_listing.specs.Listed.{waits_then, cut_short, lamps_read, After, Listed, used_up, an_event, no_event, a_19, a_2}
 use Rattle.key_listing.proofs.Calls.{took_length, script_behind, count_behind, call_text_lem, calls_over, calls_last, calls_more}
 use Rattle.key_listing.proofs.Used.{used_behind, behind_le, used_lem}
@@ -147,6 +147,19 @@ refusal_length : (n : ℕ) → length (refusal_line n) ≤ 13
 unfolding refusal_line
 refusal_length n = by_number n (eqb n 0)
 
+taken_length : (a : Answer (Option (Sided KeyEvent))) → length (taken_line a) ≤ 13
+taken_length (gives (some e)) = event_length e.one
+taken_length (gives none) = omega arith
+taken_length (refuses n) = omega arith
+
+-- the room of a call is large enough for what it prints
+pub call_fits : (h : KeyboardHandler) (s : List ℕ) → length (call_text h s) ≤ 26
+unfolding call_text
+call_fits h s =
+    let refused = number_ended (call_on h s).end in
+    let event = (taken (call_on h s).handler).answer in
+    omega (arith, length-append (refusal_line refused) (taken_line event), refusal_length refused, taken_length event)
+
 listed_length : {bytes : Past ℕ} {ws s text : List ℕ} → Listed bytes ws s text → length text ≤ 13 * (length ws + length s)
 listed_length used_up = omega arith
 listed_length (an_event {bytes = bytes} {waiting = ws} {script = s} {text = text} {t = t} g v f l) =
@@ -160,6 +173,6 @@ listed_length (a_2 {waiting = ws} {script = s} g k) = omega (arith, refusal_leng
 pub listing-length : (script : List ℕ) → length (listing script) ≤ 13 * length (take script_limit script)
 listing-length script = rw zero-add at (listed_length (listing_listed script))
 
--- the buffer of the program is long enough
+-- so many bytes hold the listing of every script
 pub listing_fits : (script : List ℕ) → length (listing script) ≤ 851968
 listing_fits script = omega (arith, listing-length script, length-take script_limit script)

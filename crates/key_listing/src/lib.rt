@@ -2,7 +2,8 @@
 // called on a script until it is used and no byte waits, and each event is taken at once.
 #![tactic(auto)]
 
-ghost use Rattle.std.specs.Prelude.{◌≡◌, [], ◌∷◌, ◌<◌, Some, None, cond};
+ghost use Rattle.std.specs.Prelude.{◌≡◌, [], ◌∷◌, ◌<◌, Some, None, cond, OnOk};
+ghost use Rattle.std.specs.Io.KnownBytes.{Appends};
 ghost use Rattle.exchange.specs.Answer.{number_ended};
 ghost use Rattle.keyboard.specs.Answers.{said_call, ends2_3_21};
 ghost use Rattle.keyboard_record.specs.Taking.{said_taken};
@@ -18,9 +19,13 @@ use keyboard_record::{KeyboardHandler, Keyboards, Table, TakenEvent, take_event}
 use keyboard_scancodes::Profile;
 use keyboard_sides::Side;
 use keycodes_ascii::{KeyAction, KeyEvent};
+use std::io::{Result, Write};
 
 // The most script bytes that are read.
 const SCRIPT_LIMIT: usize = 65536;
+
+// Room for what one call prints: 13 bytes for a refusal and 13 for an event are enough.
+const CALL_ROOM: usize = 26;
 
 /// Puts the listing of a script into `out`, as much of it as there is room for, and answers how
 /// many bytes that is.
@@ -48,6 +53,50 @@ fn list_calls(script: &[u8], out: &mut Writer<'_>)
         };
         rest = &rest[used..];
     }
+}
+
+/// Writes the listing of a script to `output`, what each call prints as soon as it is made, so that
+/// no more room is needed however long the listing is. A writer that fails ends it with its error.
+pub fn write_keys<W: Write>(script: &[u8], output: &mut W) -> Result<()>
+    ensures { OnOk result (Appends (W.contents output.old) (W.contents output.new)
+        (listing script.now)) }
+{
+    write_calls(&script[..SCRIPT_LIMIT.min(script.len())], output)
+}
+
+// The same of a script that is used to its end.
+fn write_calls<W: Write>(script: &[u8], output: &mut W) -> Result<()>
+    ensures { OnOk result (Appends (W.contents output.old) (W.contents output.new)
+        (listing_from at_first script.now)) }
+{
+    let table = Table {
+        keyboards: Keyboards::One,
+        profile: Profile::Any,
+    };
+    let mut handler = KeyboardHandler::fresh(table);
+    let mut left = script;
+    let mut lines = [0; CALL_ROOM];
+    while 0 < bytes_left(&handler, left) {
+        let (called, length) = put_call(&mut handler, left, &mut lines);
+        output.write_all(&lines[..length])?;
+        let Some(used) = called else {
+            return Ok(());
+        };
+        left = &left[used..];
+    }
+    Ok(())
+}
+
+// As `call_once`, with what the call prints put into a buffer; beside its answer, how many bytes.
+fn put_call(handler: &mut KeyboardHandler, script: &[u8], out: &mut [u8]) -> (Option<usize>, usize)
+    ensures used { result.0 ≡ cond (ends2_3_21 (call_on handler.old script.now).end) None
+        (Some (call_on handler.old script.now).used) }
+    ensures left { handler.new ≡ record_after handler.old script.now }
+    ensures puts { Holds (call_text handler.old script.now) out.old result.1 out.new }
+{
+    let mut writer = Writer { out, next: 0 };
+    let used = call_once(handler, script, &mut writer);
+    (used, writer.next)
 }
 
 // How many bytes are left for calls to take: of the script, and waiting.
