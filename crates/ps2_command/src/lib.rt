@@ -177,7 +177,7 @@ pub fn command_pair_onto(
 }
 
 // Whether one of these statuses says that there are data.
-// Joined and asked once, a silent poll takes a quarter of an instruction; asked alone, six.
+// Joined and asked once, a silent poll takes a quarter of an instruction; asked alone, seven.
 fn any_full(statuses: &[u8; BLOCK]) -> bool
     ensures { result ≡ list_any (bit output_buffer_full) statuses.now }
 {
