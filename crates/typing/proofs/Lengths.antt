@@ -1,6 +1,6 @@
 -- How many bytes a text takes: two for each character, and two more for each that needs Shift.
 use mathlib.Core.Path.{◌≡◌, refl, subst⁻¹, ◌∙◌}
-use mathlib.Core.Bool.{Bool, true, false}
+use mathlib.Core.Bool.{Bool, true, false, false≢true}
 use mathlib.Core.List.{List, [], ◌∷◌}
 use mathlib.Core.Option.{Option, none, some}
 use Prim.Native.Nat.{ℕ, suc, ◌+◌, ◌*◌, ◌/◌, ◌-◌, ◌<◌, ◌≤◌}
@@ -8,6 +8,7 @@ use native.Mathlib.Omega.{arith}
 use lib.ListN.{length, drop, length-append}
 use borrow.Author.Tests.{le-leb, lt-leb}
 use Rattle.std.specs.Prelude.{None, Some, Ok, Err}
+use Rattle.std.specs.Option.{is_some}
 use Rattle.exchange.specs.Answer.{Answer, gives, refuses}
 use Rattle.keycodes_ascii.specs.declared.Keycode.{Keycode}
 use Rattle.typing.specs.declared.TypingRefusal.{TypingRefusal}
@@ -40,6 +41,15 @@ widths_shift (k ∷ ks) = by k.shift (widths_shift ks)
     by true e = omega (arith, e)
     by false e = omega (arith, e)
 
+pub widths_le : (ks : List Key) → widths ks ≤ 4 * length ks
+unfolding widths
+widths_le [] = omega arith
+widths_le (k ∷ ks) = by k.shift (widths_le ks)
+  where
+    by : (shift : Bool) → widths ks ≤ 4 * length ks → width shift + widths ks ≤ 4 * suc (length ks)
+    by true l = omega (arith, l)
+    by false l = omega (arith, l)
+
 -- ---- texts
 
 module _ (text : List ℕ) where
@@ -50,6 +60,9 @@ module _ (text : List ℕ) where
   module _ {ks : List Key} (e : keys_of text ≡ some ks) where
     pub typed_length : length (scancodes ks) ≡ 2 * (length text + with_shift ks)
     typed_length = scancodes_widths ks ∙ widths_shift ks ∙ rw (keyed_length (keyed text e))
+
+    pub typed_le : length (scancodes ks) ≤ 4 * length text
+    typed_le = omega (arith, scancodes_widths ks, widths_le ks, keyed_length (keyed text e))
 
     pub typed_fits : (room : ℕ) → length (scancodes ks) ≤ room → typed room text ≡ gives (scancodes ks)
     unfolding typed
@@ -79,6 +92,13 @@ count_some text n e = by (keys_of text) refl e
     by : (o : Option (List Key)) → keys_of text ≡ o → count_of o ≡ Some n → Keys text n
     by none q e = cc
     by (some ks) q e = record { keys = ks; are = q; count = cc }
+
+pub count_is_some : (text : List ℕ) → is_some (count_of (keys_of text)) ≡ true → (ks : List Key) × (keys_of text ≡ some ks)
+count_is_some text e = by (keys_of text) refl e
+  where
+    by : (o : Option (List Key)) → keys_of text ≡ o → is_some (count_of o) ≡ true → (ks : List Key) × (keys_of text ≡ some ks)
+    by none q e = absurd (false≢true e)
+    by (some ks) q e = (ks, q)
 
 module _ {text : List ℕ} {shifted : ℕ} (k : Keys text shifted) (room : ℕ) where
   len : length (scancodes k.keys) ≡ 2 * (length text + shifted)

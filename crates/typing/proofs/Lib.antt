@@ -10,4 +10,5 @@ pub mod Lengths
 pub mod Answered
 pub mod Counting
 pub mod Putting
+pub mod Writing
 pub mod Worked

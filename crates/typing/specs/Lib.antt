@@ -5,3 +5,4 @@ pub mod Typing
 pub mod Lengths
 pub mod Table
 pub mod Answered
+pub mod Written

@@ -6,6 +6,9 @@ ghost use Rattle.typing.specs.Keys.{key_of, keys_of};
 ghost use Rattle.typing.specs.Typing.{Accepted, typed, leaves, refusal_number, told};
 ghost use Rattle.typing.specs.Lengths.{count_of};
 ghost use Rattle.typing.specs.Table.{or_none};
+ghost use Rattle.typing.specs.Written.{Written};
+
+use std::io::{self, Write};
 
 /// Why a text is not typed: 25 and 26 by number.
 #[derive(Clone, Copy, Debug, PartialEq, Eq)]
@@ -36,6 +39,9 @@ const RELEASED: u8 = 0x80;
 const NEEDS_SHIFT: u8 = 0x80;
 
 const NO_KEY: u8 = 0x00;
+
+// How many characters are typed into a writer at a time.
+const PIECE: usize = 1024;
 
 // The key of each character, in rows of sixteen.
 static KEYS: [u8; 256] = *b"\
@@ -72,6 +78,23 @@ pub fn type_text(text: &[u8], out: &mut [u8]) -> Result<usize, TypingRefusal>
         return Err(TypingRefusal::OutputShort);
     }
     Ok(put_keys(text, out))
+}
+
+/// Writes the scancodes of a text to a writer, a piece at a time.
+/// Refused: no key (25). Of a text that is refused nothing is written.
+pub fn write_text<W: Write>(text: &[u8], output: &mut W) -> io::Result<Result<(), TypingRefusal>>
+    ensures { Written W.contents output.old output.new (keys_of text.now) result }
+{
+    if count_shifted(text).is_none() {
+        return Ok(Err(TypingRefusal::NoKey));
+    }
+    // A character takes four bytes at the most.
+    let mut scancodes = [0; 4 * PIECE];
+    for piece in text.chunks(PIECE) {
+        let length = put_keys(piece, &mut scancodes);
+        output.write_all(&scancodes[..length])?;
+    }
+    Ok(Ok(()))
 }
 
 // What the table has for a character.
