@@ -1,6 +1,6 @@
 -- How many bytes a text takes: two for each character, and two more for each that needs Shift.
 use mathlib.Core.Path.{◌≡◌, refl, subst⁻¹, ◌∙◌}
-use mathlib.Core.Bool.{Bool, true, false, false≢true}
+use mathlib.Core.Bool.{Bool, true, false, false≢true, true≢false}
 use mathlib.Core.List.{List, [], ◌∷◌}
 use mathlib.Core.Option.{Option, none, some}
 use Prim.Native.Nat.{ℕ, suc, ◌+◌, ◌*◌, ◌/◌, ◌-◌, ◌<◌, ◌≤◌}
@@ -99,6 +99,13 @@ count_is_some text e = by (keys_of text) refl e
     by : (o : Option (List Key)) → keys_of text ≡ o → is_some (count_of o) ≡ true → (ks : List Key) × (keys_of text ≡ some ks)
     by none q e = absurd (false≢true e)
     by (some ks) q e = (ks, q)
+
+pub count_is_none : (text : List ℕ) → is_some (count_of (keys_of text)) ≡ false → keys_of text ≡ none
+count_is_none text e = by (keys_of text) e
+  where
+    by : (o : Option (List Key)) → is_some (count_of o) ≡ false → o ≡ none
+    by none e = refl
+    by (some ks) e = absurd (true≢false e)
 
 module _ {text : List ℕ} {shifted : ℕ} (k : Keys text shifted) (room : ℕ) where
   len : length (scancodes k.keys) ≡ 2 * (length text + shifted)

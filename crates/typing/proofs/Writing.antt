@@ -30,9 +30,9 @@ pub record Writing (text rest : List ℕ) (old new : found.Option (List ℕ)) : 
   pub whole : keys ≡ put ++ left
   pub written : Appends old new (scancodes put)
 
-pub writing_begins : (text : List ℕ) (old : found.Option (List ℕ)) {ks : List Key} → keys_of text ≡ some ks → Writing text text old old
+pub writing_begins : (text rest : List ℕ) (old : found.Option (List ℕ)) {ks : List Key} → keys_of text ≡ some ks → rest ≡ text → Writing text rest old old
 unfolding scancodes
-writing_begins text old {ks} e = record { keys = ks; are = e; put = []; left = ks; are_left = e; whole = refl; written = Appends-nil old }
+writing_begins text rest old {ks} e whole = record { keys = ks; are = e; put = []; left = ks; are_left = ap keys_of whole ∙ e; whole = refl; written = Appends-nil old }
 
 module _ {text rest : List ℕ} {old mid : found.Option (List ℕ)} (h : Writing text rest old mid) (piece others : List ℕ) (parts : rest ≡ piece ++ others) where
   split : Split piece others h.left
