@@ -81,7 +81,7 @@ pub fn type_text(text: &[u8], out: &mut [u8]) -> Result<usize, TypingRefusal>
 }
 
 /// Writes the scancodes of a text to a writer, a piece at a time.
-/// Refused: no key (25). Of a text that is refused nothing is written.
+/// Refused: no key (25), and nothing is written. If a write fails, a part may have been written.
 pub fn write_text<W: Write>(text: &[u8], output: &mut W) -> io::Result<Result<(), TypingRefusal>>
     ensures { Written W.contents output.old output.new (keys_of text.now) result }
 {
